@@ -3,8 +3,7 @@ use Rattle.std.proofs.Common.{◌≡◌, ℕ, ◌<◌, List, ◌∷◌, length, 
 use Rattle.sect_lemmas.specs.Lists.{Has}
 use Rattle.sect_lemmas.proofs.Membership.{Has-get_or}
 use Rattle.sect_types.specs.Programs.{ProgramView}
-use Rattle.sect_conflicts.specs.declared.conflict.PathPair.{PathPair}
-use Rattle.sect_conflicts.specs.Naming.{IsPairNamed, ArePairsNamed}
+use Rattle.sect_conflicts.specs.{declared.conflict.PathPair.{PathPair}, Naming.{IsPairNamed, ArePairsNamed}}
 
 -- of pairs that have names the first and each other has one
 pub first_named : (p : ProgramView) (first : PathPair) (pairs others : List PathPair) → pairs ≡ first ∷ others

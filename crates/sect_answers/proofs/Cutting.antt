@@ -1,12 +1,9 @@
 -- The lines of an input, up to the first that is exactly `end`.
 use Rattle.std.proofs.Common.{◌≡◌, ℕ, zero, suc, true, ◌+◌, ◌-◌, ◌<◌, ◌≤◌, List, [], ◌∷◌, ◌++◌, take, drop, length}
-use Rattle.std.proofs.Common.{get_or, inl, inr}
-use Rattle.std.proofs.Common.{refl, sym, ap, ◌∙◌, subst, arith, append_assoc}
-use Rattle.std.specs.Prelude.{codes}
-use Rattle.std.specs.List.{slice_range}
-use Rattle.std.proofs.Math.ListN.{drop_of_length-le}
-use Rattle.std.proofs.Math.Seq.{take-add}
+use Rattle.std.proofs.Common.{get_or, inl, inr, refl, sym, ap, ◌∙◌, subst, arith, append_assoc}
+use Rattle.std.proofs.{Math.ListN.{drop_of_length-le}, Math.Seq.{take-add}}
 use Rattle.std.proofs.lemmas.List.{append-nil, get_or-drop, length-drop, take_all, take_more, take-append-drop}
+use Rattle.std.specs.{Prelude.{codes}, List.{slice_range}}
 use Rattle.memchr.specs.Find.{is_byte}
 use Rattle.sect_lemmas.specs.Lists.{Has}
 use Rattle.sect_lemmas.proofs.Membership.{Has-cases, Has-right}

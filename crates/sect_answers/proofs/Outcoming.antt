@@ -1,20 +1,17 @@
 -- Outcomes that are printed one after another.
 use Rattle.std.proofs.Common.{◌≡◌, ◌≤◌, ◌++◌, ◌∷◌, ◌+◌, ◌∙◌, refl, ap, subst, ℕ, List, Some, drop, suc, arith}
+use Rattle.std.proofs.{Math.Seq.{drop-cons}, lemmas.Option.{slice_get_within, get_or_from_slice_get}}
 use Rattle.std.specs.Prelude.{slice_get}
-use Rattle.std.proofs.Math.Seq.{drop-cons}
-use Rattle.std.proofs.lemmas.Option.{slice_get_within, get_or_from_slice_get}
-use Rattle.sect_types.specs.Programs.{ProgramView}
-use Rattle.sect_types.specs.Whole.{SerialEndView}
+use Rattle.sect_types.specs.{Programs.{ProgramView}, Whole.{SerialEndView}}
 use Rattle.sect_store.specs.Printing.{by_place}
 use Rattle.sect_serial.specs.Exploring.{Found, AreOutcomes, HasStates, IsUnlisted}
 use Rattle.sect_serial.specs.declared.exploring.OutcomesFault.{OutcomesFault}
-use Rattle.sect_serial.specs.declared.exploring.OutcomesFault.TheVariants as fault
 use Rattle.sect_serial.proofs.shared.Counting.{no_more}
 use Rattle.sect_emit.specs.Compiled.{CompiledView, program_of}
-use Rattle.sect_world.specs.Laws.{EveryRunIsSerial, EveryOrderIsRun}
-use Rattle.sect_world.specs.Runs.{order_of}
-use Rattle.sect_answers.specs.declared.refusal.Refusal.TheVariants as refusal
+use Rattle.sect_world.specs.{Laws.{EveryRunIsSerial, EveryOrderIsRun}, Runs.{order_of}}
 use Rattle.sect_answers.specs.Outcomes.{one_text, of_outcomes, AreEndsOfRuns}
+use Rattle.sect_serial.specs.declared.exploring.OutcomesFault.TheVariants as fault
+use Rattle.sect_answers.specs.declared.refusal.Refusal.TheVariants as refusal
 
 -- the outcome at a place is printed, and then those behind it
 pub outcome_next : (p : ProgramView) (found : Found) (n : ℕ) (x : SerialEndView × List ℕ) → slice_get found n ≡ Some x

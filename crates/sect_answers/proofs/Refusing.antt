@@ -2,31 +2,24 @@
 use Rattle.std.proofs.Common.{◌≡◌, ◌<◌, ◌∷◌, ◌++◌, ℕ, List, Err, refl, sym, subst, length, inl, arith}
 use Rattle.sect_lemmas.specs.Lists.{Has}
 use Rattle.sect_lemmas.proofs.Membership.{Has-right}
-use Rattle.sect_names.specs.Sources as sources
-use Rattle.sect_names.specs.declared.refusal.SourceRefusal.{SourceRefusal}
-use Rattle.sect_names.specs.declared.refusal.SourceRefusal.TheVariants as source
+use Rattle.sect_names.specs.{declared.refusal.SourceRefusal.{SourceRefusal}, Sources.{IsAccepted}}
 use Rattle.sect_types.specs.Whole.{SerialEndView}
-use Rattle.sect_serial.specs.Judging as serial
 use Rattle.sect_serial.specs.declared.whole.SerialFault.{SerialFault}
+use Rattle.sect_check.specs.declared.fault.CheckFault.{CheckFault}
+use Rattle.sect_answers.specs.{Answers.{IsDue, of_source}, Compiling.{IsCompileDue, of_compile}, Serial.{of_serial}}
+use Rattle.sect_answers.specs.{Splitting.{IsSplit}, Checking.{IsCheckDue, of_check}}
+use Rattle.sect_answers.specs.Scheduling.{IsScheduleDue, of_world}
+use Rattle.sect_emit.specs.{Faults.{IsDueBy}, declared.fault.CompileFault.{CompileFault}, Compiled.{CompiledView}}
+use Rattle.sect_world.specs.{declared.turned.WorldFault.{WorldFault}, Schedules.{IsUnrun}}
+use Rattle.sect_names.specs.Sources as sources
+use Rattle.sect_names.specs.declared.refusal.SourceRefusal.TheVariants as source
+use Rattle.sect_serial.specs.Judging as serial
 use Rattle.sect_serial.specs.declared.whole.SerialFault.TheVariants as serial_fault
 use Rattle.sect_check.specs.Verdicts as certificates
-use Rattle.sect_check.specs.declared.fault.CheckFault.{CheckFault}
 use Rattle.sect_check.specs.declared.fault.CheckFault.TheVariants as check_fault
 use Rattle.sect_answers.specs.declared.refusal.Refusal.TheVariants as program
-use Rattle.sect_answers.specs.Answers.{IsDue, of_source}
-use Rattle.sect_answers.specs.Compiling.{IsCompileDue, of_compile}
-use Rattle.sect_emit.specs.Faults.{IsDueBy}
-use Rattle.sect_emit.specs.declared.fault.CompileFault.{CompileFault}
 use Rattle.sect_emit.specs.declared.fault.CompileFault.TheVariants as compile_fault
-use Rattle.sect_answers.specs.Serial.{of_serial}
-use Rattle.sect_answers.specs.Splitting.{IsSplit}
-use Rattle.sect_answers.specs.Checking.{IsCheckDue, of_check}
-use Rattle.sect_answers.specs.Scheduling.{IsScheduleDue, of_world}
-use Rattle.sect_names.specs.Sources.{IsAccepted}
-use Rattle.sect_emit.specs.Compiled.{CompiledView}
-use Rattle.sect_world.specs.declared.turned.WorldFault.{WorldFault}
 use Rattle.sect_world.specs.declared.turned.WorldFault.TheVariants as world_fault
-use Rattle.sect_world.specs.Schedules.{IsUnrun}
 
 -- a refusal of the source that is due is due of `locks`
 pub due : (bytes : List ℕ) (k : ℕ) (why : SourceRefusal) → sources.IsDue bytes k why → IsDue bytes k (of_source why)

@@ -3,13 +3,9 @@ use Rattle.std.proofs.Common.{◌≡◌, ℕ, List, map, length, sym, ap, subst,
 use Rattle.sect_types.specs.Programs.{ProgramView}
 use Rattle.sect_store.specs.Outcomes.{OutcomeView}
 use Rattle.sect_emit.specs.Compiled.{CompiledView, program_of}
-use Rattle.sect_world.specs.Runs.{order_of}
-use Rattle.sect_world.specs.Schedules.{IsProgress, all_events}
-use Rattle.sect_world.specs.Worlds.{outcome_at}
+use Rattle.sect_world.specs.{Runs.{order_of}, Schedules.{IsProgress, all_events}, Worlds.{outcome_at}}
 use Rattle.sect_world.specs.declared.schedule.Progress.{Progress}
-use Rattle.sect_answers.specs.Scheduling.{AreTurnsOf}
-use Rattle.sect_answers.specs.Turns.{turns_in}
-use Rattle.sect_answers.specs.declared.format.Format.{Format}
+use Rattle.sect_answers.specs.{Scheduling.{AreTurnsOf}, Turns.{turns_in}, declared.format.Format.{Format}}
 use Rattle.sect_lemmas.specs.Blocks.{blocks_of, AreEnough}
 use Rattle.sect_lemmas.proofs.Blocks.{cut_gives_back, joined_are_enough}
 

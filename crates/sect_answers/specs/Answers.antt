@@ -1,14 +1,12 @@
 -- What the command `locks` answers to a source text. `locks` cites it.
 use Rattle.std.specs.Prelude.{◌≢◌, ◌≤◌, ℕ, List}
-use Rattle.sect_names.specs.Schemes.{SchemeView}
+use Rattle.sect_names.specs.{Schemes.{SchemeView}, Sources.{IsAccepted}}
+use Rattle.sect_answers.specs.{declared.format.Format.{Format}, declared.refusal.Refusal.{Refusal}}
+use Rattle.sect_answers.specs.Listing.{AreSetsPrinted}
 use Rattle.sect_names.specs.Sources as sources
-use Rattle.sect_names.specs.Sources.{IsAccepted}
 use Rattle.sect_names.specs.declared.refusal.SourceRefusal as source
 use Rattle.sect_names.specs.declared.refusal.SourceRefusal.TheVariants as source_refusal
-use Rattle.sect_answers.specs.declared.format.Format.{Format}
-use Rattle.sect_answers.specs.declared.refusal.Refusal.{Refusal}
 use Rattle.sect_answers.specs.declared.refusal.Refusal.TheVariants as refusal
-use Rattle.sect_answers.specs.Listing.{AreSetsPrinted}
 
 -- the text is accepted, and these are the lines of all its sections, or their document, with the least set of each
 pub record IsAnswer (bytes : List ℕ) (k : ℕ) (format : Format) (text : List ℕ) : Type 0 where

@@ -1,12 +1,9 @@
 -- What the command `check` answers to a certificate and the source text behind it. `verdict` cites it.
 use Rattle.std.specs.Prelude.{◌≢◌, ◌≤◌, ℕ, ⊤, List, Err}
-use Rattle.sect_check.specs.Valid.{IsValid}
-use Rattle.sect_check.specs.Verdicts.{IsRead, Judges}
-use Rattle.sect_check.specs.declared.fault.CheckFault.{CheckFault}
+use Rattle.sect_check.specs.{Valid.{IsValid}, Verdicts.{IsRead, Judges}, declared.fault.CheckFault.{CheckFault}}
+use Rattle.sect_answers.specs.{declared.refusal.Refusal.{Refusal}, Splitting.{IsSplit}}
 use Rattle.sect_check.specs.declared.fault.CheckFault.TheVariants as fault
-use Rattle.sect_answers.specs.declared.refusal.Refusal.{Refusal}
 use Rattle.sect_answers.specs.declared.refusal.Refusal.TheVariants as refusal
-use Rattle.sect_answers.specs.Splitting.{IsSplit}
 
 -- the input is a certificate and the source behind it, of which so holds
 pub record OfParts (input : List ℕ) (P : List ℕ → List ℕ → Type 0) : Type 0 where

@@ -1,19 +1,14 @@
 -- What the command `compile` answers to a source text. `program_certificate` and `program_listing` cite it.
 use Rattle.std.specs.Prelude.{◌≡◌, ℕ, List}
 use Rattle.sect_infer.specs.Workers.{AreOffered, AreRefused}
+use Rattle.sect_cert.specs.{declared.certificate.Cert.{Cert}, Texts.{certificate_text}}
+use Rattle.sect_emit.specs.{Compiled.{CompiledView, IsCompiledFrom}, Certificates.{IsCertificateOf}}
+use Rattle.sect_emit.specs.{Listing.{listing_text}, declared.fault.CompileFault.{CompileFault}}
+use Rattle.sect_json.specs.{Compiling.{compiled_json}, Values.{document_text}}
+use Rattle.sect_answers.specs.{declared.refusal.Refusal.{Refusal}, Answers.{IsDue, of_source}}
 use Rattle.sect_infer.specs.declared.workers.InferFault.TheVariants as infer
-use Rattle.sect_cert.specs.declared.certificate.Cert.{Cert}
-use Rattle.sect_cert.specs.Texts.{certificate_text}
-use Rattle.sect_emit.specs.Compiled.{CompiledView, IsCompiledFrom}
-use Rattle.sect_emit.specs.Certificates.{IsCertificateOf}
-use Rattle.sect_emit.specs.Listing.{listing_text}
-use Rattle.sect_emit.specs.declared.fault.CompileFault.{CompileFault}
 use Rattle.sect_emit.specs.declared.fault.CompileFault.TheVariants as fault
-use Rattle.sect_json.specs.Compiling.{compiled_json}
-use Rattle.sect_json.specs.Values.{document_text}
-use Rattle.sect_answers.specs.declared.refusal.Refusal.{Refusal}
 use Rattle.sect_answers.specs.declared.refusal.Refusal.TheVariants as refusal
-use Rattle.sect_answers.specs.Answers.{IsDue, of_source}
 
 -- the source is accepted, and the bytes are the text of the certificate of its compiled program
 pub record IsCertified (source : List ℕ) (k : ℕ) (bytes : List ℕ) : Type 0 where

@@ -1,23 +1,18 @@
 -- What the command `conflicts` answers to a source text. `program_conflicts` cites it.
 use Rattle.std.specs.Prelude.{◌≡◌, ◌==◌, ℕ, Bool, true, false, List, [], ◌∷◌, ◌++◌, length, codes, count_by}
-use Rattle.std.specs.Prelude.{if◌then◌else◌}
-use Rattle.std.specs.List.{flat_map}
-use Rattle.std.specs.Fmt.{decimal}
+use Rattle.std.specs.{Prelude.{if◌then◌else◌}, List.{flat_map}, Fmt.{decimal}}
 use Rattle.sect_front.specs.TreeView.{TreeView}
 use Rattle.sect_types.specs.Programs.{ProgramView}
 use Rattle.sect_modes.specs.Mode.{mode_text}
 use Rattle.sect_names.specs.Printing.{path_text}
 use Rattle.sect_emit.specs.Compiled.{CompiledView, IsCompiledFrom, program_of}
-use Rattle.sect_conflicts.specs.declared.conflict.KeyClash.{KeyClash}
-use Rattle.sect_conflicts.specs.declared.conflict.PathPair.{PathPair}
-use Rattle.sect_conflicts.specs.declared.conflict.SectionPair.{SectionPair}
-use Rattle.sect_conflicts.specs.declared.conflict.Conflict.{Conflict}
+use Rattle.sect_conflicts.specs.{declared.conflict.KeyClash.{KeyClash}, declared.conflict.PathPair.{PathPair}}
+use Rattle.sect_conflicts.specs.{declared.conflict.SectionPair.{SectionPair}, declared.conflict.Conflict.{Conflict}}
 use Rattle.sect_conflicts.specs.declared.conflict.Conflict.TheVariants.{Always, Sometimes, Never}
 use Rattle.sect_conflicts.specs.Comparing.{AreConflicts}
 use Rattle.sect_json.specs.Conflicts.{IsConflictsDocument}
 use Rattle.sect_draw.specs.Words.{key_text}
-use Rattle.sect_answers.specs.declared.format.Format.{Format}
-use Rattle.sect_answers.specs.declared.format.Format.TheVariants.{Text, Json}
+use Rattle.sect_answers.specs.{declared.format.Format.{Format}, declared.format.Format.TheVariants.{Text, Json}}
 
 -- a key and both modes, as `class 1 S, IX`
 abbrev pub clash_text : ProgramView → KeyClash → List ℕ

@@ -1,12 +1,9 @@
 -- What the command `explain` answers to a source text. `program_explanation` cites it.
 use Rattle.std.specs.Prelude.{ℕ, List}
-use Rattle.sect_places.specs.declared.lines.NodeLine.{NodeLine}
-use Rattle.sect_places.specs.NodeLines.{AreNodeLines}
-use Rattle.sect_emit.specs.Compiled.{CompiledView, IsCompiledFrom, program_of}
-use Rattle.sect_emit.specs.Explaining.{IsExplanation}
+use Rattle.sect_places.specs.{declared.lines.NodeLine.{NodeLine}, NodeLines.{AreNodeLines}}
+use Rattle.sect_emit.specs.{Compiled.{CompiledView, IsCompiledFrom, program_of}, Explaining.{IsExplanation}}
 use Rattle.sect_json.specs.Explaining.{IsExplanationDocument}
-use Rattle.sect_answers.specs.declared.format.Format.{Format}
-use Rattle.sect_answers.specs.declared.format.Format.TheVariants.{Text, Json}
+use Rattle.sect_answers.specs.{declared.format.Format.{Format}, declared.format.Format.TheVariants.{Text, Json}}
 
 -- the bytes are the lines of all sections, each step with the line of the text that it comes from
 pub record IsPlacedExplanation (source : List ℕ) (c : CompiledView) (bytes : List ℕ) : Type 0 where

@@ -1,12 +1,9 @@
 -- The outcome of a run as the commands print it. `outcome_printed` cites it.
 use Rattle.std.specs.Prelude.{ℕ, List}
 use Rattle.sect_types.specs.Programs.{ProgramView}
-use Rattle.sect_store.specs.Outcomes.{OutcomeView}
-use Rattle.sect_store.specs.Printing.{outcome_text}
-use Rattle.sect_json.specs.Values.{document_text}
-use Rattle.sect_json.specs.Outcomes.{outcome_json}
-use Rattle.sect_answers.specs.declared.format.Format.{Format}
-use Rattle.sect_answers.specs.declared.format.Format.TheVariants.{Text, Json}
+use Rattle.sect_store.specs.{Outcomes.{OutcomeView}, Printing.{outcome_text}}
+use Rattle.sect_json.specs.{Values.{document_text}, Outcomes.{outcome_json}}
+use Rattle.sect_answers.specs.{declared.format.Format.{Format}, declared.format.Format.TheVariants.{Text, Json}}
 
 -- lines, or a document
 abbrev pub outcome_in : Format → ProgramView → OutcomeView → List ℕ

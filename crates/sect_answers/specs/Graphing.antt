@@ -1,12 +1,10 @@
 -- What the command `graph` answers to a source text. `program_graph` cites it.
 use Rattle.std.specs.Prelude.{◌≡◌, ◌≤◌, ◌<◌, ⊤, ℕ, List, Option, Some, None, length}
 use Rattle.sect_types.specs.Sections.{sections_of}
-use Rattle.sect_names.specs.Schemes.{SchemeView}
-use Rattle.sect_names.specs.Sources.{IsAccepted}
+use Rattle.sect_names.specs.{Schemes.{SchemeView}, Sources.{IsAccepted}}
 use Rattle.sect_emit.specs.Compiled.{CompiledView, IsCompiledFrom, program_of}
 use Rattle.sect_draw.specs.Graphs.{IsGraph}
-use Rattle.sect_answers.specs.Answers.{IsDue}
-use Rattle.sect_answers.specs.declared.refusal.Refusal.{Refusal}
+use Rattle.sect_answers.specs.{Answers.{IsDue}, declared.refusal.Refusal.{Refusal}}
 use Rattle.sect_answers.specs.declared.refusal.Refusal.TheVariants as refusal
 
 -- the bytes are the graph of all sections, or of the one that is asked for

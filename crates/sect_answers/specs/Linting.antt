@@ -1,16 +1,13 @@
 -- What the commands `lint` and `inspect` answer to a source text. `findings` and `inspection` cite it.
-use Rattle.std.specs.Prelude.{◌≡◌, ◌<◌, ℕ, List, ⊤}
-use Rattle.std.specs.String.{string_bytes}
-use Rattle.sect_names.specs.declared.fault.SchemeFault.TheVariants as scheme
-use Rattle.sect_names.specs.declared.refusal.SourceRefusal.TheVariants as source_refusal
-use Rattle.sect_lint.specs.declared.diagnostic.Diagnostic.{Diagnostic}
-use Rattle.sect_lint.specs.declared.format.Format.{Format}
-use Rattle.sect_lint.specs.Formats.{report_as}
-use Rattle.sect_lint.specs.Reports.{IsRefusedFor}
+use Rattle.std.specs.{Prelude.{◌≡◌, ◌<◌, ℕ, List, ⊤}, String.{string_bytes}}
+use Rattle.sect_lint.specs.{declared.diagnostic.Diagnostic.{Diagnostic}, declared.format.Format.{Format}}
+use Rattle.sect_lint.specs.{Formats.{report_as}, Reports.{IsRefusedFor}}
 use Rattle.sect_emit.specs.Compiled.{CompiledView, IsCompiledFrom}
 use Rattle.sect_json.specs.Inspecting.{IsInspectionDocument}
 use Rattle.sect_warnings.specs.Formats.{AreWarningsPrinted}
 use Rattle.sect_answers.specs.declared.refusal.Refusal.{Refusal}
+use Rattle.sect_names.specs.declared.fault.SchemeFault.TheVariants as scheme
+use Rattle.sect_names.specs.declared.refusal.SourceRefusal.TheVariants as source_refusal
 use Rattle.sect_answers.specs.declared.refusal.Refusal.TheVariants as refusal
 
 -- the text is accepted, and the bytes are the warnings that are due of its compiled program

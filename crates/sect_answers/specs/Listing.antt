@@ -1,17 +1,11 @@
 -- What the command `locks` prints: a line for each section, or one document.
-use Rattle.std.specs.Prelude.{◌≡◌, ℕ, ◌+◌, List, [], ◌∷◌, ◌++◌, Some, length, slice_get, codes}
-use Rattle.std.specs.Fmt.{decimal}
+use Rattle.std.specs.{Prelude.{◌≡◌, ℕ, ◌+◌, List, [], ◌∷◌, ◌++◌, Some, length, slice_get, codes}, Fmt.{decimal}}
 use Rattle.sect_front.specs.TreeView.{TreeView}
 use Rattle.sect_types.specs.Sections.{SectionView, sections_of}
-use Rattle.sect_names.specs.declared.lock.Lock.{Lock}
-use Rattle.sect_names.specs.Schemes.{SchemeView}
-use Rattle.sect_names.specs.Needed.{IsLeast, end_of}
-use Rattle.sect_names.specs.Order.{AreInOrder}
-use Rattle.sect_names.specs.Printing.{locks_text}
-use Rattle.sect_json.specs.Values.{document_text}
-use Rattle.sect_json.specs.Locks.{locks_json}
-use Rattle.sect_answers.specs.declared.format.Format.{Format}
-use Rattle.sect_answers.specs.declared.format.Format.TheVariants.{Text, Json}
+use Rattle.sect_names.specs.{declared.lock.Lock.{Lock}, Schemes.{SchemeView}, Needed.{IsLeast, end_of}}
+use Rattle.sect_names.specs.{Order.{AreInOrder}, Printing.{locks_text}}
+use Rattle.sect_json.specs.{Values.{document_text}, Locks.{locks_json}}
+use Rattle.sect_answers.specs.{declared.format.Format.{Format}, declared.format.Format.TheVariants.{Text, Json}}
 
 -- the line of a section: its number and its locks
 abbrev pub section_line : TreeView → ℕ → List Lock → List ℕ

@@ -1,25 +1,18 @@
 -- What the command `outcomes` answers to a source text. `all_outcomes` cites it.
-use Rattle.std.specs.Prelude.{◌≡◌, ◌≢◌, ℕ, ⊤, List, [], ◌++◌, length, codes, nat_eq, if◌then◌else◌}
-use Rattle.std.specs.Fmt.{decimal}
-use Rattle.sect_types.specs.Programs.{ProgramView}
-use Rattle.sect_types.specs.Whole.{SerialEndView}
+use Rattle.std.specs.{Prelude.{◌≡◌, ◌≢◌, ℕ, ⊤, List, [], ◌++◌, length, codes, nat_eq, if◌then◌else◌}, Fmt.{decimal}}
+use Rattle.sect_types.specs.{Programs.{ProgramView}, Whole.{SerialEndView}}
 use Rattle.sect_store.specs.Printing.{by_place, numbered_text}
-use Rattle.sect_serial.specs.Judging.{outcome_of}
-use Rattle.sect_serial.specs.Exploring.{Found, ends_in, OutcomesView, Explores, IsUnlisted}
-use Rattle.sect_emit.specs.Compiled.{CompiledView, IsCompiledFrom}
-use Rattle.sect_emit.specs.State.{State}
-use Rattle.sect_world.specs.declared.event.Event.{Event}
-use Rattle.sect_world.specs.Runs.{IsRun, IsComplete, order_of}
-use Rattle.sect_lemmas.specs.Lists.{Has}
-use Rattle.sect_json.specs.Values.{document_text}
-use Rattle.sect_json.specs.Outcomes.{outcomes_json}
+use Rattle.sect_serial.specs.{Judging.{outcome_of}, Exploring.{Found, ends_in, OutcomesView, Explores, IsUnlisted}}
 use Rattle.sect_serial.specs.declared.exploring.OutcomesFault.{OutcomesFault}
-use Rattle.sect_serial.specs.declared.exploring.OutcomesFault.TheVariants as fault
-use Rattle.sect_answers.specs.declared.format.Format.{Format}
-use Rattle.sect_answers.specs.declared.format.Format.TheVariants.{Text, Json}
+use Rattle.sect_emit.specs.{Compiled.{CompiledView, IsCompiledFrom}, State.{State}}
+use Rattle.sect_world.specs.{declared.event.Event.{Event}, Runs.{IsRun, IsComplete, order_of}}
+use Rattle.sect_lemmas.specs.Lists.{Has}
+use Rattle.sect_json.specs.{Values.{document_text}, Outcomes.{outcomes_json}}
+use Rattle.sect_answers.specs.{declared.format.Format.{Format}, declared.format.Format.TheVariants.{Text, Json}}
 use Rattle.sect_answers.specs.declared.refusal.Refusal.{Refusal}
-use Rattle.sect_answers.specs.declared.refusal.Refusal.TheVariants as refusal
 use Rattle.sect_names.specs.Sources.{IsTypedText, IsRefused}
+use Rattle.sect_serial.specs.declared.exploring.OutcomesFault.TheVariants as fault
+use Rattle.sect_answers.specs.declared.refusal.Refusal.TheVariants as refusal
 use Rattle.sect_names.specs.declared.refusal.SourceRefusal.TheVariants as source_refusal
 
 -- so many things of this name

@@ -1,28 +1,26 @@
 -- The line of a refusal. `put_refusal` cites it.
-use Rattle.std.specs.Prelude.{ℕ, List, ◌++◌, codes}
-use Rattle.std.specs.Fmt.{decimal}
-use Rattle.std.specs.String.{string_bytes}
+use Rattle.std.specs.{Prelude.{ℕ, List, ◌++◌, codes}, Fmt.{decimal}, String.{string_bytes}}
 use Rattle.sect_front.specs.declared.parsing.FrontFault.{FrontFault}
-use Rattle.sect_front.specs.declared.parsing.FrontFault.TheVariants as front
 use Rattle.sect_types.specs.declared.rules.rule.TypeFault.{TypeFault}
-use Rattle.sect_types.specs.declared.rules.rule.TypeFault.TheVariants as types
 use Rattle.sect_names.specs.declared.fault.SchemeFault.{SchemeFault}
+use Rattle.sect_infer.specs.declared.workers.InferFault.{InferFault}
+use Rattle.sect_serial.specs.declared.whole.SerialFault.{SerialFault}
+use Rattle.sect_serial.specs.declared.exploring.OutcomesFault.{OutcomesFault}
+use Rattle.sect_cert.specs.declared.fault.CertFault.{CertFault}
+use Rattle.sect_check.specs.declared.fault.CheckFault.{CheckFault}
+use Rattle.sect_world.specs.declared.turned.WorldFault.{WorldFault}
+use Rattle.sect_answers.specs.declared.refusal.Refusal.{Refusal}
+use Rattle.sect_front.specs.declared.parsing.FrontFault.TheVariants as front
+use Rattle.sect_types.specs.declared.rules.rule.TypeFault.TheVariants as types
 use Rattle.sect_names.specs.declared.fault.SchemeFault.TheVariants as scheme
 use Rattle.sect_names.specs.declared.refusal.SourceRefusal as source
 use Rattle.sect_names.specs.declared.refusal.SourceRefusal.TheVariants as source_refusal
-use Rattle.sect_infer.specs.declared.workers.InferFault.{InferFault}
 use Rattle.sect_infer.specs.declared.workers.InferFault.TheVariants as infer
-use Rattle.sect_serial.specs.declared.whole.SerialFault.{SerialFault}
 use Rattle.sect_serial.specs.declared.whole.SerialFault.TheVariants as serial
-use Rattle.sect_serial.specs.declared.exploring.OutcomesFault.{OutcomesFault}
 use Rattle.sect_serial.specs.declared.exploring.OutcomesFault.TheVariants as outcomes
-use Rattle.sect_cert.specs.declared.fault.CertFault.{CertFault}
 use Rattle.sect_cert.specs.declared.fault.CertFault.TheVariants as cert
-use Rattle.sect_check.specs.declared.fault.CheckFault.{CheckFault}
 use Rattle.sect_check.specs.declared.fault.CheckFault.TheVariants as check
-use Rattle.sect_world.specs.declared.turned.WorldFault.{WorldFault}
 use Rattle.sect_world.specs.declared.turned.WorldFault.TheVariants as world
-use Rattle.sect_answers.specs.declared.refusal.Refusal.{Refusal}
 use Rattle.sect_answers.specs.declared.refusal.Refusal.TheVariants as refusal
 
 -- what is written where memory ran out; no refusal that is printed has it inside

@@ -1,12 +1,9 @@
 -- What the command `run` answers to a source text. `run_outcome` cites it.
 use Rattle.std.specs.Prelude.{◌≡◌, ℕ, List}
 use Rattle.sect_emit.specs.Compiled.{CompiledView, IsCompiledFrom, program_of}
-use Rattle.sect_world.specs.Runs.{order_of}
-use Rattle.sect_world.specs.declared.world.Run.{Run}
+use Rattle.sect_world.specs.{Runs.{order_of}, declared.world.Run.{Run}}
 use Rattle.sect_run.specs.Ends.{IsWholeRun}
-use Rattle.sect_answers.specs.Formats.{outcome_in}
-use Rattle.sect_answers.specs.Serial.{IsOutcome}
-use Rattle.sect_answers.specs.declared.format.Format.{Format}
+use Rattle.sect_answers.specs.{Formats.{outcome_in}, Serial.{IsOutcome}, declared.format.Format.{Format}}
 
 -- the source is accepted, and this is the outcome of a complete run of its compiled program; it is what `serial`
 -- answers for the order of that run's `leave` events

@@ -1,22 +1,15 @@
 -- What the command `schedule` answers to a source text. `schedule_outcome` cites it.
 use Rattle.std.specs.Prelude.{◌≡◌, ◌≢◌, ◌≤◌, ◌<◌, ℕ, List, length}
 use Rattle.sect_lemmas.specs.Lists.{Has}
-use Rattle.sect_names.specs.Schemes.{SchemeView}
+use Rattle.sect_names.specs.{Schemes.{SchemeView}, Sources.{IsAccepted}}
+use Rattle.sect_emit.specs.{Compiled.{CompiledView, IsCompiledFrom, program_of}, State.{State, start}}
+use Rattle.sect_world.specs.{Runs.{order_of}, Schedules.{TakeTurns, IsFirstMissing, all_events}, Worlds.{outcome_at}}
+use Rattle.sect_world.specs.{declared.event.Event.{Event}, declared.turned.WorldFault.{WorldFault}}
+use Rattle.sect_answers.specs.{declared.format.Format.{Format}, declared.refusal.Refusal.{Refusal}, Turns.{turns_in}}
 use Rattle.sect_names.specs.Sources as sources
-use Rattle.sect_names.specs.Sources.{IsAccepted}
 use Rattle.sect_names.specs.declared.refusal.SourceRefusal.TheVariants as source_refusal
-use Rattle.sect_emit.specs.Compiled.{CompiledView, IsCompiledFrom, program_of}
-use Rattle.sect_emit.specs.State.{State, start}
-use Rattle.sect_world.specs.Runs.{order_of}
-use Rattle.sect_world.specs.Schedules.{TakeTurns, IsFirstMissing, all_events}
-use Rattle.sect_world.specs.Worlds.{outcome_at}
-use Rattle.sect_world.specs.declared.event.Event.{Event}
-use Rattle.sect_world.specs.declared.turned.WorldFault.{WorldFault}
 use Rattle.sect_world.specs.declared.turned.WorldFault.TheVariants as fault
-use Rattle.sect_answers.specs.declared.format.Format.{Format}
-use Rattle.sect_answers.specs.declared.refusal.Refusal.{Refusal}
 use Rattle.sect_answers.specs.declared.refusal.Refusal.TheVariants as refusal
-use Rattle.sect_answers.specs.Turns.{turns_in}
 
 -- these threads have a turn each from the start of the compiled program, and the bytes are all turns, each with
 -- its events, and the outcome of the state that they lead to

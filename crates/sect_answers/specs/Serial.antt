@@ -1,15 +1,12 @@
 -- What the command `serial` answers to a source text. `serial_outcome` cites it.
 use Rattle.std.specs.Prelude.{◌≡◌, ◌≢◌, ℕ, ⊤, List, Err}
-use Rattle.sect_types.specs.Programs.{ProgramView}
-use Rattle.sect_types.specs.Whole.{SerialEndView, RunsWhole}
-use Rattle.sect_serial.specs.Judging.{Judges, outcome_of}
-use Rattle.sect_serial.specs.declared.whole.SerialFault.{SerialFault}
-use Rattle.sect_serial.specs.declared.whole.SerialFault.TheVariants as fault
-use Rattle.sect_answers.specs.Formats.{outcome_in}
-use Rattle.sect_answers.specs.declared.format.Format.{Format}
+use Rattle.sect_types.specs.{Programs.{ProgramView}, Whole.{SerialEndView, RunsWhole}}
+use Rattle.sect_serial.specs.{Judging.{Judges, outcome_of}, declared.whole.SerialFault.{SerialFault}}
+use Rattle.sect_answers.specs.{Formats.{outcome_in}, declared.format.Format.{Format}}
 use Rattle.sect_answers.specs.declared.refusal.Refusal.{Refusal}
-use Rattle.sect_answers.specs.declared.refusal.Refusal.TheVariants as refusal
 use Rattle.sect_names.specs.Sources.{IsTypedText, IsRefused}
+use Rattle.sect_serial.specs.declared.whole.SerialFault.TheVariants as fault
+use Rattle.sect_answers.specs.declared.refusal.Refusal.TheVariants as refusal
 use Rattle.sect_names.specs.declared.refusal.SourceRefusal.TheVariants as source_refusal
 
 -- the text has a program that runs by whole sections in this order to an end, and this is the outcome

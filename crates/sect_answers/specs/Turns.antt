@@ -1,16 +1,11 @@
 -- The turns of a schedule as they are printed. `schedule_outcome` cites it.
-use Rattle.std.specs.Prelude.{ℕ, List, [], ◌∷◌, ◌++◌, codes}
-use Rattle.std.specs.List.{flat_map}
-use Rattle.std.specs.Fmt.{decimal}
+use Rattle.std.specs.{Prelude.{ℕ, List, [], ◌∷◌, ◌++◌, codes}, List.{flat_map}, Fmt.{decimal}}
 use Rattle.sect_types.specs.Programs.{ProgramView}
-use Rattle.sect_store.specs.Outcomes.{OutcomeView}
-use Rattle.sect_store.specs.Printing.{by_place, outcome_text}
+use Rattle.sect_store.specs.{Outcomes.{OutcomeView}, Printing.{by_place, outcome_text}}
 use Rattle.sect_world.specs.declared.event.Event.{Event}
 use Rattle.sect_draw.specs.Words.{deed_text}
-use Rattle.sect_json.specs.Values.{document_text}
-use Rattle.sect_json.specs.Turns.{turns_json}
-use Rattle.sect_answers.specs.declared.format.Format.{Format}
-use Rattle.sect_answers.specs.declared.format.Format.TheVariants.{Text, Json}
+use Rattle.sect_json.specs.{Values.{document_text}, Turns.{turns_json}}
+use Rattle.sect_answers.specs.{declared.format.Format.{Format}, declared.format.Format.TheVariants.{Text, Json}}
 
 -- its thread, and what that does
 abbrev pub event_text : ProgramView → Event → List ℕ

@@ -1,11 +1,8 @@
 //! The command `schedule --chart`.
 
-ghost use Rattle.std.specs.Prelude.{IfOk, IfErr, IsOkUnless};
-ghost use Rattle.std.specs.String.{string_bytes};
-ghost use Rattle.sect_names.specs.Schemes.{SchemeView};
-ghost use Rattle.sect_names.specs.Sources.{IsAccepted};
-ghost use Rattle.sect_answers.specs.declared.refusal.Refusal.TheVariants.{Memory};
-ghost use Rattle.sect_answers.specs.Charting.{IsCharted};
+ghost use Rattle.std.specs.{Prelude.{IfOk, IfErr, IsOkUnless}, String.{string_bytes}};
+ghost use Rattle.sect_names.specs.{Schemes.{SchemeView}, Sources.{IsAccepted}};
+ghost use Rattle.sect_answers.specs.{declared.refusal.Refusal.TheVariants.{Memory}, Charting.{IsCharted}};
 ghost use Rattle.sect_answers.specs.Scheduling.{AreThreads, IsScheduleDue};
 
 use crate::refusal::Refusal;

@@ -1,7 +1,6 @@
 //! The command `check`.
 
-ghost use Rattle.std.specs.Prelude.{◌≡◌, codes, IfOk, IfErr, IsOkUnless};
-ghost use Rattle.std.specs.String.{string_bytes};
+ghost use Rattle.std.specs.{Prelude.{◌≡◌, codes, IfOk, IfErr, IsOkUnless}, String.{string_bytes}};
 ghost use Rattle.sect_answers.specs.declared.refusal.Refusal.TheVariants.{Memory};
 ghost use Rattle.sect_answers.specs.Checking.{IsValidInput, IsCheckDue};
 

@@ -1,16 +1,13 @@
 //! The command `compile`.
 
 ghost use Rattle.std.specs.Prelude.{◌≡◌, IfOk, IfErr, OnOk, IsOkUnless};
-ghost use Rattle.sect_names.specs.Schemes.{SchemeView};
-ghost use Rattle.sect_names.specs.Sources.{IsAccepted};
-ghost use Rattle.sect_cert.specs.declared.certificate.Cert.{Cert};
-ghost use Rattle.sect_cert.specs.Texts.{certificate_text};
-ghost use Rattle.sect_check.specs.Valid.{IsValid};
-ghost use Rattle.sect_check.specs.Verdicts.{IsRead};
+ghost use Rattle.sect_names.specs.{Schemes.{SchemeView}, Sources.{IsAccepted}};
+ghost use Rattle.sect_cert.specs.{declared.certificate.Cert.{Cert}, Texts.{certificate_text}};
+ghost use Rattle.sect_check.specs.{Valid.{IsValid}, Verdicts.{IsRead}};
 ghost use Rattle.sect_emit.specs.Certificates.{IsCertificateOf};
 ghost use Rattle.sect_answers.specs.declared.refusal.Refusal.TheVariants.{Memory};
-ghost use Rattle.sect_infer.specs.Workers.{AreOffered};
 ghost use Rattle.sect_answers.specs.Compiling.{IsCertified, IsProgramListing, IsProgramDocument, IsCompileDue};
+ghost use Rattle.sect_infer.specs.Workers.{AreOffered};
 
 use crate::refusal::Refusal;
 use sect_cert::write_cert;

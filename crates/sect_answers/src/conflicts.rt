@@ -1,17 +1,12 @@
 //! The command `conflicts`.
 
-ghost use Rattle.std.specs.Prelude.{◌≡◌, ◌≢◌, ◌++◌, [], List, IfOk, IfErr, OnOk, IsOkUnless};
-ghost use Rattle.std.specs.String.{string_bytes};
+ghost use Rattle.std.specs.{Prelude.{◌≡◌, ◌≢◌, ◌++◌, [], List, IfOk, IfErr, OnOk, IsOkUnless}, String.{string_bytes}};
 ghost use Rattle.std.specs.List.{flat_map};
-ghost use Rattle.sect_names.specs.Schemes.{SchemeView};
-ghost use Rattle.sect_names.specs.Sources.{IsAccepted};
-ghost use Rattle.sect_answers.specs.declared.refusal.Refusal.TheVariants.{Memory};
-ghost use Rattle.sect_answers.specs.Answers.{IsDue};
-ghost use Rattle.sect_answers.specs.Conflicting.{AreProgramConflicts, AreConflictsPrinted, AreConflictLines};
-ghost use Rattle.sect_answers.specs.Conflicting.{heading, pair_line};
-ghost use Rattle.sect_answers.specs.Conflicting.{conflict_text};
-ghost use Rattle.sect_answers.specs.Conflicting.{clash_text, path_pair_text, path_pairs_text, pairs_word, count_of};
-ghost use Rattle.sect_answers.specs.Conflicting.{is_always, is_sometimes, is_never};
+ghost use Rattle.sect_names.specs.{Schemes.{SchemeView}, Sources.{IsAccepted}};
+ghost use Rattle.sect_answers.specs.{declared.refusal.Refusal.TheVariants.{Memory}, Answers.{IsDue}};
+ghost use Rattle.sect_answers.specs.Conflicting.{AreProgramConflicts, AreConflictsPrinted, AreConflictLines, heading};
+ghost use Rattle.sect_answers.specs.Conflicting.{pair_line, conflict_text, clash_text, path_pair_text, path_pairs_text};
+ghost use Rattle.sect_answers.specs.Conflicting.{pairs_word, count_of, is_always, is_sometimes, is_never};
 ghost use Rattle.sect_conflicts.specs.Naming.{IsPairNamed, ArePairsNamed, IsConflictNamed, AreConflictsNamed};
 
 use crate::format::Format;

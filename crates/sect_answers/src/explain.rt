@@ -1,13 +1,11 @@
 //! The command `explain`.
 
 ghost use Rattle.std.specs.Prelude.{IfOk, IfErr, IsOkUnless};
-ghost use Rattle.sect_names.specs.Schemes.{SchemeView};
-ghost use Rattle.sect_names.specs.Sources.{IsAccepted};
-ghost use Rattle.sect_answers.specs.declared.refusal.Refusal.TheVariants.{Memory};
-ghost use Rattle.sect_answers.specs.Answers.{IsDue};
+ghost use Rattle.sect_names.specs.{Schemes.{SchemeView}, Sources.{IsAccepted}};
+ghost use Rattle.sect_answers.specs.{declared.refusal.Refusal.TheVariants.{Memory}, Answers.{IsDue}};
+ghost use Rattle.sect_answers.specs.Explaining.{IsProgramExplanation, IsExplanationPrinted, IsPlacedExplanation};
 ghost use Rattle.sect_front.specs.Front.{IsSpelled};
 ghost use Rattle.sect_emit.specs.Compiled.{program_of};
-ghost use Rattle.sect_answers.specs.Explaining.{IsProgramExplanation, IsExplanationPrinted, IsPlacedExplanation};
 
 use crate::format::Format;
 use crate::refusal::Refusal;

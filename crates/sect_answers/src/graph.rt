@@ -1,8 +1,7 @@
 //! The command `graph`.
 
 ghost use Rattle.std.specs.Prelude.{IfOk, IfErr, IsOkUnless};
-ghost use Rattle.sect_names.specs.Schemes.{SchemeView};
-ghost use Rattle.sect_names.specs.Sources.{IsAccepted};
+ghost use Rattle.sect_names.specs.{Schemes.{SchemeView}, Sources.{IsAccepted}};
 ghost use Rattle.sect_answers.specs.declared.refusal.Refusal.TheVariants.{Memory};
 ghost use Rattle.sect_answers.specs.Graphing.{IsProgramGraph, HasSection, IsGraphDue};
 

@@ -1,7 +1,6 @@
 //! The commands `lint` and `inspect`.
 
-ghost use Rattle.std.specs.Prelude.{IfOk, IfErr};
-ghost use Rattle.std.specs.String.{string_bytes};
+ghost use Rattle.std.specs.{Prelude.{IfOk, IfErr}, String.{string_bytes}};
 ghost use Rattle.sect_emit.specs.Compiled.{IsCompiledFrom};
 ghost use Rattle.sect_lint.specs.declared.format.Format.TheVariants.{Json};
 ghost use Rattle.sect_answers.specs.Linting.{IsUnblamed, IsInspection, IsLintDue};

@@ -1,12 +1,9 @@
 //! The command `locks`.
 
-ghost use Rattle.std.specs.Prelude.{◌≡◌, ◌<◌, ◌++◌, List, Some, length, slice_get};
-ghost use Rattle.std.specs.Prelude.{IfOk, IfErr, OnOk, IsOkUnless};
+ghost use Rattle.std.specs.Prelude.{◌≡◌, ◌<◌, ◌++◌, List, Some, length, slice_get, IfOk, IfErr, OnOk, IsOkUnless};
 ghost use Rattle.std.specs.String.{string_bytes};
 ghost use Rattle.sect_types.specs.Sections.{SectionView, sections_of};
-ghost use Rattle.sect_names.specs.declared.lock.Lock.{Lock};
-ghost use Rattle.sect_names.specs.Schemes.{SchemeView};
-ghost use Rattle.sect_names.specs.Sources.{IsAccepted};
+ghost use Rattle.sect_names.specs.{declared.lock.Lock.{Lock}, Schemes.{SchemeView}, Sources.{IsAccepted}};
 ghost use Rattle.sect_answers.specs.declared.refusal.Refusal.TheVariants.{Memory};
 ghost use Rattle.sect_answers.specs.Listing.{IsLeastInOrder, IsListing, AreSetsPrinted, section_line};
 ghost use Rattle.sect_answers.specs.Answers.{IsAnswer, IsDue};

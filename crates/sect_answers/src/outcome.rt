@@ -1,7 +1,6 @@
 //! The outcome of a run as the commands print it.
 
-ghost use Rattle.std.specs.Prelude.{◌≡◌, IfOk};
-ghost use Rattle.std.specs.String.{string_bytes};
+ghost use Rattle.std.specs.{Prelude.{◌≡◌, IfOk}, String.{string_bytes}};
 ghost use Rattle.sect_answers.specs.Formats.{outcome_in};
 
 use crate::format::Format;

@@ -1,7 +1,6 @@
 //! The command `outcomes`.
 
-ghost use Rattle.std.specs.Prelude.{◌≡◌, ◌≤◌, ◌++◌, ℕ, IfOk, IfErr, IsOkUnless, OnOk};
-ghost use Rattle.std.specs.String.{string_bytes};
+ghost use Rattle.std.specs.{Prelude.{◌≡◌, ◌≤◌, ◌++◌, ℕ, IfOk, IfErr, IsOkUnless, OnOk}, String.{string_bytes}};
 ghost use Rattle.sect_types.specs.Programs.{ProgramView};
 ghost use Rattle.sect_names.specs.Sources.{IsTypedText};
 ghost use Rattle.sect_serial.specs.Exploring.{HasStates};

@@ -1,7 +1,6 @@
 //! The lines of refusals.
 
-ghost use Rattle.std.specs.Prelude.{◌≡◌, ◌++◌, OnOk};
-ghost use Rattle.std.specs.String.{string_bytes};
+ghost use Rattle.std.specs.{Prelude.{◌≡◌, ◌++◌, OnOk}, String.{string_bytes}};
 ghost use Rattle.sect_answers.specs.Refusals.{front_text, type_text, scheme_text, source_text, workers_text};
 ghost use Rattle.sect_answers.specs.Refusals.{serial_text, states_text, cert_text, check_text, world_text};
 ghost use Rattle.sect_answers.specs.Refusals.{refusal_text};

@@ -1,13 +1,9 @@
 //! The refusals of all commands.
 
 ghost use Rattle.std.specs.Prelude.{◌≡◌};
-ghost use Rattle.sect_answers.specs.declared.refusal.Refusal.TheVariants.{Memory};
-ghost use Rattle.sect_answers.specs.Answers.{of_source};
-ghost use Rattle.sect_answers.specs.Serial.{of_serial};
-ghost use Rattle.sect_answers.specs.Compiling.{of_compile};
-ghost use Rattle.sect_answers.specs.Checking.{of_check};
-ghost use Rattle.sect_answers.specs.Scheduling.{of_world};
-ghost use Rattle.sect_answers.specs.Outcomes.{of_outcomes};
+ghost use Rattle.sect_answers.specs.{declared.refusal.Refusal.TheVariants.{Memory}, Answers.{of_source}};
+ghost use Rattle.sect_answers.specs.{Serial.{of_serial}, Compiling.{of_compile}, Checking.{of_check}};
+ghost use Rattle.sect_answers.specs.{Scheduling.{of_world}, Outcomes.{of_outcomes}};
 
 use sect_check::CheckFault;
 use sect_emit::CompileFault;

@@ -1,16 +1,12 @@
 //! The command `run`.
 
-ghost use Rattle.std.specs.Prelude.{◌≡◌, IfOk, IfErr, IsOkUnless};
-ghost use Rattle.std.specs.String.{string_bytes};
-ghost use Rattle.sect_names.specs.Schemes.{SchemeView};
-ghost use Rattle.sect_names.specs.Sources.{IsAccepted};
+ghost use Rattle.std.specs.{Prelude.{◌≡◌, IfOk, IfErr, IsOkUnless}, String.{string_bytes}};
+ghost use Rattle.sect_names.specs.{Schemes.{SchemeView}, Sources.{IsAccepted}};
 ghost use Rattle.sect_emit.specs.Compiled.{program_of};
 ghost use Rattle.sect_world.specs.declared.world.Run.{Run};
 ghost use Rattle.sect_run.specs.Ends.{IsWholeRun};
-ghost use Rattle.sect_answers.specs.declared.refusal.Refusal.TheVariants.{Memory};
-ghost use Rattle.sect_answers.specs.Answers.{IsDue};
-ghost use Rattle.sect_answers.specs.Formats.{outcome_in};
-ghost use Rattle.sect_answers.specs.Running.{IsOutcomeOfRun};
+ghost use Rattle.sect_answers.specs.{declared.refusal.Refusal.TheVariants.{Memory}, Answers.{IsDue}};
+ghost use Rattle.sect_answers.specs.{Formats.{outcome_in}, Running.{IsOutcomeOfRun}};
 
 use crate::format::Format;
 use crate::outcome::outcome_printed;

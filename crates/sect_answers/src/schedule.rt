@@ -1,9 +1,7 @@
 //! The command `schedule`.
 
-ghost use Rattle.std.specs.Prelude.{◌≡◌, ◌++◌, IfOk, IfErr, IsOkUnless, length};
-ghost use Rattle.std.specs.String.{string_bytes};
-ghost use Rattle.sect_names.specs.Schemes.{SchemeView};
-ghost use Rattle.sect_names.specs.Sources.{IsAccepted};
+ghost use Rattle.std.specs.{Prelude.{◌≡◌, ◌++◌, IfOk, IfErr, IsOkUnless, length}, String.{string_bytes}};
+ghost use Rattle.sect_names.specs.{Schemes.{SchemeView}, Sources.{IsAccepted}};
 ghost use Rattle.sect_store.specs.Printing.{outcome_text as printed};
 ghost use Rattle.sect_world.specs.Schedules.{IsUnrun};
 ghost use Rattle.sect_answers.specs.declared.refusal.Refusal.TheVariants.{Memory};

@@ -1,12 +1,9 @@
 //! The command `serial`.
 
-ghost use Rattle.std.specs.Prelude.{◌≡◌, IfOk, IfErr, IsOkUnless};
-ghost use Rattle.std.specs.String.{string_bytes};
-ghost use Rattle.sect_types.specs.Programs.{ProgramView};
-ghost use Rattle.sect_types.specs.Whole.{SerialEndView, RunsWhole};
-ghost use Rattle.sect_answers.specs.declared.refusal.Refusal.TheVariants.{Memory};
+ghost use Rattle.std.specs.{Prelude.{◌≡◌, IfOk, IfErr, IsOkUnless}, String.{string_bytes}};
+ghost use Rattle.sect_types.specs.{Programs.{ProgramView}, Whole.{SerialEndView, RunsWhole}};
+ghost use Rattle.sect_answers.specs.{declared.refusal.Refusal.TheVariants.{Memory}, Serial.{IsOutcome, IsSerialDue}};
 ghost use Rattle.sect_names.specs.Sources.{IsTypedText};
-ghost use Rattle.sect_answers.specs.Serial.{IsOutcome, IsSerialDue};
 
 use crate::format::Format;
 use crate::outcome::outcome_printed;

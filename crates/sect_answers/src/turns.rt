@@ -1,7 +1,6 @@
 //! The turns of a run as they are printed.
 
-ghost use Rattle.std.specs.Prelude.{◌≡◌, ◌++◌, OnOk};
-ghost use Rattle.std.specs.String.{string_bytes};
+ghost use Rattle.std.specs.{Prelude.{◌≡◌, ◌++◌, OnOk}, String.{string_bytes}};
 ghost use Rattle.sect_answers.specs.Turns.{event_text, more_text, block_text, turn_lines};
 ghost use Rattle.sect_lemmas.specs.Blocks.{AreEnough, blocks_of};
 

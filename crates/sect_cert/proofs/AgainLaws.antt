@@ -1,39 +1,24 @@
 -- A line of a node whose list is the one before is taken with that list.
-use Rattle.std.proofs.Common.{◌≡◌, ℕ, ◌-◌, ◌<◌, Bool, true, false, cond, eqb, nat_lt, List, [], ◌∷◌, ◌++◌}
-use Rattle.std.proofs.Common.{Option, Some, None, length, refl, sym, ◌∙◌, ap, subst, arith, length-append, append_assoc}
-use Rattle.std.specs.Prelude.{slice_get, codes}
-use Rattle.std.specs.Fmt.{decimal}
-use Rattle.std.specs.Str.{bytes_eq}
-use Rattle.std.specs.List.{join_with_byte}
-use Rattle.std.proofs.lemmas.Bool.{eqb-true}
-use Rattle.std.proofs.lemmas.List.{same_from_push}
+use Rattle.std.proofs.Common.{◌≡◌, ℕ, ◌-◌, ◌<◌, Bool, true, false, cond, eqb, nat_lt, List, [], ◌∷◌, ◌++◌, Option, Some}
+use Rattle.std.proofs.Common.{None, length, refl, sym, ◌∙◌, ap, subst, arith, length-append, append_assoc}
+use Rattle.std.proofs.{lemmas.Bool.{eqb-true}, lemmas.List.{same_from_push}}
 use Rattle.std.proofs.lemmas.List.Splits.{join_with_byte-slice_split}
+use Rattle.std.specs.{Prelude.{slice_get, codes}, Fmt.{decimal}, Str.{bytes_eq}, List.{join_with_byte}}
 use Rattle.sect_front.specs.Words.{is_digit}
-use Rattle.sect_cert.specs.Parts.{parts}
-use Rattle.sect_cert.specs.Zeros.{plain, is_exact}
-use Rattle.sect_cert.specs.Spelling.{list_words}
-use Rattle.sect_cert.specs.Lines.{line_text}
-use Rattle.sect_cert.specs.Texts.{IsLine, IsNumber}
-use Rattle.sect_cert.specs.steps.Reading.{line_of, only_number}
-use Rattle.sect_cert.specs.steps.Writes.{spaced}
-use Rattle.sect_cert.specs.steps.Again.{RepeatsList, IsAfter}
+use Rattle.sect_cert.specs.{Parts.{parts}, Zeros.{plain, is_exact}, Spelling.{list_words}, Lines.{line_text}}
+use Rattle.sect_cert.specs.{Texts.{IsLine, IsNumber}, declared.lock.CertLock.{CertLock}}
+use Rattle.sect_cert.specs.{declared.certificate.CertSection.{CertSection}, declared.line.CertLine.{CertLine}}
+use Rattle.sect_cert.specs.{declared.stage.Open.{Open}, declared.stage.CertStage.{CertStage}}
+use Rattle.sect_cert.specs.steps.{Reading.{line_of, only_number}, Writes.{spaced}, Again.{RepeatsList, IsAfter}}
 use Rattle.sect_cert.specs.steps.Certificates.{section_with, cert_with, is_rising}
 use Rattle.sect_cert.specs.steps.Stages.{Next, Goes, Bad, Odd, begin_of, close_of, node_of, chain_of, stage_of, judged}
 use Rattle.sect_cert.specs.steps.Stages.{read_words, header_of, later_of, read_of, is_header_due}
-use Rattle.sect_cert.specs.declared.lock.CertLock.{CertLock}
-use Rattle.sect_cert.specs.declared.certificate.CertSection.{CertSection}
-use Rattle.sect_cert.specs.declared.line.CertLine.{CertLine}
-use Rattle.sect_cert.specs.declared.line.CertLine.TheVariants as line
-use Rattle.sect_cert.specs.declared.stage.Open.{Open}
-use Rattle.sect_cert.specs.declared.stage.CertStage.{CertStage}
-use Rattle.sect_cert.specs.declared.stage.CertStage.TheVariants as stage
-use Rattle.sect_cert.proofs.Counts.{same, less}
-use Rattle.sect_cert.proofs.PartsLaws.{lacks_append, bytes_lack, parts_front}
-use Rattle.sect_cert.proofs.NumberLaws.{digits_of_decimal}
-use Rattle.sect_cert.proofs.WriteLaws.{line_joined}
-use Rattle.sect_cert.proofs.LineLaws.{IsTaken, line_takes, only_take}
-use Rattle.sect_cert.proofs.CutTexts.{some_parts, same_bytes}
+use Rattle.sect_cert.proofs.{Counts.{same, less}, PartsLaws.{lacks_append, bytes_lack, parts_front}}
+use Rattle.sect_cert.proofs.{NumberLaws.{digits_of_decimal}, WriteLaws.{line_joined}}
+use Rattle.sect_cert.proofs.{LineLaws.{IsTaken, line_takes, only_take}, CutTexts.{some_parts, same_bytes}}
 use Rattle.sect_cert.proofs.Readings.{taken_line}
+use Rattle.sect_cert.specs.declared.line.CertLine.TheVariants as line
+use Rattle.sect_cert.specs.declared.stage.CertStage.TheVariants as stage
 
 -- a stage where no node's list was taken last
 after_other : (s t : CertStage) (text : List ℕ) → Goes s ≡ Goes t → IsAfter s text → IsAfter t text

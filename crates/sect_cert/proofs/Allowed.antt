@@ -1,34 +1,25 @@
 -- The forms of lines that a stage takes are those that are allowed after its lines.
 use Rattle.std.proofs.Common.{◌≡◌, ◌≢◌, ℕ, ◌+◌, ◌<◌, Bool, true, false, not, cond, eqb, nat_lt, List, [], ◌∷◌, ◌++◌}
 use Rattle.std.proofs.Common.{Some, None, length, map, refl, sym, ◌∙◌, ap, subst, arith, inl, inr}
-use Rattle.std.proofs.lemmas.Bool.Decides.{nat_tests}
-use Rattle.std.proofs.lemmas.List.{map-append}
+use Rattle.std.proofs.{lemmas.Bool.Decides.{nat_tests}, lemmas.List.{map-append}}
 use Rattle.std.specs.List.{AllByRecursion}
-use Rattle.sect_cert.specs.Parts.{parts}
-use Rattle.sect_cert.specs.Zeros.{plain}
+use Rattle.sect_cert.specs.{Parts.{parts}, Zeros.{plain}, Lines.{line_text}}
+use Rattle.sect_cert.specs.Forms.{Form, KForm, SectionsForm, SectionForm, NodeForm, EntryForm, ChainForm, EndForm}
+use Rattle.sect_cert.specs.{Forms.{form_of}, Texts.{IsLine, header_text, nodes_lines, chains_lines, sections_lines}}
+use Rattle.sect_cert.specs.{Verdicts.{GoesOn, EndsInChain, IsAllowed}, declared.lock.CertLock.{CertLock}}
+use Rattle.sect_cert.specs.{declared.certificate.CertChain.{CertChain}, declared.certificate.CertSection.{CertSection}}
+use Rattle.sect_cert.specs.{declared.line.CertLine.{CertLine}, declared.stage.Open.{Open}}
+use Rattle.sect_cert.specs.declared.stage.CertStage.{CertStage}
 use Rattle.sect_cert.specs.steps.Certificates.{step_with, chain_with, section_with, cert_with, is_rising}
 use Rattle.sect_cert.specs.steps.Reading.{line_of}
-use Rattle.sect_cert.specs.Lines.{line_text}
-use Rattle.sect_cert.specs.Forms.{Form, KForm, SectionsForm, SectionForm, NodeForm, EntryForm, ChainForm, EndForm}
-use Rattle.sect_cert.specs.Forms.{form_of}
-use Rattle.sect_cert.specs.Texts.{IsLine, header_text, nodes_lines, chains_lines, sections_lines}
 use Rattle.sect_cert.specs.steps.Stages.{Goes, Bad, Odd, open_with, begin_of, close_of, stage_of, read_of}
-use Rattle.sect_cert.specs.Verdicts.{GoesOn, EndsInChain, IsAllowed}
-use Rattle.sect_cert.specs.declared.lock.CertLock.{CertLock}
-use Rattle.sect_cert.specs.declared.lock.CertLock.TheVariants as lock
-use Rattle.sect_cert.specs.declared.certificate.CertChain.{CertChain}
-use Rattle.sect_cert.specs.declared.certificate.CertSection.{CertSection}
-use Rattle.sect_cert.specs.declared.line.CertLine.{CertLine}
-use Rattle.sect_cert.specs.declared.line.CertLine.TheVariants as line
-use Rattle.sect_cert.specs.declared.stage.Open.{Open}
-use Rattle.sect_cert.specs.declared.stage.CertStage.{CertStage}
-use Rattle.sect_cert.specs.declared.stage.CertStage.TheVariants as stage
-use Rattle.sect_cert.proofs.Passes.{goes}
-use Rattle.sect_cert.proofs.Counts.{same}
+use Rattle.sect_cert.proofs.{Passes.{goes}, Counts.{same}}
 use Rattle.sect_cert.proofs.Keeps.{stage_lines, open_lines, nodes_split, sections_split, open_split}
-use Rattle.sect_cert.proofs.TextLaws.{behind_sections}
-use Rattle.sect_cert.proofs.LineLaws.{IsAgain, line_again}
+use Rattle.sect_cert.proofs.{TextLaws.{behind_sections}, LineLaws.{IsAgain, line_again}}
 use Rattle.sect_cert.proofs.Readings.{read_all, Reads, taken_line, taken_text, viable, refused}
+use Rattle.sect_cert.specs.declared.lock.CertLock.TheVariants as lock
+use Rattle.sect_cert.specs.declared.line.CertLine.TheVariants as line
+use Rattle.sect_cert.specs.declared.stage.CertStage.TheVariants as stage
 
 -- the forms that a stage takes
 abbrev begin_due : Open → Form → Bool

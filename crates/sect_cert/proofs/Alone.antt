@@ -4,10 +4,10 @@ use Rattle.std.proofs.Common.{inl, inr}
 use Rattle.std.specs.Prelude.{◌⊎◌, Err}
 use Rattle.sect_cert.specs.Parts.{parts}
 use Rattle.sect_cert.specs.Verdicts.{IsViable, IsWhole, HasForm, HasNoForm, IsEndAt, IsFaultAt, IsMoreAt}
-use Rattle.sect_cert.specs.steps.Closing.{JudgesLines}
 use Rattle.sect_cert.specs.declared.fault.CertFault.{CertFault}
-use Rattle.sect_cert.specs.declared.fault.CertFault.TheVariants as fault
+use Rattle.sect_cert.specs.steps.Closing.{JudgesLines}
 use Rattle.sect_cert.proofs.Only.{read_past}
+use Rattle.sect_cert.specs.declared.fault.CertFault.TheVariants as fault
 
 -- the second front is the first and more
 record IsLonger (f g u v : List (List ℕ)) : Type 0 where

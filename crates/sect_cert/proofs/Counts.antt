@@ -1,7 +1,6 @@
 -- Tests on numbers, and how long lists are.
 use Rattle.std.proofs.Common.{◌≡◌, ℕ, ◌+◌, ◌<◌, ◌≤◌, Bool, true, false, eqb, ◌&&◌, nat_lt, List, [], ◌∷◌, ◌++◌, length}
-use Rattle.std.proofs.Common.{refl, arith, length-append}
-use Rattle.std.proofs.lemmas.Bool.Decides.{nat_tests}
+use Rattle.std.proofs.{Common.{refl, arith, length-append}, lemmas.Bool.Decides.{nat_tests}}
 
 pub same : (n : ℕ) → eqb n n ≡ true
 same n = grind (arith, nat_tests)

@@ -1,13 +1,9 @@
 -- A text that is cut at a byte.
 use Rattle.std.proofs.Common.{◌≡◌, ◌≢◌, ℕ, suc, ◌+◌, ◌<◌, ◌≤◌, Bool, true, false, not, cond, List, [], ◌∷◌, length}
-use Rattle.std.proofs.Common.{take, drop, refl, ◌∙◌, ap, arith}
-use Rattle.std.specs.Prelude.{take_while, ◌==◌}
-use Rattle.std.specs.List.{onto_first, prefix_len}
-use Rattle.std.proofs.lemmas.List.{length-take-le}
-use Rattle.std.proofs.lemmas.List.Sums.{prefix_len-le-length}
-use Rattle.std.proofs.lemmas.List.Splits.{length-slice_split}
-use Rattle.std.specs.Str.{bytes_eq}
+use Rattle.std.proofs.{Common.{take, drop, refl, ◌∙◌, ap, arith}, lemmas.List.{length-take-le}}
+use Rattle.std.proofs.{lemmas.List.Sums.{prefix_len-le-length}, lemmas.List.Splits.{length-slice_split}}
 use Rattle.std.proofs.lemmas.Slice.Eq.{bytes_eq-Decides}
+use Rattle.std.specs.{Prelude.{take_while, ◌==◌}, List.{onto_first, prefix_len}, Str.{bytes_eq}}
 use Rattle.sect_cert.specs.Parts.{parts}
 
 abbrev front_len : ℕ → List ℕ → ℕ

@@ -1,18 +1,13 @@
 -- No zero leads a number in what a line spells.
-use Rattle.sect_cert.proofs.Counts.{and_false}
+use Rattle.sect_cert.proofs.{Counts.{and_false}, PartsLaws.{has_name_bytes}}
+use Rattle.sect_cert.proofs.NumberLaws.{number_decimal, digits_of_decimal}
 use Rattle.std.proofs.Common.{◌≡◌, ℕ, Bool, true, false, not, cond, eqb, ◌&&◌, List, [], ◌∷◌, ◌++◌, Some, None, length}
-use Rattle.std.proofs.Common.{refl, sym, ◌∙◌, ap, arith, nat_lt}
-use Rattle.std.proofs.lemmas.Bool.{eqb-true}
+use Rattle.std.proofs.{Common.{refl, sym, ◌∙◌, ap, arith, nat_lt}, lemmas.Bool.{eqb-true}}
 use Rattle.std.proofs.lemmas.Bool.Decides.{nat_tests}
-use Rattle.std.specs.Prelude.{◌==◌, ◌||◌, nat_le}
-use Rattle.std.specs.Fmt.{decimal}
-use Rattle.std.specs.List.{AllByRecursion, list_all, join_with_byte}
+use Rattle.std.specs.{Prelude.{◌==◌, ◌||◌, nat_le}, Fmt.{decimal}, List.{AllByRecursion, list_all, join_with_byte}}
 use Rattle.sect_front.specs.Words.{is_digit, is_letter, is_name_byte, is_name, begins, is_keyword}
 use Rattle.sect_cert.specs.steps.Numbers.{number_of, decimal_from}
-use Rattle.sect_cert.specs.Zeros.{leads, is_exact_from, is_exact}
-use Rattle.sect_cert.specs.Texts.{IsNumber}
-use Rattle.sect_cert.proofs.PartsLaws.{has_name_bytes}
-use Rattle.sect_cert.proofs.NumberLaws.{number_decimal, digits_of_decimal}
+use Rattle.sect_cert.specs.{Zeros.{leads, is_exact_from, is_exact}, Texts.{IsNumber}}
 
 -- a byte that ends names and numbers
 pub record IsMark (c : ℕ) : Type 0 where

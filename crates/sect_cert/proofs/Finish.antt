@@ -2,20 +2,15 @@
 use Rattle.std.proofs.Common.{◌≡◌, ◌≢◌, ℕ, zero, suc, ◌+◌, ◌-◌, ◌<◌, ◌≤◌, List, [], ◌∷◌, ◌++◌, length, refl, ◌∙◌, ap}
 use Rattle.std.proofs.Common.{arith, length-append, subst}
 use Rattle.std.specs.List.{AllByRecursion}
-use Rattle.sect_cert.proofs.TextLaws.{RisingAll, behind_sections}
-use Rattle.sect_cert.specs.declared.certificate.CertSection.{CertSection}
-use Rattle.sect_cert.specs.steps.Certificates.{section_with, cert_with}
-use Rattle.sect_cert.specs.declared.certificate.Cert.{Cert}
-use Rattle.sect_cert.specs.Texts.{nodes_lines, section_lines, sections_lines, body_lines, IsLine}
-use Rattle.sect_cert.specs.steps.Stages.{close_of}
-use Rattle.sect_cert.specs.declared.lock.CertLock.{CertLock}
-use Rattle.sect_cert.specs.declared.line.CertLine.{CertLine}
-use Rattle.sect_cert.specs.declared.line.CertLine.TheVariants as line
-use Rattle.sect_cert.specs.declared.stage.Open.{Open}
-use Rattle.sect_cert.specs.declared.stage.CertStage.{CertStage}
-use Rattle.sect_cert.specs.declared.stage.CertStage.TheVariants as stage
-use Rattle.sect_cert.proofs.Counts.{one_more}
+use Rattle.sect_cert.proofs.{TextLaws.{RisingAll, behind_sections}, Counts.{one_more}}
 use Rattle.sect_cert.proofs.Keeps.{open_lines, stage_lines, IsSound, closed, all_rising_more}
+use Rattle.sect_cert.specs.{declared.certificate.CertSection.{CertSection}, declared.certificate.Cert.{Cert}}
+use Rattle.sect_cert.specs.Texts.{nodes_lines, section_lines, sections_lines, body_lines, IsLine}
+use Rattle.sect_cert.specs.{declared.lock.CertLock.{CertLock}, declared.line.CertLine.{CertLine}}
+use Rattle.sect_cert.specs.{declared.stage.Open.{Open}, declared.stage.CertStage.{CertStage}}
+use Rattle.sect_cert.specs.steps.{Certificates.{section_with, cert_with}, Stages.{close_of}}
+use Rattle.sect_cert.specs.declared.line.CertLine.TheVariants as line
+use Rattle.sect_cert.specs.declared.stage.CertStage.TheVariants as stage
 
 -- a certificate of which these are the lines
 pub record IsFinish (s : CertStage) : Type 0 where

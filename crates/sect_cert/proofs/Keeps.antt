@@ -1,22 +1,18 @@
 -- A stage knows its lines, and can be completed.
 use Rattle.std.proofs.Common.{◌≡◌, ℕ, ◌+◌, ◌<◌, ◌≤◌, Bool, true, false, cond, eqb, nat_lt, List, [], ◌∷◌, ◌++◌, length}
 use Rattle.std.proofs.Common.{refl, sym, ◌∙◌, ap, arith, append_assoc, append-nil, subst}
+use Rattle.std.proofs.{lemmas.Bool.Decides.{nat_tests}, lemmas.Bool.{eqb-true}}
 use Rattle.std.specs.Prelude.{⊤}
-use Rattle.std.proofs.lemmas.Bool.Decides.{nat_tests}
-use Rattle.std.proofs.lemmas.Bool.{eqb-true}
-use Rattle.sect_cert.proofs.TextLaws.{RiseAfter, RisingAll}
+use Rattle.sect_cert.proofs.{TextLaws.{RiseAfter, RisingAll}, Counts.{one_more}}
 use Rattle.sect_cert.specs.declared.certificate.CertSection.{CertSection}
-use Rattle.sect_cert.specs.steps.Certificates.{section_with, cert_with, is_rising}
 use Rattle.sect_cert.specs.Texts.{nodes_lines, chains_lines, section_lines, sections_lines}
-use Rattle.sect_cert.specs.steps.Stages.{Next, Goes, Bad, Odd, begin_of, close_of, stage_of, node_of, chain_of}
-use Rattle.sect_cert.specs.declared.lock.CertLock.{CertLock}
-use Rattle.sect_cert.specs.declared.certificate.CertChain.{CertChain}
-use Rattle.sect_cert.specs.declared.line.CertLine.{CertLine}
-use Rattle.sect_cert.specs.declared.line.CertLine.TheVariants as line
-use Rattle.sect_cert.specs.declared.stage.Open.{Open}
+use Rattle.sect_cert.specs.{declared.lock.CertLock.{CertLock}, declared.certificate.CertChain.{CertChain}}
+use Rattle.sect_cert.specs.{declared.line.CertLine.{CertLine}, declared.stage.Open.{Open}}
 use Rattle.sect_cert.specs.declared.stage.CertStage.{CertStage}
+use Rattle.sect_cert.specs.steps.Certificates.{section_with, cert_with, is_rising}
+use Rattle.sect_cert.specs.steps.Stages.{Next, Goes, Bad, Odd, begin_of, close_of, stage_of, node_of, chain_of}
+use Rattle.sect_cert.specs.declared.line.CertLine.TheVariants as line
 use Rattle.sect_cert.specs.declared.stage.CertStage.TheVariants as stage
-use Rattle.sect_cert.proofs.Counts.{one_more}
 
 -- the lines that have been read, before what follows
 abbrev pub open_lines : Open → List CertLine → List CertLine

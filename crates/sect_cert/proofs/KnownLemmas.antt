@@ -1,11 +1,9 @@
 -- Paths that were read, by their words.
 use Rattle.std.proofs.Common.{◌≡◌, ℕ, Bool, true, false, cond, if◌then◌else◌, List, [], ◌∷◌, Some, ap, ◌∙◌, refl}
-use Rattle.std.specs.Global.{Vec}
-use Rattle.std.specs.Map.{lookup}
+use Rattle.std.specs.{Global.{Vec}, Map.{lookup}}
 use Rattle.indexmap.specs.IndexMap.{insert_entry}
 use Rattle.sect_cert.specs.declared.lock.CertPath.{CertPath}
-use Rattle.sect_cert.specs.steps.Subjects.{path_of}
-use Rattle.sect_cert.specs.steps.Known.{AreRead}
+use Rattle.sect_cert.specs.steps.{Subjects.{path_of}, Known.{AreRead}}
 
 -- one path more, under the word that it is read from
 pub read_more : (eq : Vec ℕ → Vec ℕ → Bool) → ((v w : Vec ℕ) → eq v w ≡ true → w.items ≡ v.items)

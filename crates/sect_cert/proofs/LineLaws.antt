@@ -1,39 +1,25 @@
 -- A line is read as what it spells.
 use Rattle.std.proofs.Common.{◌≡◌, ◌≢◌, ℕ, ◌-◌, ◌<◌, Bool, true, false, cond, List, [], ◌∷◌, ◌++◌, Option, Some, None}
 use Rattle.std.proofs.Common.{option_and_then, IfSome, take, length, refl, sym, ◌∙◌, ap, subst, append-nil}
-use Rattle.std.specs.Prelude.{codes}
-use Rattle.std.specs.Option.{option_map}
-use Rattle.std.specs.Fmt.{decimal}
-use Rattle.std.specs.Str.{bytes_eq}
-use Rattle.std.specs.List.{join_with_byte, AllByRecursion}
 use Rattle.std.proofs.lemmas.List.Splits.{join_with_byte-slice_split}
-use Rattle.sect_cert.specs.Parts.{parts}
-use Rattle.sect_cert.specs.steps.Numbers.{number_of, ends_with}
-use Rattle.sect_cert.specs.Spelling.{lock_words, list_words, some_words, chain_words}
-use Rattle.sect_cert.specs.steps.Lists.{list_of, list_state, ListState, after, whole_of, whole_at}
-use Rattle.sect_cert.specs.steps.Chains.{steps_of}
-use Rattle.sect_cert.specs.steps.Reading.{line_of, only_number, section_line, colon_number, node_line, chain_line}
-use Rattle.sect_cert.specs.steps.Reading.{end_line}
-use Rattle.sect_cert.specs.Lines.{line_text, line_words}
-use Rattle.sect_cert.specs.Texts.{IsLine, IsLock, IsStep, IsNumber}
-use Rattle.sect_cert.specs.declared.lock.CertLock.{CertLock}
-use Rattle.sect_cert.specs.declared.certificate.CertStep.{CertStep}
-use Rattle.sect_cert.specs.declared.list.ListWord.{ListWord}
-use Rattle.sect_cert.specs.declared.list.ListWord.TheVariants as due
-use Rattle.sect_cert.specs.declared.line.CertLine.{CertLine}
-use Rattle.sect_cert.specs.declared.line.CertLine.TheVariants as line
-use Rattle.sect_cert.specs.Verdicts.{IsOfForm}
-use Rattle.sect_cert.proofs.CutTexts.{same_bytes}
-use Rattle.sect_cert.proofs.PartsLaws.{ends_end, take_end}
-use Rattle.sect_cert.proofs.NumberLaws.{number_decimal, decimal_number}
-use Rattle.sect_cert.proofs.ListLaws.{list_again}
-use Rattle.sect_cert.proofs.TakeLaws.{last_split, after_law, TakesAll, whole_words}
-use Rattle.sect_cert.proofs.StepLaws.{steps_again, steps_take}
-use Rattle.sect_cert.proofs.WordLaws.{line_cut, line_exact}
-use Rattle.sect_cert.proofs.ZerosLemmas.{plain_exact}
+use Rattle.std.specs.{Prelude.{codes}, Option.{option_map}, Fmt.{decimal}, Str.{bytes_eq}}
+use Rattle.std.specs.List.{join_with_byte, AllByRecursion}
+use Rattle.sect_cert.specs.{Parts.{parts}, Spelling.{lock_words, list_words, some_words, chain_words}}
+use Rattle.sect_cert.specs.{Lines.{line_text, line_words}, Texts.{IsLine, IsLock, IsStep, IsNumber}}
+use Rattle.sect_cert.specs.{declared.lock.CertLock.{CertLock}, declared.certificate.CertStep.{CertStep}}
+use Rattle.sect_cert.specs.{declared.list.ListWord.{ListWord}, declared.line.CertLine.{CertLine}, Verdicts.{IsOfForm}}
 use Rattle.sect_cert.specs.Zeros.{plain, is_exact}
-use Rattle.sect_cert.specs.steps.Certificates.{chain_with}
-use Rattle.sect_cert.specs.steps.Reading.{section_of}
+use Rattle.sect_cert.specs.steps.Numbers.{number_of, ends_with}
+use Rattle.sect_cert.specs.steps.{Lists.{list_of, list_state, ListState, after, whole_of, whole_at}, Chains.{steps_of}}
+use Rattle.sect_cert.specs.steps.Reading.{line_of, only_number, section_line, colon_number, node_line, chain_line}
+use Rattle.sect_cert.specs.steps.{Reading.{end_line, section_of}, Certificates.{chain_with}}
+use Rattle.sect_cert.proofs.{CutTexts.{same_bytes}, PartsLaws.{ends_end, take_end}}
+use Rattle.sect_cert.proofs.{NumberLaws.{number_decimal, decimal_number}, ListLaws.{list_again}}
+use Rattle.sect_cert.proofs.TakeLaws.{last_split, after_law, TakesAll, whole_words}
+use Rattle.sect_cert.proofs.{StepLaws.{steps_again, steps_take}, WordLaws.{line_cut, line_exact}}
+use Rattle.sect_cert.proofs.ZerosLemmas.{plain_exact}
+use Rattle.sect_cert.specs.declared.list.ListWord.TheVariants as due
+use Rattle.sect_cert.specs.declared.line.CertLine.TheVariants as line
 
 whole_list : (l : CertLock) (ls : List CertLock) → whole_words (l ∷ ls) [] ≡ some_words l ls
 whole_list l [] = refl

@@ -1,26 +1,18 @@
 -- Lists of locks and chains are read as what they spell.
 use Rattle.std.proofs.Common.{◌≡◌, ℕ, Bool, true, false, List, [], ◌∷◌, ◌++◌, Some, option_and_then, refl, ◌∙◌, ap}
 use Rattle.std.proofs.Common.{append-nil, append_assoc}
-use Rattle.std.specs.Prelude.{codes}
-use Rattle.std.specs.Fmt.{decimal}
-use Rattle.std.specs.List.{AllByRecursion}
+use Rattle.std.specs.{Prelude.{codes}, Fmt.{decimal}, List.{AllByRecursion}}
 use Rattle.sect_front.specs.Words.{is_digit}
-use Rattle.sect_cert.specs.steps.Numbers.{ends_with, without_end}
-use Rattle.sect_cert.specs.Spelling.{path_text, lock_words, some_words, list_words}
-use Rattle.sect_cert.specs.steps.Subjects.{path_lock, class_lock}
-use Rattle.sect_cert.specs.Texts.{IsPath, IsLock, IsNumber}
+use Rattle.sect_cert.specs.steps.{Numbers.{ends_with, without_end}, Subjects.{path_lock, class_lock, subject_of}}
 use Rattle.sect_cert.specs.steps.Lists.{place_behind, list_state, step_of, after, whole_of, locks_of, list_of}
-use Rattle.sect_cert.specs.declared.subject.CertMode.{CertMode}
+use Rattle.sect_cert.specs.{Spelling.{path_text, lock_words, some_words, list_words}, Texts.{IsPath, IsLock, IsNumber}}
+use Rattle.sect_cert.specs.{declared.subject.CertMode.{CertMode}, declared.lock.CertLock.{CertLock}}
+use Rattle.sect_cert.specs.declared.lock.CertPath.{CertPath}
+use Rattle.sect_cert.proofs.{PartsLaws.{lacks, bytes_lack, ends_end, without_end_end, lacks_end}, PathLaws.{path_lacks}}
+use Rattle.sect_cert.proofs.{SubjectLaws.{no_class, subject_again}, NumberLaws.{number_decimal, digits_of_decimal}}
 use Rattle.sect_cert.specs.declared.subject.CertMode.TheVariants as mode
 use Rattle.sect_cert.specs.declared.list.ListWord.TheVariants as due
-use Rattle.sect_cert.specs.declared.lock.CertLock.{CertLock}
 use Rattle.sect_cert.specs.declared.lock.CertLock.TheVariants as lock
-use Rattle.sect_cert.proofs.PartsLaws.{lacks, bytes_lack, ends_end, without_end_end, lacks_end}
-use Rattle.sect_cert.proofs.PathLaws.{path_lacks}
-use Rattle.sect_cert.proofs.SubjectLaws.{no_class, subject_again}
-use Rattle.sect_cert.specs.steps.Subjects.{subject_of}
-use Rattle.sect_cert.specs.declared.lock.CertPath.{CertPath}
-use Rattle.sect_cert.proofs.NumberLaws.{number_decimal, digits_of_decimal}
 
 -- what ends the last word of a lock: nothing, or a comma
 record IsEnding (e : List ℕ) (b : Bool) : Type 0 where

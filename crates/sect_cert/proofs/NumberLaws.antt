@@ -1,8 +1,7 @@
 -- The numbers that are read are those that are printed.
 use Rattle.std.proofs.Common.{◌≡◌, ℕ, ◌+◌, ◌-◌, ◌*◌, ◌<◌, ◌&&◌, cond, eqb, nat_lt, List, [], ◌∷◌, Some, None, length}
 use Rattle.std.proofs.Common.{true, refl, sym, ◌∙◌, ap, arith}
-use Rattle.std.specs.List.{list_all}
-use Rattle.std.specs.Fmt.{decimal}
+use Rattle.std.specs.{List.{list_all}, Fmt.{decimal}}
 use Rattle.sect_front.specs.Words.{is_digit}
 use Rattle.sect_front.proofs.shared.Numerals.{numeral_from, numeral, numeral_decimal, numeral_back, decimal_digits}
 use Rattle.sect_cert.specs.steps.Numbers.{decimal_from, number_of}

@@ -2,25 +2,14 @@
 use Rattle.std.proofs.Common.{◌≡◌, ◌≢◌, ℕ, true, List, [], ◌∷◌, ◌++◌, Option, Some, None, option_and_then, Result, Ok}
 use Rattle.std.proofs.Common.{Err, map, refl, sym, ◌∙◌, ap, append-nil, append_assoc, inl, inr}
 use Rattle.std.specs.List.{AllByRecursion}
-use Rattle.sect_cert.specs.Parts.{parts}
-use Rattle.sect_cert.specs.Zeros.{plain}
-use Rattle.sect_cert.proofs.TextLaws.{HasLines, lines_of}
-use Rattle.sect_cert.specs.declared.certificate.Cert.{Cert}
-use Rattle.sect_cert.specs.Lines.{line_text}
-use Rattle.sect_cert.specs.steps.Reading.{line_of}
+use Rattle.sect_cert.specs.{Parts.{parts}, Zeros.{plain, is_exact}, declared.certificate.Cert.{Cert}, Lines.{line_text}}
 use Rattle.sect_cert.specs.Texts.{IsLine, HasText, body_lines, cert_lines, certificate_text}
-use Rattle.sect_cert.specs.steps.Stages.{read_words}
-use Rattle.sect_cert.specs.steps.Closing.{JudgesLines}
-use Rattle.sect_cert.specs.declared.line.CertLine.{CertLine}
+use Rattle.sect_cert.specs.{declared.line.CertLine.{CertLine}, declared.fault.CertFault.{CertFault}, Verdicts.{Gives}}
+use Rattle.sect_cert.proofs.{TextLaws.{HasLines, lines_of}, PartsLaws.{lacks, parts_fed}, WordLaws.{line_feed}}
+use Rattle.sect_cert.proofs.{Passes.{goes}, Readings.{read_all, cert_read, read_append}}
+use Rattle.sect_cert.specs.steps.{Reading.{line_of}, Stages.{read_words}, Closing.{JudgesLines}}
 use Rattle.sect_cert.specs.declared.stage.CertStage.TheVariants as stage
-use Rattle.sect_cert.specs.declared.fault.CertFault.{CertFault}
 use Rattle.sect_cert.specs.declared.fault.CertFault.TheVariants as fault
-use Rattle.sect_cert.proofs.PartsLaws.{lacks, parts_fed}
-use Rattle.sect_cert.proofs.WordLaws.{line_feed}
-use Rattle.sect_cert.proofs.Passes.{goes}
-use Rattle.sect_cert.proofs.Readings.{read_all, cert_read, read_append}
-use Rattle.sect_cert.specs.Zeros.{is_exact}
-use Rattle.sect_cert.specs.Verdicts.{Gives}
 
 feeds : (xs : List CertLine) → AllByRecursion IsLine xs → AllByRecursion (λ x. lacks 10 x ≡ true) (map line_text xs)
 feeds [] h = tt

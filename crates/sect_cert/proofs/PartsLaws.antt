@@ -1,17 +1,13 @@
 -- Parts of what is joined.
 use Rattle.sect_cert.proofs.Counts.{same}
 use Rattle.std.proofs.Common.{◌≡◌, ℕ, zero, suc, ◌-◌, Bool, true, false, not, cond, eqb, ◌&&◌, List, [], ◌∷◌, ◌++◌}
-use Rattle.std.proofs.Common.{Some, length, refl, sym, ◌∙◌, ap, arith}
-use Rattle.std.proofs.lemmas.Bool.{eqb-true}
-use Rattle.std.specs.Prelude.{◌==◌, slice_get, take}
+use Rattle.std.proofs.{Common.{Some, length, refl, sym, ◌∙◌, ap, arith, length-append}, lemmas.Bool.{eqb-true}}
+use Rattle.std.proofs.Math.Seq.{take-append_seam}
+use Rattle.std.specs.Prelude.{◌==◌, slice_get, take, nat_le}
 use Rattle.std.specs.List.{onto_first, join_with_byte, list_all, AllByRecursion}
-use Rattle.sect_cert.specs.Parts.{parts}
+use Rattle.sect_cert.specs.{Parts.{parts}, Texts.{fed}}
 use Rattle.sect_front.specs.Words.{is_letter, is_name_byte, is_name, begins, is_keyword}
 use Rattle.sect_cert.specs.steps.Numbers.{ends_with, without_end, is_byte}
-use Rattle.sect_cert.specs.Texts.{fed}
-use Rattle.std.specs.Prelude.{nat_le}
-use Rattle.std.proofs.Common.{length-append}
-use Rattle.std.proofs.Math.Seq.{take-append_seam}
 
 -- the byte isn't among these
 abbrev pub lacks : ℕ → List ℕ → Bool

@@ -1,19 +1,15 @@
 -- The lines of a certificate are taken.
-use Rattle.sect_cert.proofs.Counts.{same, less, not_less, one_more}
+use Rattle.sect_cert.proofs.{Counts.{same, less, not_less, one_more}, TextLaws.{RiseAfter, RisingAll}}
 use Rattle.std.proofs.Common.{◌≡◌, ℕ, ◌+◌, ◌≤◌, List, [], ◌∷◌, ◌++◌, Option, Some, None, length, refl, sym, ◌∙◌, ap}
 use Rattle.std.proofs.Common.{arith, append_assoc, append-nil}
-use Rattle.sect_cert.proofs.TextLaws.{RiseAfter, RisingAll}
-use Rattle.sect_cert.specs.declared.certificate.CertSection.{CertSection}
-use Rattle.sect_cert.specs.steps.Certificates.{section_with, cert_with}
-use Rattle.sect_cert.specs.declared.certificate.Cert.{Cert}
+use Rattle.sect_cert.specs.{declared.certificate.CertSection.{CertSection}, declared.certificate.Cert.{Cert}}
 use Rattle.sect_cert.specs.Texts.{nodes_lines, chains_lines, section_lines, sections_lines, body_lines}
-use Rattle.sect_cert.specs.steps.Stages.{Next, Goes, Bad, Odd, open_with, close_of, stage_of}
-use Rattle.sect_cert.specs.declared.lock.CertLock.{CertLock}
-use Rattle.sect_cert.specs.declared.certificate.CertChain.{CertChain}
-use Rattle.sect_cert.specs.declared.line.CertLine.{CertLine}
-use Rattle.sect_cert.specs.declared.line.CertLine.TheVariants as line
-use Rattle.sect_cert.specs.declared.stage.Open.{Open}
+use Rattle.sect_cert.specs.{declared.lock.CertLock.{CertLock}, declared.certificate.CertChain.{CertChain}}
+use Rattle.sect_cert.specs.{declared.line.CertLine.{CertLine}, declared.stage.Open.{Open}}
 use Rattle.sect_cert.specs.declared.stage.CertStage.{CertStage}
+use Rattle.sect_cert.specs.steps.Certificates.{section_with, cert_with}
+use Rattle.sect_cert.specs.steps.Stages.{Next, Goes, Bad, Odd, open_with, close_of, stage_of}
+use Rattle.sect_cert.specs.declared.line.CertLine.TheVariants as line
 use Rattle.sect_cert.specs.declared.stage.CertStage.TheVariants as stage
 
 abbrev pub goes : Next → (CertStage → Option CertStage) → Option CertStage

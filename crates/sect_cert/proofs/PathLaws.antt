@@ -1,27 +1,21 @@
 -- The text of a path is read as it, and as no other.
 use Rattle.std.proofs.Common.{◌≡◌, ℕ, ◌<◌, Bool, true, false, cond, List, [], ◌∷◌, ◌++◌, Option, Some, None}
 use Rattle.std.proofs.Common.{option_and_then, refl, sym, ◌∙◌, ap, subst}
-use Rattle.std.specs.Prelude.{◌==◌}
-use Rattle.std.specs.Option.{option_map}
-use Rattle.std.specs.Fmt.{decimal}
-use Rattle.std.specs.List.{join_with_byte, list_all, AllByRecursion}
 use Rattle.std.proofs.lemmas.List.Splits.{join_with_byte-slice_split}
+use Rattle.std.specs.{Prelude.{◌==◌}, Option.{option_map}, Fmt.{decimal}}
+use Rattle.std.specs.List.{join_with_byte, list_all, AllByRecursion}
 use Rattle.sect_front.specs.Words.{is_name_byte, is_name}
-use Rattle.sect_cert.specs.Parts.{parts}
-use Rattle.sect_cert.specs.Zeros.{is_exact}
-use Rattle.sect_cert.specs.Spelling.{base_text, path_parts, path_text}
-use Rattle.sect_cert.specs.Texts.{IsBase, IsPath}
-use Rattle.sect_cert.specs.steps.Numbers.{number_of}
-use Rattle.sect_cert.specs.steps.Certificates.{path_with}
-use Rattle.sect_cert.specs.steps.Subjects.{base_at, base_of, path_from, path_at, path_of}
-use Rattle.sect_cert.specs.declared.lock.CertBase.{CertBase}
-use Rattle.sect_cert.specs.declared.lock.CertBase.TheVariants as base
+use Rattle.sect_cert.specs.{Parts.{parts}, Zeros.{is_exact}, Spelling.{base_text, path_parts, path_text}}
+use Rattle.sect_cert.specs.{Texts.{IsBase, IsPath}, declared.lock.CertBase.{CertBase}}
 use Rattle.sect_cert.specs.declared.lock.CertPath.{CertPath}
+use Rattle.sect_cert.specs.steps.{Numbers.{number_of}, Certificates.{path_with}}
+use Rattle.sect_cert.specs.steps.Subjects.{base_at, base_of, path_from, path_at, path_of}
 use Rattle.sect_cert.proofs.PartsLaws.{lacks, lacks_append, bytes_lack, has_name_bytes, names_lack, joined_lacks}
 use Rattle.sect_cert.proofs.PartsLaws.{parts_front, parts_one, parts_join}
 use Rattle.sect_cert.proofs.NumberLaws.{number_decimal, decimal_number, digits_of_decimal}
 use Rattle.sect_cert.proofs.ExactLaws.{hash, exact_mark, exact_number, exact_name, exact_names, exact_joined}
 use Rattle.sect_cert.proofs.ExactLaws.{digits_are}
+use Rattle.sect_cert.specs.declared.lock.CertBase.TheVariants as base
 
 name_lacks : (c : ℕ) → is_name_byte c ≡ false → (n : List ℕ) → is_name n ≡ true → lacks c n ≡ true
 name_lacks c out n h = bytes_lack is_name_byte c out n (has_name_bytes n h)

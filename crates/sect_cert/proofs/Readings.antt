@@ -1,25 +1,18 @@
 -- The texts of lines, read one after another.
 use Rattle.std.proofs.Common.{◌≡◌, ◌≢◌, ℕ, Bool, true, false, cond, List, [], ◌∷◌, ◌++◌, Option, Some, None}
-use Rattle.std.proofs.Common.{option_and_then, map, refl, sym, ◌∙◌, ap, subst, append_assoc}
+use Rattle.std.proofs.{Common.{option_and_then, map, refl, sym, ◌∙◌, ap, subst, append_assoc}, lemmas.List.{map-append}}
 use Rattle.std.specs.List.{AllByRecursion}
-use Rattle.std.proofs.lemmas.List.{map-append}
-use Rattle.sect_cert.specs.Parts.{parts}
-use Rattle.sect_cert.specs.Zeros.{plain, is_exact}
+use Rattle.sect_cert.specs.{Parts.{parts}, Zeros.{plain, is_exact}, Lines.{line_text}}
+use Rattle.sect_cert.specs.{Texts.{IsLine, HasText, header_text, body_lines, cert_lines}, Verdicts.{IsViable}}
+use Rattle.sect_cert.specs.{declared.certificate.Cert.{Cert}, declared.line.CertLine.{CertLine}}
+use Rattle.sect_cert.specs.declared.stage.CertStage.{CertStage}
 use Rattle.sect_cert.specs.steps.Reading.{line_of}
-use Rattle.sect_cert.specs.Lines.{line_text}
-use Rattle.sect_cert.specs.Texts.{IsLine, HasText, header_text, body_lines, cert_lines}
 use Rattle.sect_cert.specs.steps.Stages.{Next, Goes, Bad, Odd, stage_of, read_of, read_words, judged, is_header_due}
 use Rattle.sect_cert.specs.steps.Stages.{header_of}
-use Rattle.sect_cert.specs.Verdicts.{IsViable}
-use Rattle.sect_cert.proofs.TextLaws.{HasLines, lines_of, text_of}
-use Rattle.sect_cert.specs.declared.certificate.Cert.{Cert}
-use Rattle.sect_cert.specs.declared.line.CertLine.{CertLine}
-use Rattle.sect_cert.specs.declared.stage.CertStage.{CertStage}
-use Rattle.sect_cert.specs.declared.stage.CertStage.TheVariants as stage
-use Rattle.sect_cert.proofs.Passes.{goes, run, cert_passes}
+use Rattle.sect_cert.proofs.{TextLaws.{HasLines, lines_of, text_of}, Passes.{goes, run, cert_passes}}
 use Rattle.sect_cert.proofs.Keeps.{stage_lines, IsSound, Kept, IfGoes, stage_law, IsBegun, stage_split}
-use Rattle.sect_cert.proofs.Finish.{IsFinish, finish}
-use Rattle.sect_cert.proofs.LineLaws.{IsAgain, line_again, IsTaken, line_takes}
+use Rattle.sect_cert.proofs.{Finish.{IsFinish, finish}, LineLaws.{IsAgain, line_again, IsTaken, line_takes}}
+use Rattle.sect_cert.specs.declared.stage.CertStage.TheVariants as stage
 
 -- the stage after these texts
 abbrev pub read_all : CertStage → List (List ℕ) → Option CertStage

@@ -1,9 +1,8 @@
 -- Elements that numbers name.
 use Rattle.std.proofs.Common.{◌≡◌, ◌≢◌, ℕ, zero, suc, ◌+◌, ◌-◌, ◌<◌, List, [], ◌∷◌, ◌++◌, Some, length, get_or, refl}
 use Rattle.std.proofs.Common.{sym, ◌∙◌, ap, subst, arith, eqb, append_assoc, append-nil, IsTrue}
+use Rattle.std.proofs.{lemmas.Bool.{eqb-true}, lemmas.Option.{slice_get_read}}
 use Rattle.std.specs.Prelude.{slice_get}
-use Rattle.std.proofs.lemmas.Bool.{eqb-true}
-use Rattle.std.proofs.lemmas.Option.{slice_get_read}
 use Rattle.sect_cert.specs.steps.Runs.{listed, numbered, AreBelow}
 
 listed_at : {X : Type 0} (kept : List X) (n : ℕ) → n < length kept → (x : X) × (slice_get kept n ≡ Some x)

@@ -1,30 +1,20 @@
 -- The steps of a chain are read as what they spell.
 use Rattle.std.proofs.Common.{◌≡◌, ◌≢◌, ℕ, ◌<◌, Bool, true, false, cond, List, [], ◌∷◌, ◌++◌, Option, Some, None}
 use Rattle.std.proofs.Common.{option_and_then, IfSome, refl, sym, ◌∙◌, ap, subst, append-nil, append_assoc}
-use Rattle.std.specs.Prelude.{codes, ⊤}
-use Rattle.std.specs.Option.{option_map}
-use Rattle.std.specs.Fmt.{decimal}
-use Rattle.std.specs.Str.{bytes_eq}
-use Rattle.std.specs.List.{AllByRecursion}
-use Rattle.sect_cert.specs.steps.Numbers.{number_of}
-use Rattle.sect_cert.specs.Spelling.{path_text, lock_words, step_words, steps_words, chain_words}
-use Rattle.sect_cert.specs.steps.Subjects.{mode_of, path_lock, class_lock}
+use Rattle.std.specs.{Prelude.{codes, ⊤}, Option.{option_map}, Fmt.{decimal}, Str.{bytes_eq}, List.{AllByRecursion}}
+use Rattle.sect_cert.specs.steps.{Numbers.{number_of}, Subjects.{mode_of, path_lock, class_lock, subject_of}}
 use Rattle.sect_cert.specs.steps.Chains.{ChainState, chain_state, walk_of, walk_on, steps_in, steps_when, steps_of}
 use Rattle.sect_cert.specs.steps.Certificates.{step_with}
-use Rattle.sect_cert.specs.Texts.{IsLock, IsStep, IsNumber, IsPath}
-use Rattle.sect_cert.specs.declared.subject.CertMode.{CertMode}
-use Rattle.sect_cert.specs.declared.subject.CertMode.TheVariants as mode
-use Rattle.sect_cert.specs.declared.chain.ChainWord.{ChainWord}
-use Rattle.sect_cert.specs.declared.chain.ChainWord.TheVariants as due
-use Rattle.sect_cert.specs.declared.lock.CertLock.{CertLock}
-use Rattle.sect_cert.specs.declared.lock.CertLock.TheVariants as lock
-use Rattle.sect_cert.specs.declared.certificate.CertStep.{CertStep}
+use Rattle.sect_cert.specs.Spelling.{path_text, lock_words, step_words, steps_words, chain_words}
+use Rattle.sect_cert.specs.{Texts.{IsLock, IsStep, IsNumber, IsPath}, declared.subject.CertMode.{CertMode}}
+use Rattle.sect_cert.specs.{declared.chain.ChainWord.{ChainWord}, declared.lock.CertLock.{CertLock}}
+use Rattle.sect_cert.specs.{declared.certificate.CertStep.{CertStep}, declared.lock.CertPath.{CertPath}}
 use Rattle.sect_cert.proofs.CutTexts.{same_bytes}
 use Rattle.sect_cert.proofs.SubjectLaws.{mode_word, mode_law, mapped, number_law, class_lock_law, no_class}
-use Rattle.sect_cert.proofs.SubjectLaws.{subject_again, IsSpelledBy, subject_law}
-use Rattle.sect_cert.specs.steps.Subjects.{subject_of}
-use Rattle.sect_cert.specs.declared.lock.CertPath.{CertPath}
-use Rattle.sect_cert.proofs.NumberLaws.{number_decimal}
+use Rattle.sect_cert.proofs.{SubjectLaws.{subject_again, IsSpelledBy, subject_law}, NumberLaws.{number_decimal}}
+use Rattle.sect_cert.specs.declared.subject.CertMode.TheVariants as mode
+use Rattle.sect_cert.specs.declared.chain.ChainWord.TheVariants as due
+use Rattle.sect_cert.specs.declared.lock.CertLock.TheVariants as lock
 
 subject_word : (m : CertMode) (n : ℕ) (w : List ℕ) (l : CertLock) (ss : List CertStep) → subject_of m w ≡ Some l
     → walk_of ss (due.Subject n m) (w ++ []) ≡ Some (chain_state (ss ++ step_with n l ∷ []) due.Whole)

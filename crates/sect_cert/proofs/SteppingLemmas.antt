@@ -1,12 +1,8 @@
 -- Steps by their nodes and their locks.
-use Rattle.std.proofs.Common.{◌≡◌, ◌≢◌, ℕ, zero, suc, ◌-◌, List, [], ◌∷◌, ◌++◌, Some, length, refl, sym, ◌∙◌}
-use Rattle.std.proofs.Common.{ap, arith}
-use Rattle.std.specs.Prelude.{slice_get}
-use Rattle.std.specs.Option.{option_map}
-use Rattle.sect_cert.specs.declared.lock.CertLock.{CertLock}
-use Rattle.sect_cert.specs.declared.certificate.CertStep.{CertStep}
-use Rattle.sect_cert.specs.steps.Certificates.{step_with}
-use Rattle.sect_cert.specs.steps.Stepping.{stepped}
+use Rattle.std.proofs.Common.{◌≡◌, ◌≢◌, ℕ, zero, suc, ◌-◌, List, [], ◌∷◌, ◌++◌, Some, length, refl, sym, ◌∙◌, ap, arith}
+use Rattle.std.specs.{Prelude.{slice_get}, Option.{option_map}}
+use Rattle.sect_cert.specs.{declared.lock.CertLock.{CertLock}, declared.certificate.CertStep.{CertStep}}
+use Rattle.sect_cert.specs.steps.{Certificates.{step_with}, Stepping.{stepped}}
 
 pub length_stepped : (ns : List ℕ) (ls : List CertLock) → length ns ≡ length ls → length (stepped ns ls) ≡ length ns
 length_stepped [] ls h = refl

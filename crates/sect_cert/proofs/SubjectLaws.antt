@@ -1,21 +1,14 @@
 -- The mode and the subject of a lock are read as what they spell.
 use Rattle.std.proofs.Common.{◌≡◌, ℕ, ◌<◌, Bool, true, false, cond, List, ◌∷◌, ◌++◌, Option, Some, None}
 use Rattle.std.proofs.Common.{option_and_then, IfSome, refl, sym, ◌∙◌, ap}
-use Rattle.std.specs.Prelude.{codes}
-use Rattle.std.specs.Option.{option_map}
-use Rattle.std.specs.Str.{bytes_eq}
-use Rattle.std.specs.Fmt.{decimal}
+use Rattle.std.specs.{Prelude.{codes}, Option.{option_map}, Str.{bytes_eq}, Fmt.{decimal}}
 use Rattle.sect_cert.specs.steps.Numbers.{number_of}
-use Rattle.sect_cert.specs.Spelling.{path_text, lock_words}
-use Rattle.sect_cert.specs.Texts.{IsPath, IsLock, IsNumber}
 use Rattle.sect_cert.specs.steps.Subjects.{mode_of, path_of, path_lock, class_lock, all_lock, subject_of}
-use Rattle.sect_cert.specs.declared.lock.CertPath.{CertPath}
-use Rattle.sect_cert.specs.declared.lock.CertLock.{CertLock}
+use Rattle.sect_cert.specs.{Spelling.{path_text, lock_words}, Texts.{IsPath, IsLock, IsNumber}}
+use Rattle.sect_cert.specs.{declared.lock.CertPath.{CertPath}, declared.lock.CertLock.{CertLock}}
 use Rattle.sect_cert.specs.declared.subject.CertMode.{CertMode}
+use Rattle.sect_cert.proofs.{CutTexts.{same_bytes}, PathLaws.{path_again, path_takes}, NumberLaws.{decimal_number}}
 use Rattle.sect_cert.specs.declared.subject.CertMode.TheVariants as mode
-use Rattle.sect_cert.proofs.CutTexts.{same_bytes}
-use Rattle.sect_cert.proofs.PathLaws.{path_again, path_takes}
-use Rattle.sect_cert.proofs.NumberLaws.{decimal_number}
 
 abbrev pub mode_word : CertMode → List ℕ
 mode_word mode.Read = codes "R"

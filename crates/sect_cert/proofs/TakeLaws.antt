@@ -2,24 +2,17 @@
 use Rattle.std.proofs.Common.{◌≡◌, ℕ, suc, ◌-◌, ◌<◌, Bool, true, false, cond, List, [], ◌∷◌, ◌++◌, Option, Some, None}
 use Rattle.std.proofs.Common.{option_and_then, IfSome, length, take, refl, sym, ◌∙◌, ap, arith, append-nil}
 use Rattle.std.proofs.lemmas.Bool.{eqb-true}
-use Rattle.std.specs.Prelude.{codes, slice_get}
-use Rattle.std.specs.Option.{option_map}
-use Rattle.std.specs.Str.{bytes_eq}
-use Rattle.std.specs.Fmt.{decimal}
+use Rattle.std.specs.{Prelude.{codes, slice_get}, Option.{option_map}, Str.{bytes_eq}, Fmt.{decimal}}
 use Rattle.std.specs.List.{AllByRecursion}
 use Rattle.sect_cert.specs.steps.Numbers.{ends_with, without_end, number_of, is_byte}
-use Rattle.sect_cert.specs.Spelling.{lock_words}
-use Rattle.sect_cert.specs.steps.Subjects.{mode_of, class_lock}
-use Rattle.sect_cert.specs.Texts.{IsLock}
+use Rattle.sect_cert.specs.steps.Subjects.{mode_of, class_lock, subject_of}
 use Rattle.sect_cert.specs.steps.Lists.{place_behind, ListState, list_state, step_of, after}
-use Rattle.sect_cert.specs.declared.subject.CertMode.{CertMode}
-use Rattle.sect_cert.specs.declared.list.ListWord.{ListWord}
-use Rattle.sect_cert.specs.declared.list.ListWord.TheVariants as due
-use Rattle.sect_cert.specs.declared.lock.CertLock.{CertLock}
+use Rattle.sect_cert.specs.{Spelling.{lock_words}, Texts.{IsLock}, declared.subject.CertMode.{CertMode}}
+use Rattle.sect_cert.specs.{declared.list.ListWord.{ListWord}, declared.lock.CertLock.{CertLock}}
 use Rattle.sect_cert.proofs.CutTexts.{same_bytes}
 use Rattle.sect_cert.proofs.SubjectLaws.{mode_word, mode_law, mapped, class_lock_law, IsSpelledBy, subject_law}
-use Rattle.sect_cert.specs.steps.Subjects.{subject_of}
 use Rattle.sect_cert.proofs.NumberLaws.{decimal_number}
+use Rattle.sect_cert.specs.declared.list.ListWord.TheVariants as due
 
 -- a word, and the byte that ends it
 pub last_split : (c : ℕ) (w : List ℕ) → ends_with c w ≡ true → w ≡ take (length w - 1) w ++ c ∷ []

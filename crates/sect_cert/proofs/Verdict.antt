@@ -1,34 +1,24 @@
 -- What a reading says of the text.
 use Rattle.std.proofs.Common.{◌≡◌, ◌≢◌, ℕ, ◌+◌, Bool, true, false, cond, List, [], ◌∷◌, ◌++◌, Option, Some, None}
 use Rattle.std.proofs.Common.{length, refl, sym, ◌∙◌, ap, subst, arith, append_assoc, length-append, inl, inr}
-use Rattle.std.specs.Prelude.{Result, Ok, Err, ◌⊎◌}
-use Rattle.std.specs.Str.{bytes_eq}
-use Rattle.std.specs.List.{join_with_byte}
 use Rattle.std.proofs.lemmas.List.Splits.{join_with_byte-slice_split}
-use Rattle.sect_cert.specs.Parts.{parts}
-use Rattle.sect_cert.specs.Zeros.{plain, is_exact}
-use Rattle.sect_cert.specs.steps.Certificates.{cert_with}
-use Rattle.sect_cert.specs.steps.Reading.{line_of}
-use Rattle.sect_cert.specs.Texts.{HasText, header_text, cert_lines}
+use Rattle.std.specs.{Prelude.{Result, Ok, Err, ◌⊎◌}, Str.{bytes_eq}, List.{join_with_byte}}
+use Rattle.sect_cert.specs.{Parts.{parts}, Zeros.{plain, is_exact}, Texts.{HasText, header_text, cert_lines}}
 use Rattle.sect_cert.specs.Forms.{form_of}
+use Rattle.sect_cert.specs.Verdicts.{IsViable, IsWhole, IsAllowed, HasForm, HasNoForm, IsEndAt, IsFaultAt, IsMoreAt}
+use Rattle.sect_cert.specs.{declared.certificate.Cert.{Cert}, declared.fault.CertFault.{CertFault}}
+use Rattle.sect_cert.specs.{declared.fault.LineFault.{LineFault}, declared.line.CertLine.{CertLine}}
+use Rattle.sect_cert.specs.declared.stage.CertStage.{CertStage}
+use Rattle.sect_cert.specs.steps.{Certificates.{cert_with}, Reading.{line_of}}
 use Rattle.sect_cert.specs.steps.Stages.{Next, Goes, Bad, Odd, stage_of, read_of, read_words, judged, header_of, GoesTo}
 use Rattle.sect_cert.specs.steps.Closing.{is_finished_of, Closes, IsFaultOn, JudgesLines}
-use Rattle.sect_cert.specs.Verdicts.{IsViable, IsWhole, IsAllowed, HasForm, HasNoForm, IsEndAt, IsFaultAt, IsMoreAt}
-use Rattle.sect_cert.proofs.TextLaws.{text_of}
-use Rattle.sect_cert.specs.declared.certificate.Cert.{Cert}
-use Rattle.sect_cert.specs.declared.fault.CertFault.{CertFault}
-use Rattle.sect_cert.specs.declared.fault.CertFault.TheVariants as fault
-use Rattle.sect_cert.specs.declared.fault.LineFault.{LineFault}
-use Rattle.sect_cert.specs.declared.fault.LineFault.TheVariants as lines
-use Rattle.sect_cert.specs.declared.line.CertLine.{CertLine}
-use Rattle.sect_cert.specs.declared.stage.CertStage.{CertStage}
-use Rattle.sect_cert.specs.declared.stage.CertStage.TheVariants as stage
-use Rattle.sect_cert.proofs.CutTexts.{same_bytes}
-use Rattle.sect_cert.proofs.PartsLaws.{fed_join}
-use Rattle.sect_cert.proofs.Passes.{goes}
+use Rattle.sect_cert.proofs.{TextLaws.{text_of}, CutTexts.{same_bytes}, PartsLaws.{fed_join}, Passes.{goes}}
 use Rattle.sect_cert.proofs.LineLaws.{form_again, form_takes}
 use Rattle.sect_cert.proofs.Readings.{read_all, begun, cert_read, Reads, viable, refused, taken_text}
 use Rattle.sect_cert.proofs.Allowed.{is_due, due_takes, not_due, allowed, allowed_is_due, not_first}
+use Rattle.sect_cert.specs.declared.fault.CertFault.TheVariants as fault
+use Rattle.sect_cert.specs.declared.fault.LineFault.TheVariants as lines
+use Rattle.sect_cert.specs.declared.stage.CertStage.TheVariants as stage
 
 -- what has been read, at the head of the loop
 abbrev pub IsState : List (List ℕ) → CertStage → Type 0

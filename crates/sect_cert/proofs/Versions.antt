@@ -1,24 +1,16 @@
 -- A text of version 1 is answered apart, and every text with one answer alone.
 use Rattle.std.proofs.Common.{◌≡◌, ◌≢◌, ℕ, true, false, List, [], ◌∷◌, ◌++◌, map, drop, refl, sym, ◌∙◌, ap}
-use Rattle.std.specs.Prelude.{codes, Result, Ok, Err}
-use Rattle.std.specs.Str.{bytes_eq}
-use Rattle.std.proofs.lemmas.Slice.Eq.{starts_is}
-use Rattle.std.proofs.lemmas.Bool.Decides.{Decides-eqb}
-use Rattle.sect_cert.specs.Parts.{parts}
-use Rattle.sect_cert.specs.Lines.{line_text}
-use Rattle.sect_cert.specs.Forms.{form_of}
+use Rattle.std.proofs.{lemmas.Slice.Eq.{starts_is}, lemmas.Bool.Decides.{Decides-eqb}}
+use Rattle.std.specs.{Prelude.{codes, Result, Ok, Err}, Str.{bytes_eq}}
+use Rattle.sect_cert.specs.{Parts.{parts}, Lines.{line_text}, Forms.{form_of}}
 use Rattle.sect_cert.specs.Texts.{HasText, header_text, body_lines, certificate_text}
 use Rattle.sect_cert.specs.Verdicts.{HasNoForm, IsFaultAt, is_old, Judges, Gives, Refuses}
+use Rattle.sect_cert.specs.{declared.certificate.Cert.{Cert}, declared.fault.CertFault.{CertFault}}
 use Rattle.sect_cert.specs.steps.Closing.{JudgesLines}
-use Rattle.sect_cert.specs.declared.certificate.Cert.{Cert}
-use Rattle.sect_cert.specs.declared.fault.CertFault.{CertFault}
+use Rattle.sect_cert.proofs.{CutTexts.{some_parts}, PartsLaws.{parts_front}, Allowed.{not_first}}
+use Rattle.sect_cert.proofs.{Verdict.{nothing_viable}, Alone.{alone}}
 use Rattle.sect_cert.specs.declared.fault.CertFault.TheVariants as fault
-use Rattle.sect_cert.proofs.CutTexts.{some_parts}
-use Rattle.sect_cert.proofs.PartsLaws.{parts_front}
-use Rattle.sect_cert.proofs.Allowed.{not_first}
-use Rattle.sect_cert.proofs.Verdict.{nothing_viable}
 use Rattle.sect_cert.proofs.Only as lines
-use Rattle.sect_cert.proofs.Alone.{alone}
 
 some_first : {A : Type 0} (x : A) (xs : List A) → x ∷ xs ≡ [] → ⊥
 some_first x xs e = cc

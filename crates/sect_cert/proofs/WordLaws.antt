@@ -1,24 +1,16 @@
 -- The words of a line hold no blank and no line feed, and no zero leads a number in them.
 use Rattle.std.proofs.Common.{◌≡◌, ◌≢◌, ℕ, true, false, List, [], ◌∷◌, ◌++◌, refl, ◌∙◌, ap, append-nil, subst}
-use Rattle.std.specs.Prelude.{codes}
-use Rattle.std.specs.Fmt.{decimal}
-use Rattle.std.specs.List.{AllByRecursion, join_with_byte}
+use Rattle.std.specs.{Prelude.{codes}, Fmt.{decimal}, List.{AllByRecursion, join_with_byte}}
 use Rattle.sect_cert.specs.Parts.{parts}
-use Rattle.sect_front.specs.Words.{is_digit}
 use Rattle.sect_cert.specs.Spelling.{path_text, lock_words, some_words, list_words, steps_words, chain_words}
-use Rattle.sect_cert.specs.Texts.{IsPath, IsLock, IsNumber, IsLine, IsStep}
-use Rattle.sect_cert.specs.Lines.{line_words, line_text}
-use Rattle.sect_cert.specs.declared.lock.CertLock.{CertLock}
+use Rattle.sect_cert.specs.{Texts.{IsPath, IsLock, IsNumber, IsLine, IsStep}, Lines.{line_words, line_text}}
+use Rattle.sect_cert.specs.{declared.lock.CertLock.{CertLock}, declared.certificate.CertStep.{CertStep}}
+use Rattle.sect_cert.specs.{declared.line.CertLine.{CertLine}, Zeros.{is_exact}, declared.lock.CertPath.{CertPath}}
+use Rattle.sect_front.specs.Words.{is_digit}
+use Rattle.sect_cert.proofs.{PartsLaws.{lacks, bytes_lack, lacks_append, parts_join}, PathLaws.{path_lacks, exact_path}}
+use Rattle.sect_cert.proofs.{NumberLaws.{digits_of_decimal}, ExactLaws.{blank, comma, colon, exact_mark, exact_number}}
 use Rattle.sect_cert.specs.declared.lock.CertLock.TheVariants as lock
-use Rattle.sect_cert.specs.declared.certificate.CertStep.{CertStep}
-use Rattle.sect_cert.specs.declared.line.CertLine.{CertLine}
 use Rattle.sect_cert.specs.declared.line.CertLine.TheVariants as line
-use Rattle.sect_cert.proofs.PartsLaws.{lacks, bytes_lack, lacks_append, parts_join}
-use Rattle.sect_cert.proofs.PathLaws.{path_lacks, exact_path}
-use Rattle.sect_cert.proofs.NumberLaws.{digits_of_decimal}
-use Rattle.sect_cert.proofs.ExactLaws.{blank, comma, colon, exact_mark, exact_number}
-use Rattle.sect_cert.specs.Zeros.{is_exact}
-use Rattle.sect_cert.specs.declared.lock.CertPath.{CertPath}
 
 pub record IsWord (w : List ℕ) : Type 0 where
   pub blank : lacks 32 w ≡ true

@@ -1,29 +1,21 @@
 -- What is written piece by piece is the text of a certificate.
 use Rattle.std.proofs.Common.{◌≡◌, ℕ, ◌+◌, List, [], ◌∷◌, ◌++◌, map, length, refl, sym, ◌∙◌, ap, append-nil}
 use Rattle.std.proofs.Common.{append_assoc, drop, ◌≤◌, ◌<◌, zero, suc, Some, arith}
-use Rattle.std.proofs.lemmas.List.{at_drop_all, drop_more, flat_map_more, take_more}
+use Rattle.std.proofs.lemmas.List.{at_drop_all, drop_more, flat_map_more, take_more, length-take-le}
 use Rattle.std.proofs.lemmas.Option.{get_or_from_slice_get}
-use Rattle.std.specs.Prelude.{codes, slice_get, take}
-use Rattle.std.specs.Option.{option_map}
-use Rattle.std.proofs.lemmas.List.{length-take-le}
-use Rattle.std.specs.Fmt.{decimal}
+use Rattle.std.specs.{Prelude.{codes, slice_get, take}, Option.{option_map}, Fmt.{decimal}}
 use Rattle.std.specs.List.{join_with_byte, flat_map}
 use Rattle.sect_cert.specs.Spelling.{base_text, path_text, lock_words, some_words, list_words, step_words, steps_words}
-use Rattle.sect_cert.specs.Spelling.{chain_words}
-use Rattle.sect_cert.specs.Lines.{line_text}
+use Rattle.sect_cert.specs.{Spelling.{chain_words}, Lines.{line_text}}
 use Rattle.sect_cert.specs.Texts.{nodes_lines, chains_lines, section_lines, sections_lines, header_text, fed}
-use Rattle.sect_cert.specs.Texts.{certificate_text}
+use Rattle.sect_cert.specs.{Texts.{certificate_text}, declared.lock.CertPath.{CertPath}}
+use Rattle.sect_cert.specs.{declared.lock.CertLock.{CertLock}, declared.certificate.CertStep.{CertStep}}
+use Rattle.sect_cert.specs.{declared.certificate.CertChain.{CertChain}, declared.certificate.CertSection.{CertSection}}
+use Rattle.sect_cert.specs.{declared.certificate.Cert.{Cert}, declared.line.CertLine.{CertLine}}
 use Rattle.sect_cert.specs.steps.Writes.{spaced, field_text, lock_text, next_lock, step_text, next_step, fed_line}
-use Rattle.sect_cert.specs.steps.Writes.{nodes_text, chain_text, section_text, sections_text}
-use Rattle.sect_cert.specs.steps.Writes.{IsListBefore, IsLockBefore, arrow_before}
-use Rattle.sect_cert.specs.declared.lock.CertPath.{CertPath}
-use Rattle.sect_cert.specs.declared.lock.CertLock.{CertLock}
+use Rattle.sect_cert.specs.steps.Writes.{nodes_text, chain_text, section_text, sections_text, IsListBefore}
+use Rattle.sect_cert.specs.steps.Writes.{IsLockBefore, arrow_before}
 use Rattle.sect_cert.specs.declared.lock.CertLock.TheVariants as lock
-use Rattle.sect_cert.specs.declared.certificate.CertStep.{CertStep}
-use Rattle.sect_cert.specs.declared.certificate.CertChain.{CertChain}
-use Rattle.sect_cert.specs.declared.certificate.CertSection.{CertSection}
-use Rattle.sect_cert.specs.declared.certificate.Cert.{Cert}
-use Rattle.sect_cert.specs.declared.line.CertLine.{CertLine}
 use Rattle.sect_cert.specs.declared.line.CertLine.TheVariants as line
 
 path_joined : (base : List ℕ) (fields : List (List ℕ)) → join_with_byte 46 (base ∷ fields) ≡ base

@@ -1,9 +1,6 @@
 -- A line after the first. Cited by `read_cert` and `write_cert`, through the text of a certificate.
-use Rattle.std.specs.Prelude.{ℕ, List, [], ◌∷◌, ◌++◌, codes}
-use Rattle.std.specs.Fmt.{decimal}
-use Rattle.std.specs.List.{join_with_byte}
-use Rattle.sect_cert.specs.Spelling.{list_words, chain_words}
-use Rattle.sect_cert.specs.declared.line.CertLine.{CertLine}
+use Rattle.std.specs.{Prelude.{ℕ, List, [], ◌∷◌, ◌++◌, codes}, Fmt.{decimal}, List.{join_with_byte}}
+use Rattle.sect_cert.specs.{Spelling.{list_words, chain_words}, declared.line.CertLine.{CertLine}}
 use Rattle.sect_cert.specs.declared.line.CertLine.TheVariants as line
 
 -- the words of a line

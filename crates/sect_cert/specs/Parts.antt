@@ -1,6 +1,5 @@
 -- The parts of a text that is cut at a byte. Cited by `read_cert`, for the lines of a text.
-use Rattle.std.specs.Prelude.{ℕ, ◌==◌, List, [], Option, Some, None}
-use Rattle.std.specs.List.{slice_split}
+use Rattle.std.specs.{Prelude.{ℕ, ◌==◌, List, [], Option, Some, None}, List.{slice_split}}
 
 -- a text, cut at each mark
 abbrev pub parts : ℕ → List ℕ → List (List ℕ)

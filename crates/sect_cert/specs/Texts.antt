@@ -2,17 +2,12 @@
 use Rattle.std.specs.Prelude.{◌≡◌, ◌≢◌, ℕ, ◌+◌, ◌<◌, true, List, [], ◌∷◌, ◌++◌, map, length, codes, ⊤}
 use Rattle.std.specs.List.{AllByRecursion, list_all}
 use Rattle.sect_front.specs.Words.{is_name}
-use Rattle.sect_cert.specs.Lines.{line_text}
-use Rattle.sect_cert.specs.declared.lock.CertBase.{CertBase}
+use Rattle.sect_cert.specs.{Lines.{line_text}, declared.lock.CertBase.{CertBase}, declared.lock.CertPath.{CertPath}}
+use Rattle.sect_cert.specs.{declared.lock.CertLock.{CertLock}, declared.certificate.CertStep.{CertStep}}
+use Rattle.sect_cert.specs.{declared.certificate.CertChain.{CertChain}, declared.certificate.CertSection.{CertSection}}
+use Rattle.sect_cert.specs.{declared.certificate.Cert.{Cert}, declared.line.CertLine.{CertLine}}
 use Rattle.sect_cert.specs.declared.lock.CertBase.TheVariants as base
-use Rattle.sect_cert.specs.declared.lock.CertPath.{CertPath}
-use Rattle.sect_cert.specs.declared.lock.CertLock.{CertLock}
 use Rattle.sect_cert.specs.declared.lock.CertLock.TheVariants as lock
-use Rattle.sect_cert.specs.declared.certificate.CertStep.{CertStep}
-use Rattle.sect_cert.specs.declared.certificate.CertChain.{CertChain}
-use Rattle.sect_cert.specs.declared.certificate.CertSection.{CertSection}
-use Rattle.sect_cert.specs.declared.certificate.Cert.{Cert}
-use Rattle.sect_cert.specs.declared.line.CertLine.{CertLine}
 use Rattle.sect_cert.specs.declared.line.CertLine.TheVariants as line
 
 -- the lines of nodes, by number from this one, before the lines that follow

@@ -1,15 +1,9 @@
 -- What a text is answered with. Cited by `read_cert` and `write_cert`.
 use Rattle.std.specs.Prelude.{◌≡◌, ◌≢◌, ℕ, ◌+◌, Bool, true, false, nat_eq, List, [], ◌∷◌, ◌++◌, length, codes, Result}
-use Rattle.std.specs.Prelude.{Ok, Err, ⊤, ◌⊎◌}
-use Rattle.std.specs.List.{starts_with}
-use Rattle.sect_cert.specs.Parts.{parts}
-use Rattle.sect_cert.specs.Zeros.{plain}
-use Rattle.sect_cert.specs.Lines.{line_text}
-use Rattle.sect_cert.specs.Forms.{Form, form_of, ChainForm}
-use Rattle.sect_cert.specs.Texts.{cert_lines, certificate_text, HasText, IsLine}
-use Rattle.sect_cert.specs.declared.certificate.Cert.{Cert}
-use Rattle.sect_cert.specs.declared.line.CertLine.{CertLine}
-use Rattle.sect_cert.specs.declared.fault.CertFault.{CertFault}
+use Rattle.std.specs.{Prelude.{Ok, Err, ⊤, ◌⊎◌}, List.{starts_with}}
+use Rattle.sect_cert.specs.{Parts.{parts}, Zeros.{plain}, Lines.{line_text}, Forms.{Form, form_of, ChainForm}}
+use Rattle.sect_cert.specs.{Texts.{cert_lines, certificate_text, HasText, IsLine}, declared.certificate.Cert.{Cert}}
+use Rattle.sect_cert.specs.{declared.line.CertLine.{CertLine}, declared.fault.CertFault.{CertFault}}
 use Rattle.sect_cert.specs.declared.fault.CertFault.TheVariants as fault
 
 -- some certificate's text begins with these lines

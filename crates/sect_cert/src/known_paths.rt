@@ -1,8 +1,7 @@
 //! Paths that were read.
 
 ghost use Rattle.std.specs.Prelude.{◌≡◌, OnOk, IfOk, None};
-ghost use Rattle.sect_cert.specs.steps.Readers.{ReadsAs};
-ghost use Rattle.sect_cert.specs.steps.Subjects.{path_of as path_in};
+ghost use Rattle.sect_cert.specs.steps.{Readers.{ReadsAs}, Subjects.{path_of as path_in}};
 
 use crate::fault::LineFault;
 use crate::shared_path::SharedPath;

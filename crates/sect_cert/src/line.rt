@@ -1,7 +1,6 @@
 //! One line after the first.
 
-ghost use Rattle.std.specs.Prelude.{◌≡◌, ◌++◌, codes, IsTrue};
-ghost use Rattle.std.specs.Fmt.{decimal};
+ghost use Rattle.std.specs.{Prelude.{◌≡◌, ◌++◌, codes, IsTrue}, Fmt.{decimal}};
 ghost use Rattle.sect_cert.specs.Parts.{parts};
 ghost use Rattle.sect_cert.specs.steps.Readers.{ReadsAs};
 ghost use Rattle.sect_cert.specs.steps.Reading.{line_of as line_at, only_number as only_number_at};

@@ -1,8 +1,7 @@
 //! The words of a list of locks, read one after another.
 
 ghost use Rattle.std.specs.Prelude.{◌≡◌};
-ghost use Rattle.sect_cert.specs.steps.Readers.{ReadsAs};
-ghost use Rattle.sect_cert.specs.steps.Numbers.{ends_with as ends_with_of};
+ghost use Rattle.sect_cert.specs.steps.{Readers.{ReadsAs}, Numbers.{ends_with as ends_with_of}};
 ghost use Rattle.sect_cert.specs.steps.Lists.{place_behind, StepsTo, step_of, list_of};
 
 use crate::fault::LineFault;

@@ -1,8 +1,7 @@
 //! The parts of a text that is cut at a byte.
 
 ghost use Rattle.std.specs.Prelude.{◌≡◌, ◌++◌, ◌∷◌, [], IsTrue, ◌↔◌, length, MatchOption, IfSome, take_while, not};
-ghost use Rattle.std.specs.Prelude.{◌==◌};
-ghost use Rattle.std.specs.Option.{option_copied};
+ghost use Rattle.std.specs.{Prelude.{◌==◌}, Option.{option_copied}};
 ghost use Rattle.sect_cert.specs.Parts.{parts, parts_left};
 
 use std::marker::Model;

@@ -1,8 +1,7 @@
 //! A certificate, line by line.
 
 ghost use Rattle.std.specs.Prelude.{◌≡◌};
-ghost use Rattle.sect_cert.specs.steps.Again.{IsAfter};
-ghost use Rattle.sect_cert.specs.steps.Certificates.{is_rising};
+ghost use Rattle.sect_cert.specs.steps.{Again.{IsAfter}, Certificates.{is_rising}};
 ghost use Rattle.sect_cert.specs.steps.Stages.{GoesTo, ClosesTo, begin_of, close_of, node_of, chain_of, stage_of};
 ghost use Rattle.sect_cert.specs.steps.Stages.{later_of, header_of, read_of, is_header_due};
 

@@ -1,15 +1,13 @@
 //! A certificate as text.
 
 ghost use Rattle.std.specs.Prelude.{◌≡◌, ◌++◌, ◌+◌, ◌<◌, ◌∷◌, [], List, Result, OnOk, IfOk, length, codes};
+ghost use Rattle.std.specs.{Fmt.{decimal}, List.{flat_map}};
 ghost use Rattle.sect_cert.specs.declared.lock.CertLock.{CertLock};
-ghost use Rattle.std.specs.Fmt.{decimal};
-ghost use Rattle.std.specs.List.{flat_map};
 ghost use Rattle.sect_cert.specs.Spelling.{base_text, path_text, list_words, chain_words};
-ghost use Rattle.sect_cert.specs.Texts.{HasText, header_text, certificate_text};
-ghost use Rattle.sect_cert.specs.Verdicts.{Judges, Gives};
-ghost use Rattle.sect_cert.specs.steps.Writes.{IsListBefore, IsLockBefore, arrow_before};
-ghost use Rattle.sect_cert.specs.steps.Writes.{spaced, field_text, lock_text, next_lock};
-ghost use Rattle.sect_cert.specs.steps.Writes.{fed_line, chain_text, nodes_text, section_text, sections_text};
+ghost use Rattle.sect_cert.specs.{Texts.{HasText, header_text, certificate_text}, Verdicts.{Judges, Gives}};
+ghost use Rattle.sect_cert.specs.steps.Writes.{IsListBefore, IsLockBefore, arrow_before, spaced, field_text, lock_text};
+ghost use Rattle.sect_cert.specs.steps.Writes.{next_lock, fed_line, chain_text, nodes_text, section_text};
+ghost use Rattle.sect_cert.specs.steps.Writes.{sections_text};
 ghost use Rattle.sect_cert.specs.declared.lock.CertLock.TheVariants as lock;
 ghost use Rattle.sect_cert.specs.declared.line.CertLine.TheVariants as line;
 

@@ -1,32 +1,23 @@
 -- Steps that are added in order.
 use Rattle.std.proofs.Common.{◌≡◌, ◌⊎◌, ℕ, ◌+◌, ◌<◌, List, [], ◌∷◌, ◌++◌, Option, Some, None, Bool, true, false, length}
 use Rattle.std.proofs.Common.{zero, suc, take, map, inl, inr, refl, sym, ap, ◌∙◌, subst, arith}
+use Rattle.std.proofs.{lemmas.List.{map-append, length-map}, lemmas.Option.{slice_get_within, get_or_from_slice_get}}
 use Rattle.std.specs.Prelude.{slice_get, slice_index_or, if◌then◌else◌}
-use Rattle.std.proofs.lemmas.List.{map-append, length-map}
-use Rattle.std.proofs.lemmas.Option.{slice_get_within, get_or_from_slice_get}
 use Rattle.sect_lemmas.specs.Lists.{Has}
-use Rattle.sect_lemmas.proofs.Listing.{Has-map}
-use Rattle.sect_lemmas.proofs.Places.{at_of, pushed_at, Has-index}
-use Rattle.sect_graph.specs.declared.flow.Node.{Node}
-use Rattle.sect_graph.specs.Paths.{LeadsTo}
-use Rattle.sect_names.specs.declared.link.Link.{Link}
-use Rattle.sect_names.specs.declared.lock.Lock.{Lock}
-use Rattle.sect_names.specs.declared.lock.Lock.TheVariants as lock
-use Rattle.sect_names.specs.Schemes.{SchemeView}
-use Rattle.sect_names.specs.Order.{AreInOrder}
-use Rattle.sect_names.specs.Carrying.{CarriedBack}
-use Rattle.sect_names.specs.Chains.{link, IsGeneratedAt}
+use Rattle.sect_lemmas.proofs.{Listing.{Has-map}, Places.{at_of, pushed_at, Has-index}}
+use Rattle.sect_graph.specs.{declared.flow.Node.{Node}, Paths.{LeadsTo}}
+use Rattle.sect_names.specs.{declared.link.Link.{Link}, declared.lock.Lock.{Lock}, Schemes.{SchemeView}}
+use Rattle.sect_names.specs.{Order.{AreInOrder}, Carrying.{CarriedBack}, Chains.{link, IsGeneratedAt}}
 use Rattle.sect_infer.specs.Numberings.{NumberingView, AreNumbers, IsNumbered, Finds, IsOrderOf, lock_at}
 use Rattle.sect_infer.proofs.shared.Bounding.{named}
-use Rattle.sect_chains.specs.declared.keep.KeptLink.{KeptLink}
-use Rattle.sect_chains.specs.Chains.{StepBefore}
+use Rattle.sect_chains.specs.{declared.keep.KeptLink.{KeptLink}, Chains.{StepBefore}}
 use Rattle.sect_chains.specs.steps.Keeping.{KeptView, step_of, is_new, keep_one, keep_each}
 use Rattle.sect_chains.specs.steps.Working.{link_of, links_of, nexts_of, IsKept, IsReason}
 use Rattle.sect_chains.specs.steps.Ordering.{CameBefore, AreSorted, AllCameBefore, IsInTime, Adds, IsBelow}
 use Rattle.sect_chains.proofs.Carrying.{carried_lock}
 use Rattle.sect_chains.proofs.Growing.{grows_one, grows_at, grows_extended, reason_more, links_same, kept_numbers}
-use Rattle.sect_chains.proofs.Growing.{same_link}
-use Rattle.sect_chains.proofs.Places.{in_front}
+use Rattle.sect_chains.proofs.{Growing.{same_link}, Places.{in_front}}
+use Rattle.sect_names.specs.declared.lock.Lock.TheVariants as lock
 
 -- of two steps that link to the same one the first came before the other
 pub by_place : (o : Option ℕ) (a b : Link) → StepBefore a b → CameBefore o a o b

@@ -1,26 +1,16 @@
 -- Steps whose locks are generated, and steps that link to others.
-use Rattle.std.proofs.Common.{◌≡◌, ◌↔◌, ◌⊎◌, ℕ, ◌+◌, ◌<◌, ◌≤◌, List, [], Option, Some, None, inl, inr, sym}
-use Rattle.std.proofs.Common.{◌∙◌, subst, take, length, get_or, arith}
-use Rattle.std.specs.Prelude.{slice_get}
-use Rattle.std.proofs.lemmas.Bool.{cases_lt}
-use Rattle.std.proofs.lemmas.List.{take_all}
+use Rattle.std.proofs.Common.{◌≡◌, ◌↔◌, ◌⊎◌, ℕ, ◌+◌, ◌<◌, ◌≤◌, List, [], Option, Some, None, inl, inr, sym, ◌∙◌, subst}
+use Rattle.std.proofs.{Common.{take, length, get_or, arith}, lemmas.Bool.{cases_lt}, lemmas.List.{take_all}}
 use Rattle.std.proofs.lemmas.Option.{slice_get_within}
+use Rattle.std.specs.Prelude.{slice_get}
 use Rattle.sect_lemmas.specs.Lists.{Has}
-use Rattle.sect_lemmas.proofs.Membership.{Has-get_or}
-use Rattle.sect_lemmas.proofs.Places.{one_at}
-use Rattle.sect_graph.specs.declared.flow.Node.{Node}
-use Rattle.sect_graph.specs.Paths.{LeadsTo}
-use Rattle.sect_names.specs.declared.link.Link.{Link}
-use Rattle.sect_names.specs.declared.lock.Lock.{Lock}
-use Rattle.sect_names.specs.Schemes.{SchemeView}
-use Rattle.sect_names.specs.Carrying.{Generated, CarriedBack}
-use Rattle.sect_names.specs.Chains.{link, IsGeneratedAt, LinksTo}
-use Rattle.sect_lemmas.proofs.Making.{last_of}
-use Rattle.sect_infer.specs.Numberings.{NumberingView, HasLock, IsNumbered, Finds}
-use Rattle.sect_infer.specs.Numberings.{lock_at, IsOrderOf}
+use Rattle.sect_lemmas.proofs.{Membership.{Has-get_or}, Places.{one_at}, Making.{last_of}}
+use Rattle.sect_graph.specs.{declared.flow.Node.{Node}, Paths.{LeadsTo}, Predecessors.{AreBefore}}
+use Rattle.sect_names.specs.{declared.link.Link.{Link}, declared.lock.Lock.{Lock}, Schemes.{SchemeView}}
+use Rattle.sect_names.specs.{Carrying.{Generated, CarriedBack}, Chains.{link, IsGeneratedAt, LinksTo}}
+use Rattle.sect_infer.specs.Numberings.{NumberingView, HasLock, IsNumbered, Finds, lock_at, IsOrderOf}
 use Rattle.sect_infer.proofs.shared.Bounding.{named}
 use Rattle.sect_chains.specs.steps.Keeping.{KeptView, step_of, keep_one, keep_each}
-use Rattle.sect_graph.specs.Predecessors.{AreBefore}
 use Rattle.sect_chains.specs.steps.Working.{links_of, IsFoundAt, IsKept, Grows, IsGeneratedBy, IsGeneratedBelow}
 use Rattle.sect_chains.proofs.Growing.{grows_none, grows_as, grows_then, grows_at, grows_extended, grows_one}
 use Rattle.sect_chains.proofs.Growing.{grows_each, same_link}

@@ -1,19 +1,14 @@
 -- Where the chain of a lock begins.
 use Rattle.std.proofs.Common.{◌≡◌, ℕ, ◌<◌, List, Option, Some, None, length, get_or, refl, sym, ap, ◌∙◌, subst}
-use Rattle.std.specs.Prelude.{slice_get, MatchOption}
-use Rattle.std.specs.Option.{IsSome, is_some}
 use Rattle.std.proofs.lemmas.Option.{slice_get_within, get_or_from_slice_get}
+use Rattle.std.specs.{Prelude.{slice_get, MatchOption}, Option.{IsSome, is_some}}
 use Rattle.sect_lemmas.specs.Lists.{Has}
-use Rattle.sect_lemmas.proofs.Membership.{Has-unmap, Has-slice_get}
-use Rattle.sect_lemmas.proofs.Places.{Has-index}
-use Rattle.sect_names.specs.declared.lock.Lock.{Lock}
-use Rattle.sect_names.specs.Chains.{link}
+use Rattle.sect_lemmas.proofs.{Membership.{Has-unmap, Has-slice_get}, Places.{Has-index}}
+use Rattle.sect_names.specs.{declared.lock.Lock.{Lock}, Chains.{link}}
 use Rattle.sect_infer.specs.Numbers.{AreApart}
-use Rattle.sect_infer.proofs.shared.Apart.{apart_one}
-use Rattle.sect_infer.proofs.shared.Bounding.{named}
+use Rattle.sect_infer.proofs.shared.{Apart.{apart_one}, Bounding.{named}}
 use Rattle.sect_chains.specs.declared.keep.KeptLink.{KeptLink}
-use Rattle.sect_chains.specs.steps.Starting.{AreStarts}
-use Rattle.sect_chains.specs.steps.Working.{link_of, links_of}
+use Rattle.sect_chains.specs.steps.{Starting.{AreStarts}, Working.{link_of, links_of}}
 use Rattle.sect_chains.proofs.Growing.{link_is}
 
 -- what is found where it is there

@@ -1,25 +1,18 @@
 -- The order of steps, and the first chain of a lock: it is the one whose steps were kept first.
-use Rattle.std.proofs.Common.{◌≡◌, ◌⊎◌, ℕ, zero, suc, ◌+◌, ◌<◌, List, [], ◌∷◌, Option, Some, None, length, inl, inr, refl}
-use Rattle.std.proofs.Common.{sym, ap, ◌∙◌, subst, arith}
+use Rattle.std.proofs.Common.{◌≡◌, ◌⊎◌, ℕ, zero, suc, ◌+◌, ◌<◌, List, [], ◌∷◌, Option, Some, None, length, inl, inr}
+use Rattle.std.proofs.{Common.{refl, sym, ap, ◌∙◌, subst, arith}, lemmas.Option.{slice_get_within}}
 use Rattle.std.specs.Prelude.{slice_get}
-use Rattle.std.proofs.lemmas.Option.{slice_get_within}
 use Rattle.sect_lemmas.proofs.Places.{at_of, one_at}
-use Rattle.sect_graph.specs.declared.flow.Node.{Node}
-use Rattle.sect_graph.specs.Paths.{LeadsTo}
-use Rattle.sect_names.specs.declared.link.Link.{Link}
-use Rattle.sect_names.specs.declared.lock.Lock.{Lock}
-use Rattle.sect_names.specs.Schemes.{SchemeView}
-use Rattle.sect_names.specs.Locks.{Covers}
+use Rattle.sect_graph.specs.{declared.flow.Node.{Node}, Paths.{LeadsTo}}
+use Rattle.sect_names.specs.{declared.link.Link.{Link}, declared.lock.Lock.{Lock}, Schemes.{SchemeView}, Locks.{Covers}}
 use Rattle.sect_names.specs.Chains.{link, IsGeneratedAt, LinksTo, AreLinked, IsChain}
-use Rattle.sect_names.proofs.shared.Covering.{covers_trans}
-use Rattle.sect_names.proofs.shared.Ordering.{lock_then}
+use Rattle.sect_names.proofs.shared.{Covering.{covers_trans}, Ordering.{lock_then}}
 use Rattle.sect_infer.specs.Numbers.{AreApart}
 use Rattle.sect_infer.proofs.shared.Apart.{apart_one}
 use Rattle.sect_chains.specs.Chains.{StepBefore, StepsBefore, IsFirstChain}
 use Rattle.sect_chains.specs.steps.Trails.{HasTrail, RespectCover, LeadOn, AreBehind, AreFrom, AreFromEntry}
 use Rattle.sect_chains.specs.steps.Ordering.{CameBefore, AreSorted, IsInTime}
-use Rattle.sect_chains.proofs.Trails.{behind_linked, entry_chain}
-use Rattle.sect_chains.proofs.Growing.{same_link}
+use Rattle.sect_chains.proofs.{Trails.{behind_linked, entry_chain}, Growing.{same_link}}
 
 step_then : (a b c : Link) → StepBefore a b → StepBefore b c → StepBefore a c
 step_then a b c (inl h) (inl k) = inl (omega (arith, h, k))

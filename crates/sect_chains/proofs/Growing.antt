@@ -1,25 +1,17 @@
 -- What is found and kept grows.
 use Rattle.std.proofs.Common.{◌≡◌, ◌⊎◌, ℕ, ◌<◌, List, [], ◌∷◌, ◌++◌, Option, Some, None, Bool, true, false, inl, inr}
 use Rattle.std.proofs.Common.{refl, sym, ap, ◌∙◌, subst, length, append_assoc, arith}
-use Rattle.std.specs.Prelude.{slice_get, slice_index_or, slice_set, if◌then◌else◌}
 use Rattle.std.proofs.lemmas.List.{append-nil, map-append, length-set}
-use Rattle.std.specs.Option.{option_map}
 use Rattle.std.proofs.lemmas.Option.{slice_get_within, get_or_from_slice_get, slice_get-map}
+use Rattle.std.specs.{Prelude.{slice_get, slice_index_or, slice_set, if◌then◌else◌}, Option.{option_map}}
 use Rattle.sect_lemmas.specs.Lists.{Has}
-use Rattle.sect_lemmas.proofs.Membership.{Has-cases, Has-left, Has-right, Has-slice_get, Has-unmap}
-use Rattle.sect_lemmas.proofs.Places.{one_at}
+use Rattle.sect_lemmas.proofs.{Membership.{Has-cases, Has-left, Has-right, Has-slice_get, Has-unmap}, Places.{one_at}}
 use Rattle.sect_graph.specs.declared.flow.Node.{Node}
-use Rattle.sect_names.specs.declared.link.Link.{Link}
-use Rattle.sect_names.specs.declared.lock.Lock.{Lock}
-use Rattle.sect_names.specs.declared.lock.Lock.TheVariants as lock
-use Rattle.sect_names.specs.Schemes.{SchemeView}
-use Rattle.sect_names.specs.Chains.{link}
+use Rattle.sect_names.specs.{declared.link.Link.{Link}, declared.lock.Lock.{Lock}, Schemes.{SchemeView}, Chains.{link}}
 use Rattle.sect_names.proofs.shared.Covering.{covers_refl, covers_trans}
 use Rattle.sect_infer.specs.Numbers.{AreApart, has_number, with_number}
-use Rattle.sect_infer.specs.Numberings.{NumberingView, HasLock, AreNumbers, IsNumbering, Extends, is_under}
-use Rattle.sect_infer.specs.Numberings.{lock_at}
-use Rattle.sect_infer.proofs.shared.Apart.{apart_push, apart_one, number_tells, number_absent}
-use Rattle.sect_infer.proofs.shared.Bounding.{named}
+use Rattle.sect_infer.specs.Numberings.{NumberingView, HasLock, AreNumbers, IsNumbering, Extends, is_under, lock_at}
+use Rattle.sect_infer.proofs.shared.{Apart.{apart_push, apart_one, number_tells, number_absent}, Bounding.{named}}
 use Rattle.sect_infer.proofs.shared.Extending.{extends_none, extends_then, extends_at, extends_back, extends_numbers}
 use Rattle.sect_infer.proofs.shared.Undone.{under_is}
 use Rattle.sect_chains.specs.declared.keep.KeptLink.{KeptLink}
@@ -27,9 +19,8 @@ use Rattle.sect_chains.specs.steps.Keeping.{KeptView, kept, step_of, is_new, kee
 use Rattle.sect_chains.specs.steps.Trails.{HasTrail, LeadOn}
 use Rattle.sect_chains.specs.steps.Working.{link_of, links_of, nexts_of, IsFoundAt, IsCoveredAt, IsKept, IsReason}
 use Rattle.sect_chains.specs.steps.Working.{Grows}
-use Rattle.sect_chains.proofs.Keeping.{found_new, new_told, old_told}
-use Rattle.sect_chains.proofs.Places.{in_front}
-use Rattle.sect_chains.proofs.Trails.{leads_push}
+use Rattle.sect_chains.proofs.{Keeping.{found_new, new_told, old_told}, Places.{in_front}, Trails.{leads_push}}
+use Rattle.sect_names.specs.declared.lock.Lock.TheVariants as lock
 
 -- a step is its node and its lock
 pub same_link : (x : Link) (j : ℕ) (l : Lock) → x.node ≡ j → x.lock ≡ l → x ≡ link j l

@@ -1,9 +1,8 @@
 -- Steps that are kept, one after another.
 use Rattle.std.proofs.Common.{◌≡◌, ◌↔◌, ◌⊎◌, ℕ, ◌+◌, ◌<◌, List, [], ◌∷◌, ◌++◌, Option, Bool, true, false, not, length}
 use Rattle.std.proofs.Common.{get_or, set, take, inl, inr, refl, sym, ap, ◌∙◌, subst, true≢false}
+use Rattle.std.proofs.{lemmas.Bool.{cases_eq}, lemmas.List.{get_or-set_same, get_or-set_other, length-set, take_more}}
 use Rattle.std.specs.Prelude.{slice_index_or, slice_set, ◌&&◌}
-use Rattle.std.proofs.lemmas.Bool.{cases_eq}
-use Rattle.std.proofs.lemmas.List.{get_or-set_same, get_or-set_other, length-set, take_more}
 use Rattle.sect_lemmas.specs.Lists.{Has}
 use Rattle.sect_infer.specs.Numbers.{with_number}
 use Rattle.sect_infer.proofs.shared.Apart.{with_has}

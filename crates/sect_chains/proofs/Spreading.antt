@@ -1,25 +1,17 @@
 -- Steps that are added in order, node after node and step after step.
-use Rattle.std.proofs.Common.{◌≡◌, ◌⊎◌, ℕ, ◌+◌, ◌<◌, ◌≤◌, List, [], Option, Some, None, inl, inr, sym, ap}
-use Rattle.std.proofs.Common.{◌∙◌, subst, take, length, get_or, arith}
-use Rattle.std.specs.Prelude.{slice_get, ⊤}
-use Rattle.std.proofs.lemmas.Bool.{cases_lt}
-use Rattle.std.proofs.lemmas.List.{take_all}
+use Rattle.std.proofs.Common.{◌≡◌, ◌⊎◌, ℕ, ◌+◌, ◌<◌, ◌≤◌, List, [], Option, Some, None, inl, inr, sym, ap, ◌∙◌, subst}
+use Rattle.std.proofs.{Common.{take, length, get_or, arith}, lemmas.Bool.{cases_lt}, lemmas.List.{take_all}}
 use Rattle.std.proofs.lemmas.Option.{slice_get_within, slice_get-get_or}
+use Rattle.std.specs.Prelude.{slice_get, ⊤}
 use Rattle.sect_lemmas.specs.Lists.{Has}
-use Rattle.sect_lemmas.proofs.Making.{last_of, so_far}
-use Rattle.sect_lemmas.proofs.Membership.{Has-get_or}
-use Rattle.sect_lemmas.proofs.Places.{Has-index, at_of, one_at}
-use Rattle.sect_graph.specs.declared.flow.Node.{Node}
-use Rattle.sect_graph.specs.Predecessors.{AreBefore, IsAscending}
-use Rattle.sect_names.specs.declared.link.Link.{Link}
-use Rattle.sect_names.specs.declared.lock.Lock.{Lock}
-use Rattle.sect_names.specs.Schemes.{SchemeView}
-use Rattle.sect_names.specs.Carrying.{CarriedBack}
-use Rattle.sect_names.specs.Chains.{link, IsGeneratedAt, LinksTo}
+use Rattle.sect_lemmas.proofs.{Making.{last_of, so_far}, Membership.{Has-get_or}, Places.{Has-index, at_of, one_at}}
+use Rattle.sect_graph.specs.{declared.flow.Node.{Node}, Predecessors.{AreBefore, IsAscending}}
+use Rattle.sect_names.specs.{declared.link.Link.{Link}, declared.lock.Lock.{Lock}, Schemes.{SchemeView}}
+use Rattle.sect_names.specs.{Carrying.{CarriedBack}, Chains.{link, IsGeneratedAt, LinksTo}}
 use Rattle.sect_chains.specs.declared.work.Trail.{Trail}
 use Rattle.sect_chains.specs.steps.Working.{IsGeneratedBy, IsGeneratedBelow}
-use Rattle.sect_chains.specs.steps.Ordering.{AllCameBefore, IsInTime, links_in, nexts_in, IsInOrder, AddsTo}
-use Rattle.sect_chains.specs.steps.Ordering.{LinkBelow, BeginsInOrder}
+use Rattle.sect_chains.specs.steps.Ordering.{AllCameBefore, IsInTime, links_in, nexts_in, IsInOrder, AddsTo, LinkBelow}
+use Rattle.sect_chains.specs.steps.Ordering.{BeginsInOrder}
 use Rattle.sect_chains.proofs.Adding.{adds_none, adds_as, adds_then, time_more, before_below, before_beside, below_more}
 use Rattle.sect_chains.proofs.Adding.{below_here, below_none, before_node, link_there, none_kept, none_sorted, taken_at}
 use Rattle.sect_chains.proofs.Carrying.{IsOfEnd, LinksFromFirst, links_next, links_all}

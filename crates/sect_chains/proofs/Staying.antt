@@ -1,26 +1,18 @@
 -- Locks that stay where they are carried back.
 use Rattle.std.proofs.Common.{◌≡◌, ◌↔◌, ◌<◌, ℕ, List, [], ◌∷◌, Some, length, inl, inr, refl, sym, ap, ◌∙◌, subst}
-use Rattle.std.specs.Prelude.{slice_get}
 use Rattle.std.proofs.lemmas.Option.{slice_get_within}
+use Rattle.std.specs.Prelude.{slice_get}
 use Rattle.sect_lemmas.specs.Lists.{Has}
-use Rattle.sect_lemmas.proofs.Membership.{Has-slice_get}
-use Rattle.sect_lemmas.proofs.Places.{one_at}
+use Rattle.sect_lemmas.proofs.{Membership.{Has-slice_get}, Places.{one_at}}
 use Rattle.sect_graph.specs.declared.flow.Node.{Node}
 use Rattle.sect_types.specs.declared.expansion.action.Label.{Label}
-use Rattle.sect_names.specs.declared.lock.Lock.{Lock}
-use Rattle.sect_names.specs.Schemes.{SchemeView}
-use Rattle.sect_names.specs.Carrying.{CarriedBack}
-use Rattle.sect_names.specs.Chains.{link}
-use Rattle.sect_names.specs.Laws.{AreLawful}
-use Rattle.sect_names.specs.Locks.{IsLockOf}
-use Rattle.sect_names.specs.declared.link.Link.{Link}
+use Rattle.sect_names.specs.{declared.lock.Lock.{Lock}, Schemes.{SchemeView}, Carrying.{CarriedBack}, Chains.{link}}
+use Rattle.sect_names.specs.{Laws.{AreLawful}, Locks.{IsLockOf}, declared.link.Link.{Link}}
 use Rattle.sect_infer.specs.Numberings.{NumberingView, IsNumbering, Finds}
 use Rattle.sect_infer.proofs.shared.Extending.{extends_none}
 use Rattle.sect_chains.specs.declared.keep.KeptLink.{KeptLink}
-use Rattle.sect_chains.specs.steps.Keeping.{KeptView}
-use Rattle.sect_chains.specs.steps.Working.{IsKept, links_of}
-use Rattle.sect_chains.proofs.Growing.{kept_numbers, step_found, lock_is}
-use Rattle.sect_chains.proofs.Working.{trail_lock}
+use Rattle.sect_chains.specs.steps.{Keeping.{KeptView}, Working.{IsKept, links_of}}
+use Rattle.sect_chains.proofs.{Growing.{kept_numbers, step_found, lock_is}, Working.{trail_lock}}
 
 -- a lock that is carried back to itself alone is found by its number
 pub finds_same : (s : SchemeView) (t : ℕ) (a : NumberingView) (n : ℕ) (l : Lock) (label : Label) → IsNumbering s a

@@ -1,13 +1,10 @@
 -- Which step each of the kept ones links to, and the chains that come of it.
 use Rattle.std.proofs.Common.{◌≡◌, ℕ, List, [], ◌∷◌, ◌++◌, Option, Some, None, length, length-append, inl, inr, sym}
-use Rattle.std.proofs.Common.{subst, arith, append_assoc}
+use Rattle.std.proofs.{Common.{subst, arith, append_assoc}, lemmas.Option.{slice_get_within}}
 use Rattle.std.specs.Prelude.{slice_get}
-use Rattle.std.proofs.lemmas.Option.{slice_get_within}
 use Rattle.sect_lemmas.proofs.Places.{at_of, pushed_at}
 use Rattle.sect_graph.specs.declared.flow.Node.{Node}
-use Rattle.sect_names.specs.declared.link.Link.{Link}
-use Rattle.sect_names.specs.declared.lock.Lock.{Lock}
-use Rattle.sect_names.specs.Schemes.{SchemeView}
+use Rattle.sect_names.specs.{declared.link.Link.{Link}, declared.lock.Lock.{Lock}, Schemes.{SchemeView}}
 use Rattle.sect_names.specs.Chains.{link, LinksTo, AreLinked, IsChain}
 use Rattle.sect_chains.specs.steps.Working.{IsReason}
 use Rattle.sect_chains.specs.steps.Trails.{LeadsOn, LeadOn, GoBack, AreBehind, AreFrom, AreFromEntry}

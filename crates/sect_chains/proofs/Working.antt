@@ -1,28 +1,18 @@
 -- The worklist: what it keeps, where it ends, and that it ends.
 use Rattle.std.proofs.Common.{◌≡◌, ℕ, ◌+◌, ◌<◌, ◌≤◌, List, [], ◌∷◌, map, length, length-append, Some, inl, inr, ap}
-use Rattle.std.proofs.Common.{subst, arith}
-use Rattle.std.specs.Prelude.{slice_get}
-use Rattle.std.specs.List.{flat_map}
-use Rattle.std.proofs.lemmas.Bool.{cases_lt}
-use Rattle.std.proofs.lemmas.List.{length-map}
+use Rattle.std.proofs.{Common.{subst, arith}, lemmas.Bool.{cases_lt}, lemmas.List.{length-map}}
 use Rattle.std.proofs.lemmas.Option.{slice_get_within}
-use Rattle.sect_lemmas.proofs.Places.{Has-index, at_of, one_at}
+use Rattle.std.specs.{Prelude.{slice_get}, List.{flat_map}}
+use Rattle.sect_lemmas.proofs.{Places.{Has-index, at_of, one_at}, Listing.{Has-map, Has-flat_map, below, Has-below}}
 use Rattle.sect_graph.specs.declared.flow.Node.{Node}
-use Rattle.sect_names.specs.declared.link.Link.{Link}
-use Rattle.sect_names.specs.contracts.link.LinkEq.TheImpl.Laws.{laws-law as the_link_laws}
-use Rattle.sect_names.specs.declared.lock.Lock.{Lock}
-use Rattle.sect_names.specs.Schemes.{SchemeView}
-use Rattle.sect_names.specs.Locks.{IsLockOf}
-use Rattle.sect_names.specs.Chains.{link, IsGeneratedAt, LinksTo, AreLinked}
-use Rattle.sect_names.proofs.shared.Covering.{covers_trans}
-use Rattle.sect_lemmas.proofs.Listing.{Has-map, Has-flat_map, below, Has-below}
-use Rattle.sect_names.proofs.shared.Finiteness.{all_locks, finite_locks}
+use Rattle.sect_names.specs.{declared.link.Link.{Link}, contracts.link.LinkEq.TheImpl.Laws.{laws-law as the_link_laws}}
+use Rattle.sect_names.specs.{declared.lock.Lock.{Lock}, Schemes.{SchemeView}, Locks.{IsLockOf}}
+use Rattle.sect_names.specs.{Chains.{link, IsGeneratedAt, LinksTo, AreLinked}, Laws.{AreLawful}}
+use Rattle.sect_names.proofs.shared.{Covering.{covers_trans}, Finiteness.{all_locks, finite_locks}}
 use Rattle.sect_names.proofs.shared.Telling.{link_tells}
 use Rattle.sect_infer.specs.Numberings.{NumberingView}
 use Rattle.sect_infer.proofs.shared.Apart.{apart_short}
-use Rattle.sect_chains.specs.steps.Keeping.{KeptView}
-use Rattle.sect_names.specs.Laws.{AreLawful}
-use Rattle.sect_chains.specs.steps.Trails.{RespectCover}
+use Rattle.sect_chains.specs.steps.{Keeping.{KeptView}, Trails.{RespectCover}}
 use Rattle.sect_chains.specs.steps.Working.{link_of, links_of, IsFoundAt, IsCoveredAt, IsKept, Grows}
 use Rattle.sect_chains.proofs.Growing.{kept_trail, grows_found, grows_at}
 

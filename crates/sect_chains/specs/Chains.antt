@@ -1,12 +1,8 @@
 -- The chains of a section's locks. `chains` says so of what it gives.
-use Rattle.std.specs.Prelude.{◌≡◌, ◌<◌, ◌⊎◌, ⊤, ℕ, List, [], ◌∷◌}
-use Rattle.std.specs.List.{AllZip}
+use Rattle.std.specs.{Prelude.{◌≡◌, ◌<◌, ◌⊎◌, ⊤, ℕ, List, [], ◌∷◌}, List.{AllZip}}
 use Rattle.sect_graph.specs.declared.flow.Node.{Node}
-use Rattle.sect_names.specs.declared.link.Link.{Link}
-use Rattle.sect_names.specs.declared.lock.Lock.{Lock}
-use Rattle.sect_names.specs.Schemes.{SchemeView}
-use Rattle.sect_names.specs.Order.{LockBefore}
-use Rattle.sect_names.specs.Chains.{IsChain}
+use Rattle.sect_names.specs.{declared.link.Link.{Link}, declared.lock.Lock.{Lock}, Schemes.{SchemeView}}
+use Rattle.sect_names.specs.{Order.{LockBefore}, Chains.{IsChain}}
 
 -- a step stands before another: by its node, and at one node by the canonical order of locks
 abbrev pub StepBefore : Link → Link → Type 0

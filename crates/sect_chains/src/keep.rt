@@ -2,8 +2,7 @@
 
 ghost use Rattle.std.specs.Prelude.{◌≡◌, ◌<◌, ℕ, List, length, OnOk};
 ghost use Rattle.sect_lemmas.specs.Lists.{Has};
-ghost use Rattle.sect_infer.specs.Numbers.{AreApart};
-ghost use Rattle.sect_infer.specs.Numberings.{AreNumbers, IsOrderOf};
+ghost use Rattle.sect_infer.specs.{Numbers.{AreApart}, Numberings.{AreNumbers, IsOrderOf}};
 ghost use Rattle.sect_chains.specs.steps.Keeping.{kept, is_new, keep_one, keep_each};
 
 use sect_infer::{Numbering, Numbers, in_order};

@@ -3,20 +3,13 @@
 ghost use Rattle.std.specs.Prelude.{◌≡◌, ◌<◌, ◌≤◌, List, length, slice_get, Some, IfOk};
 ghost use Rattle.sect_lemmas.specs.Lists.{Has};
 ghost use Rattle.sect_types.specs.Sections.{SectionView, sections_of};
-ghost use Rattle.sect_graph.specs.declared.flow.Node.{Node};
-ghost use Rattle.sect_names.specs.declared.lock.Lock.{Lock};
-ghost use Rattle.sect_names.specs.Needed.{end_locks, end_of};
-ghost use Rattle.sect_names.specs.Chains.{link};
-ghost use Rattle.sect_infer.specs.Sets.{AreLocksOf};
-ghost use Rattle.sect_chains.specs.Chains.{AreChains};
+ghost use Rattle.sect_graph.specs.{declared.flow.Node.{Node}, Predecessors.{StaysWithin}};
+ghost use Rattle.sect_names.specs.{declared.lock.Lock.{Lock}, Needed.{end_locks, end_of}, Chains.{link}};
 ghost use Rattle.sect_names.specs.Laws.{AreLawful};
-ghost use Rattle.sect_chains.specs.steps.Trails.{RespectCover, AreTops};
-ghost use Rattle.sect_graph.specs.Predecessors.{StaysWithin};
-ghost use Rattle.sect_chains.specs.steps.Trails.{GoBack, AreFromEntry};
-ghost use Rattle.sect_chains.specs.steps.Starting.{AreStarts};
+ghost use Rattle.sect_infer.specs.{Sets.{AreLocksOf}, Numbers.{AreApart}};
+ghost use Rattle.sect_chains.specs.{Chains.{AreChains}, declared.keep.KeptLink.{KeptLink}};
+ghost use Rattle.sect_chains.specs.steps.{Trails.{RespectCover, AreTops, GoBack, AreFromEntry}, Starting.{AreStarts}};
 ghost use Rattle.sect_chains.specs.steps.Working.{links_of, nexts_of};
-ghost use Rattle.sect_chains.specs.declared.keep.KeptLink.{KeptLink};
-ghost use Rattle.sect_infer.specs.Numbers.{AreApart};
 
 use crate::chain::Chain;
 use crate::starts::starts_of;

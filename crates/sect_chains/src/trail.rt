@@ -4,10 +4,9 @@ ghost use Rattle.std.specs.Prelude.{◌≡◌, ◌<◌, ◌≤◌, length, slice
 ghost use Rattle.sect_lemmas.specs.Lists.{Has};
 ghost use Rattle.sect_chains.specs.declared.keep.KeptLink.{KeptLink};
 ghost use Rattle.sect_names.specs.Laws.{AreLawful};
-ghost use Rattle.sect_chains.specs.steps.Trails.{RespectCover, GoBack, AreFrom};
-ghost use Rattle.sect_graph.specs.Predecessors.{StaysWithin};
-ghost use Rattle.sect_chains.specs.steps.Working.{links_of, nexts_of};
+ghost use Rattle.sect_chains.specs.steps.{Trails.{RespectCover, GoBack, AreFrom}, Working.{links_of, nexts_of}};
 ghost use Rattle.sect_chains.specs.steps.Ordering.{IsSearched};
+ghost use Rattle.sect_graph.specs.Predecessors.{StaysWithin};
 
 use crate::work::{Searched, Trail, carry, generated};
 use sect_graph::predecessors_of;

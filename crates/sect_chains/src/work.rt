@@ -1,21 +1,14 @@
 //! The search for what is needed at the nodes of a section's graph (Kildall).
 
-ghost use Rattle.std.specs.Prelude.{◌≡◌, ◌<◌, ◌≤◌, ⊤, ℕ, [], length, slice_get, Some, None, slice_index_or};
-ghost use Rattle.std.specs.Prelude.{IfOk, OnOk};
+ghost use Rattle.std.specs.Prelude.{◌≡◌, ◌<◌, ◌≤◌, ⊤, ℕ, [], length, slice_get, Some, None, slice_index_or, IfOk, OnOk};
 ghost use Rattle.sect_lemmas.specs.Lists.{Has};
-ghost use Rattle.sect_graph.specs.declared.flow.Node.{Node};
-ghost use Rattle.sect_graph.specs.Paths.{LeadsTo};
-ghost use Rattle.sect_names.specs.declared.link.Link.{Link};
-ghost use Rattle.sect_names.specs.declared.lock.Lock.{Lock};
-ghost use Rattle.sect_names.specs.Carrying.{CarriedBack};
-ghost use Rattle.sect_names.specs.Chains.{link, IsGeneratedAt, LinksTo};
+ghost use Rattle.sect_graph.specs.{declared.flow.Node.{Node}, Paths.{LeadsTo}, Predecessors.{AreBefore, IsAscending}};
+ghost use Rattle.sect_names.specs.{declared.link.Link.{Link}, declared.lock.Lock.{Lock}, Carrying.{CarriedBack}};
+ghost use Rattle.sect_names.specs.{Chains.{link, IsGeneratedAt, LinksTo}, Laws.{AreLawful}};
 ghost use Rattle.sect_chains.specs.declared.keep.KeptLink.{KeptLink};
-ghost use Rattle.sect_names.specs.Laws.{AreLawful};
-ghost use Rattle.sect_graph.specs.Predecessors.{AreBefore};
-ghost use Rattle.sect_chains.specs.steps.Working.{links_of, IsWork, GoesOn, IsGeneratedBy};
-ghost use Rattle.sect_chains.specs.steps.Working.{IsGeneratedBelow, HasAllGenerated};
+ghost use Rattle.sect_chains.specs.steps.Working.{links_of, IsWork, GoesOn, IsGeneratedBy, IsGeneratedBelow};
+ghost use Rattle.sect_chains.specs.steps.Working.{HasAllGenerated};
 ghost use Rattle.sect_chains.specs.steps.Ordering.{IsInOrder, AllBefore, AddsTo, LinkBelow, BeginsInOrder};
-ghost use Rattle.sect_graph.specs.Predecessors.{IsAscending};
 
 use crate::keep::{KeptLink, keep, keep_found};
 use sect_graph::Flow;

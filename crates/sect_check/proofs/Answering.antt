@@ -1,21 +1,18 @@
 -- The answers of the checker to bytes.
 use Rattle.std.proofs.Common.{◌≡◌, ℕ, List, Result, Ok, Err, IfOk, IsErrAnd, refl, sym, ◌∙◌, subst, arith}
 use Rattle.std.specs.Prelude.{IsOkUnless}
-use Rattle.sect_names.specs.Schemes.{SchemeView}
-use Rattle.sect_names.specs.Sources.{IsAccepted, IsDue}
+use Rattle.sect_names.specs.{Schemes.{SchemeView}, Sources.{IsAccepted, IsDue}}
 use Rattle.sect_names.specs.declared.refusal.SourceRefusal.{SourceRefusal}
-use Rattle.sect_names.specs.declared.refusal.SourceRefusal.TheVariants as refusal
-use Rattle.sect_cert.specs.declared.certificate.Cert.{Cert}
-use Rattle.sect_cert.specs.declared.fault.CertFault.{CertFault}
-use Rattle.sect_cert.specs.declared.fault.CertFault.TheVariants as text
+use Rattle.sect_cert.specs.{declared.certificate.Cert.{Cert}, declared.fault.CertFault.{CertFault}}
 use Rattle.sect_cert.specs.Texts.{HasText, certificate_text}
-use Rattle.sect_cert.specs.Verdicts as texts
-use Rattle.sect_check.specs.declared.fault.CheckFault.{CheckFault}
-use Rattle.sect_check.specs.declared.fault.CheckFault.TheVariants as fault
-use Rattle.sect_check.specs.Valid.{IsValid, AreEntriesLeast}
+use Rattle.sect_check.specs.{declared.fault.CheckFault.{CheckFault}, Valid.{IsValid, AreEntriesLeast}}
 use Rattle.sect_check.specs.Verdicts.{of_source, of_text, IsRead, Judges}
 use Rattle.sect_check.specs.steps.Parts.{JudgesCert}
 use Rattle.sect_check.proofs.Least.{entries_least}
+use Rattle.sect_names.specs.declared.refusal.SourceRefusal.TheVariants as refusal
+use Rattle.sect_cert.specs.declared.fault.CertFault.TheVariants as text
+use Rattle.sect_cert.specs.Verdicts as texts
+use Rattle.sect_check.specs.declared.fault.CheckFault.TheVariants as fault
 
 module _ (A : Type 0) (source : List ℕ) (k : ℕ) (bytes : List ℕ) where
   -- an answer that passes on a fault that is judged is judged

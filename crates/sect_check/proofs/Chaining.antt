@@ -1,25 +1,18 @@
 -- What the verdicts on single chains say of all of a section's.
 use Rattle.std.proofs.Common.{◌≡◌, ℕ, ◌+◌, ◌<◌, ◌≤◌, List, Option, Some, None, Result, Ok, Err, IsErrAnd, length, refl}
-use Rattle.std.proofs.Common.{sym, subst, inl, inr, arith}
+use Rattle.std.proofs.{Common.{sym, subst, inl, inr, arith}, lemmas.Option.{slice_get_within}}
 use Rattle.std.specs.Prelude.{slice_get, MatchOption}
-use Rattle.std.proofs.lemmas.Option.{slice_get_within}
 use Rattle.sect_lemmas.specs.Lists.{Has}
 use Rattle.sect_graph.specs.declared.flow.Node.{Node}
-use Rattle.sect_names.specs.declared.lock.Lock.{Lock}
-use Rattle.sect_names.specs.declared.link.Link.{Link}
-use Rattle.sect_names.specs.Schemes.{SchemeView}
+use Rattle.sect_names.specs.{declared.lock.Lock.{Lock}, declared.link.Link.{Link}, Schemes.{SchemeView}}
 use Rattle.sect_names.specs.Chains.{IsChain}
-use Rattle.sect_check.specs.declared.claims.Claims.{Claims}
-use Rattle.sect_check.specs.declared.claims.ChainClaim.{ChainClaim}
-use Rattle.sect_check.specs.declared.fault.SectionFault.{SectionFault}
-use Rattle.sect_check.specs.declared.fault.SectionFault.TheVariants as fault
-use Rattle.sect_check.specs.Valid.{IsClaimed, HasChain, HasItsChain}
+use Rattle.sect_check.specs.{declared.claims.Claims.{Claims}, declared.claims.ChainClaim.{ChainClaim}}
+use Rattle.sect_check.specs.{declared.fault.SectionFault.{SectionFault}, Valid.{IsClaimed, HasChain, HasItsChain}}
 use Rattle.sect_check.specs.Faults.{IsFirst, IsStepRight, IsBroken, HaveChainsBefore, BreaksChain}
-use Rattle.sect_check.specs.steps.Shapes.{DoRise, HaveNumbersBelow}
-use Rattle.sect_check.specs.steps.Parts.{JudgesChain, JudgesChains}
+use Rattle.sect_check.specs.steps.{Shapes.{DoRise, HaveNumbersBelow}, Parts.{JudgesChain, JudgesChains}}
 use Rattle.sect_lemmas.proofs.Places.{at_of, one_at}
-use Rattle.sect_check.proofs.Numbering.{no_more, stray}
-use Rattle.sect_check.proofs.Scanning.{below_next}
+use Rattle.sect_check.proofs.{Numbering.{no_more, stray}, Scanning.{below_next}}
+use Rattle.sect_check.specs.declared.fault.SectionFault.TheVariants as fault
 
 module _ (s : SchemeView) (t : ℕ) (last : List Lock) (g : List Node) (c : Claims) where
   -- a claimed chain is first wrong at this step

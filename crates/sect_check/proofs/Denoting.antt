@@ -1,16 +1,13 @@
 -- The locks that a certificate names are the program's.
-use Rattle.std.proofs.Common.{◌≡◌, ℕ, zero, suc, List, [], ◌∷◌, Some, refl, arith}
-use Rattle.std.specs.Prelude.{slice_get, slice_index_or}
-use Rattle.std.specs.List.{AllZip}
-use Rattle.std.proofs.lemmas.Option.{slice_get_within}
+use Rattle.std.proofs.{Common.{◌≡◌, ℕ, zero, suc, List, [], ◌∷◌, Some, refl, arith}, lemmas.Option.{slice_get_within}}
+use Rattle.std.specs.{Prelude.{slice_get, slice_index_or}, List.{AllZip}}
 use Rattle.sect_lemmas.specs.Lists.{Has}
 use Rattle.sect_types.specs.Sections.{SectionView}
 use Rattle.sect_lemmas.proofs.Places.{Has-index, at_of, zipped_at}
 use Rattle.sect_graph.specs.declared.flow.Node.{Node}
 use Rattle.sect_names.specs.Schemes.{SchemeView}
 use Rattle.sect_cert.specs.declared.certificate.Cert.{Cert}
-use Rattle.sect_check.specs.declared.claims.Claims.{Claims}
-use Rattle.sect_check.specs.Names.{Denotes}
+use Rattle.sect_check.specs.{declared.claims.Claims.{Claims}, Names.{Denotes}}
 use Rattle.sect_check.specs.Meaning.{IsSectionAt, DenotesStep, DenotesChain, DenotesAll}
 use Rattle.sect_check.specs.steps.Shapes.{AreLawfulLists, AreLawfulChains}
 

@@ -1,18 +1,12 @@
 -- What the lists of two nodes say of the edge between them.
-use Rattle.std.proofs.Common.{length, ◌≡◌, ◌↔◌, ◌⊎◌, ℕ, ◌≤◌, List, Some, inl, inr, refl, sym, ap, ◌∙◌, subst}
-use Rattle.std.proofs.Common.{arith}
-use Rattle.std.specs.Prelude.{slice_get, option_map}
+use Rattle.std.proofs.Common.{length, ◌≡◌, ◌↔◌, ◌⊎◌, ℕ, ◌≤◌, List, Some, inl, inr, refl, sym, ap, ◌∙◌, subst, arith}
 use Rattle.std.proofs.lemmas.Bool.{cases_eq}
+use Rattle.std.specs.Prelude.{slice_get, option_map}
 use Rattle.sect_lemmas.specs.Lists.{Has}
 use Rattle.sect_types.specs.declared.expansion.action.Label.{Label}
-use Rattle.sect_graph.specs.declared.flow.Node.{Node}
-use Rattle.sect_graph.specs.declared.flow.Successors.{Successors}
-use Rattle.sect_graph.specs.Paths.{IsSuccessor}
-use Rattle.sect_names.specs.declared.lock.Lock.{Lock}
-use Rattle.sect_names.specs.Schemes.{SchemeView}
-use Rattle.sect_names.specs.Carrying.{CarriedBack}
-use Rattle.sect_check.specs.declared.claims.Claims.{Claims}
-use Rattle.sect_check.specs.Valid.{list_at, AreCarriedInto, CoversCarried}
+use Rattle.sect_graph.specs.{declared.flow.Node.{Node}, declared.flow.Successors.{Successors}, Paths.{IsSuccessor}}
+use Rattle.sect_names.specs.{declared.lock.Lock.{Lock}, Schemes.{SchemeView}, Carrying.{CarriedBack}}
+use Rattle.sect_check.specs.{declared.claims.Claims.{Claims}, Valid.{list_at, AreCarriedInto, CoversCarried}}
 use Rattle.sect_check.specs.Faults.{IsFirst}
 use Rattle.sect_check.specs.steps.Shapes.{StaysWithin}
 use Rattle.sect_lemmas.proofs.Places.{told_at, told_of}

@@ -1,11 +1,8 @@
 -- Lists that are in canonical order and of which no lock covers another are those of their maximal locks.
 use Rattle.std.proofs.Common.{◌≡◌, ◌↔◌, List, subst, inl, inr}
 use Rattle.sect_lemmas.specs.Lists.{Has}
-use Rattle.sect_names.specs.declared.lock.Lock.{Lock}
-use Rattle.sect_names.specs.Schemes.{SchemeView}
-use Rattle.sect_names.specs.Order.{AreInOrder, AreMaximal}
-use Rattle.sect_names.proofs.shared.Telling.{lock_cases}
-use Rattle.sect_names.proofs.shared.Uniqueness.{same_lists}
+use Rattle.sect_names.specs.{declared.lock.Lock.{Lock}, Schemes.{SchemeView}, Order.{AreInOrder, AreMaximal}}
+use Rattle.sect_names.proofs.shared.{Telling.{lock_cases}, Uniqueness.{same_lists}}
 use Rattle.sect_check.specs.Valid.{AreApart}
 
 module _ (s : SchemeView) (keys kept locks : List Lock) (maximal : AreMaximal s (Has keys) kept)

@@ -1,18 +1,14 @@
 -- A valid section has no fault.
 use Rattle.std.proofs.Common.{◌≢◌, ℕ, List, arith, refl, sym, ◌∙◌, subst, inl, inr}
 use Rattle.sect_graph.specs.declared.flow.Node.{Node}
-use Rattle.sect_names.specs.declared.lock.Lock.{Lock}
-use Rattle.sect_names.specs.Schemes.{SchemeView}
-use Rattle.sect_check.specs.declared.claims.Claims.{Claims}
-use Rattle.sect_check.specs.declared.claims.ChainClaim.{ChainClaim}
-use Rattle.sect_check.specs.declared.fault.SectionFault.{SectionFault}
-use Rattle.sect_check.specs.declared.fault.SectionFault.TheVariants as fault
-use Rattle.sect_check.specs.Valid.{IsValidSection}
+use Rattle.sect_names.specs.{declared.lock.Lock.{Lock}, Schemes.{SchemeView}}
+use Rattle.sect_check.specs.{declared.claims.Claims.{Claims}, declared.claims.ChainClaim.{ChainClaim}}
+use Rattle.sect_check.specs.{declared.fault.SectionFault.{SectionFault}, Valid.{IsValidSection}}
 use Rattle.sect_check.specs.Faults.{IsFaultOf, IsStepRight}
 use Rattle.sect_check.specs.steps.Shapes.{DoRise}
 use Rattle.sect_lemmas.proofs.Places.{at_of}
-use Rattle.sect_check.proofs.Numbering.{one_number}
-use Rattle.sect_check.proofs.Stepping.{steps_right}
+use Rattle.sect_check.proofs.{Numbering.{one_number}, Stepping.{steps_right}}
+use Rattle.sect_check.specs.declared.fault.SectionFault.TheVariants as fault
 
 module _ (s : SchemeView) (t : ℕ) (last : List Lock) (g : List Node) (c : Claims) (v : IsValidSection s t last g c)
     (rise : DoRise c.chains) where

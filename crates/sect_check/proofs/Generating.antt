@@ -1,16 +1,11 @@
 -- What a node generates.
 use Rattle.std.proofs.Common.{◌≡◌, ◌↔◌, ℕ, ◌+◌, ◌<◌, List, Option, Some, None, Bool, true, subst, take, length, get_or}
-use Rattle.std.proofs.Common.{inl, inr, arith}
-use Rattle.std.proofs.lemmas.Option.{slice_get_within}
+use Rattle.std.proofs.{Common.{inl, inr, arith}, lemmas.Option.{slice_get_within}}
 use Rattle.sect_types.specs.declared.expansion.action.Label.{Label}
 use Rattle.sect_graph.specs.declared.flow.Node.{Node}
-use Rattle.sect_names.specs.declared.lock.Lock.{Lock}
-use Rattle.sect_names.specs.Schemes.{SchemeView}
-use Rattle.sect_names.specs.Locks.{CoveredBy}
-use Rattle.sect_names.specs.Carrying.{CarriedBack}
+use Rattle.sect_names.specs.{declared.lock.Lock.{Lock}, Schemes.{SchemeView}, Locks.{CoveredBy}, Carrying.{CarriedBack}}
 use Rattle.sect_names.specs.Chains.{link, IsGeneratedAt}
-use Rattle.sect_check.specs.declared.claims.Claims.{Claims}
-use Rattle.sect_check.specs.Valid.{list_at, CoversGenerated, AreCarriedInto}
+use Rattle.sect_check.specs.{declared.claims.Claims.{Claims}, Valid.{list_at, CoversGenerated, AreCarriedInto}}
 use Rattle.sect_check.proofs.Scanning.{each_more}
 
 module _ (s : SchemeView) (t : ℕ) (last : List Lock) (g : List Node) (j : ℕ) where

@@ -1,29 +1,21 @@
 -- What the sections' verdicts say of the certificate.
 use Rattle.std.proofs.Common.{◌≡◌, ℕ, ◌+◌, ◌<◌, ◌≤◌, List, [], ◌∷◌, ◌++◌, Some, Result, Ok, Err, IsErrAnd, length, refl}
-use Rattle.std.proofs.Common.{sym, ap, ◌∙◌, subst, arith, inl, inr, length-append}
-use Rattle.std.specs.Prelude.{slice_get}
-use Rattle.std.proofs.lemmas.Bool.{cases_lt}
+use Rattle.std.proofs.{Common.{sym, ap, ◌∙◌, subst, arith, inl, inr, length-append}, lemmas.Bool.{cases_lt}}
 use Rattle.std.proofs.lemmas.Option.{slice_get_within}
+use Rattle.std.specs.Prelude.{slice_get}
 use Rattle.sect_types.specs.Sections.{SectionView, sections_of}
 use Rattle.sect_graph.specs.declared.flow.Node.{Node}
-use Rattle.sect_names.specs.Schemes.{SchemeView}
-use Rattle.sect_names.specs.Needed.{end_of}
-use Rattle.sect_cert.specs.declared.certificate.CertSection.{CertSection}
-use Rattle.sect_cert.specs.declared.certificate.Cert.{Cert}
-use Rattle.sect_check.specs.declared.claims.Claims.{Claims}
-use Rattle.sect_check.specs.declared.unresolved.Unresolved.{Unresolved}
+use Rattle.sect_names.specs.{Schemes.{SchemeView}, Needed.{end_of}}
+use Rattle.sect_cert.specs.{declared.certificate.CertSection.{CertSection}, declared.certificate.Cert.{Cert}}
+use Rattle.sect_check.specs.{declared.claims.Claims.{Claims}, declared.unresolved.Unresolved.{Unresolved}}
 use Rattle.sect_check.specs.declared.unresolved.Unresolved.TheVariants.{Memory, Wrong}
-use Rattle.sect_check.specs.declared.fault.SectionFault.{SectionFault}
-use Rattle.sect_check.specs.declared.fault.SectionFault.TheVariants as section
-use Rattle.sect_check.specs.declared.fault.CheckFault.{CheckFault}
-use Rattle.sect_check.specs.declared.fault.CheckFault.TheVariants as fault
+use Rattle.sect_check.specs.{declared.fault.SectionFault.{SectionFault}, declared.fault.CheckFault.{CheckFault}}
 use Rattle.sect_check.specs.Meaning.{IsSectionAt, DenotesSection, DenotesAll}
-use Rattle.sect_check.specs.Valid.{IsValidSection, IsValidAt, IsValid}
-use Rattle.sect_check.specs.Faults.{IsFaultAt}
-use Rattle.sect_check.specs.Verdicts.{of_section}
-use Rattle.sect_check.specs.steps.Resolving.{Resolves, DenotesAt}
-use Rattle.sect_check.specs.steps.Parts.{IsFaultHere, JudgesAt, JudgesCert}
+use Rattle.sect_check.specs.{Valid.{IsValidSection, IsValidAt, IsValid}, Faults.{IsFaultAt}, Verdicts.{of_section}}
+use Rattle.sect_check.specs.steps.{Resolving.{Resolves, DenotesAt}, Parts.{IsFaultHere, JudgesAt, JudgesCert}}
 use Rattle.sect_lemmas.proofs.Places.{at_of, one_at, pushed_at}
+use Rattle.sect_check.specs.declared.fault.SectionFault.TheVariants as section
+use Rattle.sect_check.specs.declared.fault.CheckFault.TheVariants as fault
 
 module _ (s : SchemeView) (i : ℕ) (of other : SectionView) (g h : List Node) (a : IsSectionAt s i of g)
     (b : IsSectionAt s i other h) (P : SectionView → List Node → Type 0) where

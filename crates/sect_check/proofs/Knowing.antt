@@ -1,7 +1,6 @@
 -- What is known of the elements of two lists at one place.
 use Rattle.std.proofs.Common.{ℕ, ◌<◌, ◌-◌, ◌≡◌, ◌∙◌, List, Some, take, subst, arith}
-use Rattle.std.specs.Prelude.{slice_get}
-use Rattle.std.specs.List.{AllZip}
+use Rattle.std.specs.{Prelude.{slice_get}, List.{AllZip}}
 use Rattle.sect_lemmas.proofs.Places.{zipped_at, one_at}
 use Rattle.sect_check.proofs.shared.Repeating.{taken}
 

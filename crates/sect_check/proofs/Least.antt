@@ -1,26 +1,17 @@
 -- What a valid certificate says of needed locks.
 use Rattle.std.proofs.Common.{◌≡◌, ℕ, List, [], ◌∷◌, ◌++◌, Some, length, refl, sym, ap, subst, arith, inl, inr}
-use Rattle.std.specs.Prelude.{slice_get}
 use Rattle.std.proofs.lemmas.Option.{slice_get_within}
+use Rattle.std.specs.Prelude.{slice_get}
 use Rattle.sect_lemmas.specs.Lists.{Has}
-use Rattle.sect_types.specs.Sections.{SectionView, sections_of}
-use Rattle.sect_types.specs.Traces.{Visit, visit}
-use Rattle.sect_graph.specs.declared.flow.Node.{Node}
-use Rattle.sect_graph.specs.Paths.{IsPath, IsConnected}
-use Rattle.sect_names.specs.declared.lock.Lock.{Lock}
-use Rattle.sect_names.specs.declared.link.Link.{Link}
-use Rattle.sect_names.specs.Schemes.{SchemeView, IsScheme}
-use Rattle.sect_names.specs.Locks.{CoveredBy}
-use Rattle.sect_names.specs.Carrying.{Generated, CarriedBack}
+use Rattle.sect_types.specs.{Sections.{SectionView, sections_of}, Traces.{Visit, visit}}
+use Rattle.sect_graph.specs.{declared.flow.Node.{Node}, Paths.{IsPath, IsConnected}}
+use Rattle.sect_names.specs.{declared.lock.Lock.{Lock}, declared.link.Link.{Link}, Schemes.{SchemeView, IsScheme}}
+use Rattle.sect_names.specs.{Locks.{CoveredBy}, Carrying.{Generated, CarriedBack}}
 use Rattle.sect_names.specs.Needed.{CarriedOver, GeneratedFirst, IsNeededOn, IsLeast, end_of}
-use Rattle.sect_names.specs.Chains.{AreLinked, IsChain}
-use Rattle.sect_names.specs.Laws.{RespectsCover}
-use Rattle.sect_names.proofs.shared.Covering.{covers_trans}
-use Rattle.sect_names.proofs.shared.Respecting.{respects_cover}
-use Rattle.sect_names.proofs.shared.SectionSteps.{section_step}
+use Rattle.sect_names.specs.{Chains.{AreLinked, IsChain}, Laws.{RespectsCover}}
+use Rattle.sect_names.proofs.shared.{Covering.{covers_trans}, Respecting.{respects_cover}, SectionSteps.{section_step}}
 use Rattle.sect_cert.specs.declared.certificate.Cert.{Cert}
-use Rattle.sect_check.specs.declared.claims.Claims.{Claims}
-use Rattle.sect_check.specs.Meaning.{IsSectionAt}
+use Rattle.sect_check.specs.{declared.claims.Claims.{Claims}, Meaning.{IsSectionAt}}
 use Rattle.sect_check.specs.Valid.{list_at, IsValidSection, IsValid, AreEntriesLeast}
 use Rattle.sect_lemmas.proofs.Places.{Has-index, at_of}
 use Rattle.sect_graph.proofs.shared.Paths.{path_begins}

@@ -1,28 +1,20 @@
 -- What locals are called, and which is called so.
-use Rattle.std.proofs.Common.{◌≡◌, ℕ, ◌<◌, List, [], Option, Some, None, refl, sym, ap, ◌∙◌, Bool, true, false}
-use Rattle.std.proofs.Common.{length, get_or, arith}
-use Rattle.std.specs.Prelude.{slice_get, slice_index_or, ◌&&◌}
-use Rattle.std.specs.Option.{option_map}
-use Rattle.std.specs.Str.{bytes_eq}
-use Rattle.std.proofs.lemmas.List.Quantifiers.{position-Some}
-use Rattle.std.proofs.lemmas.Slice.Eq.{bytes_eq-Decides}
-use Rattle.std.proofs.lemmas.Bool.Decides.{Decides-eqb}
-use Rattle.std.proofs.lemmas.Slice.Eq.{slice_eq-Decides}
+use Rattle.std.proofs.Common.{◌≡◌, ℕ, ◌<◌, List, [], Option, Some, None, refl, sym, ap, ◌∙◌, Bool, true, false, length}
+use Rattle.std.proofs.{Common.{get_or, arith}, lemmas.List.Quantifiers.{position-Some}}
+use Rattle.std.proofs.{lemmas.Slice.Eq.{bytes_eq-Decides, slice_eq-Decides}, lemmas.Bool.Decides.{Decides-eqb}}
 use Rattle.std.proofs.lemmas.Option.{slice_get-get_or, slice_get_within, get_or_from_slice_get}
+use Rattle.std.specs.{Prelude.{slice_get, slice_index_or, ◌&&◌}, Option.{option_map}, Str.{bytes_eq}}
 use Rattle.sect_front.specs.TreeView.{TreeView}
-use Rattle.sect_types.specs.First.{IsTyped}
-use Rattle.sect_types.specs.Sight.{same_name, place, names_of_globals}
-use Rattle.sect_types.specs.Programs.{ProgramView, IsOfTree}
-use Rattle.sect_types.specs.declared.declarations.types.ValueType.{ValueType}
-use Rattle.sect_types.proofs.shared.SoundLemmas.{same_names}
+use Rattle.sect_types.specs.{First.{IsTyped}, Sight.{same_name, place, names_of_globals}}
+use Rattle.sect_types.specs.{Programs.{ProgramView, IsOfTree}, declared.declarations.types.ValueType.{ValueType}}
 use Rattle.sect_types.specs.declared.declarations.local_name.LocalName.{LocalName}
 use Rattle.sect_types.specs.LocalNames.{all_local_names, place_of_local, is_same_local, is_same_call}
+use Rattle.sect_types.proofs.shared.{SoundLemmas.{same_names}, LocalRows.{as_many_names}}
+use Rattle.sect_types.proofs.shared.LocalFacts.{locals_differ, no_global}
 use Rattle.sect_points.specs.declared.holders.Variable.{Variable}
 use Rattle.sect_points.specs.declared.holders.Variable.TheVariants.{Global, Local}
 use Rattle.sect_check.specs.Names.{local_named, global_named, or_variable, variable_named}
 use Rattle.sect_lemmas.proofs.Positions.{first_position, no_position}
-use Rattle.sect_types.proofs.shared.LocalRows.{as_many_names}
-use Rattle.sect_types.proofs.shared.LocalFacts.{locals_differ, no_global}
 
 -- what stands past the end
 abbrev pub unnamed : LocalName

@@ -1,26 +1,18 @@
 -- Chains whose numbers rise: where each number below one is there, the chain of that number stands at its place.
 use Rattle.std.proofs.Common.{◌≡◌, ℕ, zero, suc, ◌<◌, ◌≤◌, List, [], ◌∷◌, Some, length, refl, sym, ap, ◌∙◌, subst, inl}
-use Rattle.std.proofs.Common.{inr, arith}
-use Rattle.std.specs.Prelude.{slice_get}
-use Rattle.std.specs.List.{AllZip}
-use Rattle.std.proofs.lemmas.Bool.{cases_lt, cases_eq}
-use Rattle.std.proofs.lemmas.Slice.Zip.{AllZip-long}
+use Rattle.std.proofs.{Common.{inr, arith}, lemmas.Bool.{cases_lt, cases_eq}, lemmas.Slice.Zip.{AllZip-long}}
 use Rattle.std.proofs.lemmas.Option.{slice_get_within}
+use Rattle.std.specs.{Prelude.{slice_get}, List.{AllZip}}
 use Rattle.sect_lemmas.specs.Lists.{Has}
-use Rattle.sect_lemmas.proofs.Membership.{Has-slice_get}
+use Rattle.sect_lemmas.proofs.{Membership.{Has-slice_get}, Places.{Has-index, at_of, one_at, zipped_at, each_at}}
 use Rattle.sect_types.specs.Sections.{SectionView}
 use Rattle.sect_graph.specs.declared.flow.Node.{Node}
 use Rattle.sect_names.specs.Schemes.{SchemeView}
-use Rattle.sect_cert.specs.declared.certificate.CertChain.{CertChain}
-use Rattle.sect_cert.specs.declared.certificate.Cert.{Cert}
+use Rattle.sect_cert.specs.{declared.certificate.CertChain.{CertChain}, declared.certificate.Cert.{Cert}}
 use Rattle.sect_cert.specs.Texts.{AreRising, IsSection, HasText}
-use Rattle.sect_check.specs.declared.claims.Claims.{Claims}
-use Rattle.sect_check.specs.declared.claims.ChainClaim.{ChainClaim}
-use Rattle.sect_check.specs.Meaning.{IsSectionAt, DenotesChain, DenotesAll}
-use Rattle.sect_check.specs.Names.{Denotes}
-use Rattle.sect_check.specs.Faults.{IsStray}
+use Rattle.sect_check.specs.{declared.claims.Claims.{Claims}, declared.claims.ChainClaim.{ChainClaim}}
+use Rattle.sect_check.specs.{Meaning.{IsSectionAt, DenotesChain, DenotesAll}, Names.{Denotes}, Faults.{IsStray}}
 use Rattle.sect_check.specs.steps.Shapes.{DoRise, HasNumber, HaveNumbersBelow, HaveShape}
-use Rattle.sect_lemmas.proofs.Places.{Has-index, at_of, one_at, zipped_at, each_at}
 
 module _ (chains : List ChainClaim) (rise : DoRise chains) where
   -- a chain's number isn't below its place

@@ -1,26 +1,19 @@
 -- Names that stand for nothing.
 use Rattle.std.proofs.Common.{◌≡◌, ◌↔◌, ◌≤◌, ℕ, zero, suc, ◌<◌, List, [], ◌∷◌, Option, Some, None, true, Result, Ok}
 use Rattle.std.proofs.Common.{Err, IsErrAnd, length, get_or, refl, sym, ap, subst, arith, true≢false}
-use Rattle.std.specs.Prelude.{slice_get, slice_index, is_some}
-use Rattle.std.specs.Option.{option_map}
-use Rattle.std.specs.List.{AllZip}
 use Rattle.std.proofs.lemmas.Option.{slice_get_within, get_or_from_slice_get}
+use Rattle.std.specs.{Prelude.{slice_get, slice_index, is_some}, Option.{option_map}, List.{AllZip}}
 use Rattle.sect_lemmas.specs.Lists.{Has}
-use Rattle.sect_lemmas.proofs.Membership.{Has-slice_get}
-use Rattle.sect_points.specs.Paths.{PathView}
-use Rattle.sect_points.specs.Partitions.{HasClass}
-use Rattle.sect_names.specs.declared.lock.Effect.{Effect}
-use Rattle.sect_names.specs.declared.lock.Lock.{Lock}
-use Rattle.sect_names.specs.declared.lock.Lock.TheVariants as lock
-use Rattle.sect_names.specs.Schemes.{SchemeView}
+use Rattle.sect_lemmas.proofs.{Membership.{Has-slice_get}, Places.{Has-index}}
+use Rattle.sect_points.specs.{Paths.{PathView}, Partitions.{HasClass}}
+use Rattle.sect_names.specs.{declared.lock.Effect.{Effect}, declared.lock.Lock.{Lock}, Schemes.{SchemeView}}
 use Rattle.sect_names.specs.Locks.{depth, IsClassed, IsLockOf}
 use Rattle.sect_cert.specs.declared.lock.CertPath.{CertPath}
 use Rattle.sect_check.specs.declared.unresolved.Unresolved.{Unresolved}
-use Rattle.sect_check.specs.declared.unresolved.Unresolved.TheVariants.{Memory, Wrong}
-use Rattle.sect_check.specs.Names.{path_named}
+use Rattle.sect_check.specs.{declared.unresolved.Unresolved.TheVariants.{Memory, Wrong}, Names.{path_named}}
 use Rattle.sect_check.specs.steps.Resolving.{Resolves, Extends}
-use Rattle.sect_lemmas.proofs.Places.{Has-index}
 use Rattle.sect_check.proofs.Standing.{path_stands}
+use Rattle.sect_names.specs.declared.lock.Lock.TheVariants as lock
 
 -- where one element is related to nothing, so is the list
 zip_none : {A B : Type 0} (R : A → B → Type 0) (xs : List A) (i : ℕ) (x : A) → i < length xs → x ≡ get_or xs i x

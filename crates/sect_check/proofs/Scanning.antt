@@ -2,8 +2,7 @@
 use Rattle.std.proofs.Common.{◌≡◌, ℕ, ◌+◌, ◌<◌, List, inl, inr, sym, subst, take, length, get_or, arith}
 use Rattle.std.proofs.lemmas.Bool.{cases_lt}
 use Rattle.sect_lemmas.specs.Lists.{Has}
-use Rattle.sect_lemmas.proofs.Membership.{Has-get_or}
-use Rattle.sect_lemmas.proofs.Making.{last_of}
+use Rattle.sect_lemmas.proofs.{Membership.{Has-get_or}, Making.{last_of}}
 
 module _ {X : Type 0} (P : X → Type 0) where
   -- so holds of the elements so far, and of one more

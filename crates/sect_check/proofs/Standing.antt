@@ -1,24 +1,18 @@
 -- What the paths of a certificate stand for.
 use Rattle.std.proofs.Common.{◌≡◌, ℕ, zero, suc, List, [], ◌∷◌, Option, Some, None, refl, sym, ap, ◌∙◌, subst}
-use Rattle.std.specs.Prelude.{slice_get, slice_index_or, option_and_then}
-use Rattle.std.specs.Option.{option_map}
+use Rattle.std.specs.{Prelude.{slice_get, slice_index_or, option_and_then}, Option.{option_map}}
 use Rattle.sect_front.specs.TreeView.{TreeView}
-use Rattle.sect_types.specs.Sight.{place, all_fields, names_of_globals}
-use Rattle.sect_types.specs.Programs.{ProgramView}
-use Rattle.sect_types.specs.Sound.{type_in}
-use Rattle.sect_types.specs.declared.expansion.action.Field.{Field}
-use Rattle.sect_types.specs.declared.declarations.types.ValueType.{ValueType}
+use Rattle.sect_types.specs.{Sight.{place, all_fields, names_of_globals}, Programs.{ProgramView}, Sound.{type_in}}
+use Rattle.sect_types.specs.{declared.expansion.action.Field.{Field}, declared.declarations.types.ValueType.{ValueType}}
 use Rattle.sect_types.specs.declared.declarations.types.ValueType.TheVariants.{Int, Refers}
-use Rattle.sect_points.specs.declared.holders.Variable.{Variable}
-use Rattle.sect_points.specs.declared.holders.Variable.TheVariants.{Global, Local}
-use Rattle.sect_points.specs.Paths.{PathView, var, dot}
-use Rattle.sect_names.specs.Locks.{IsOwn, VariableTo, FieldTo, PathTo}
 use Rattle.sect_types.specs.LocalNames.{all_local_names, place_of_local}
-use Rattle.sect_cert.specs.declared.lock.CertBase.{CertBase}
-use Rattle.sect_cert.specs.declared.lock.CertBase.TheVariants as base
-use Rattle.sect_cert.specs.declared.lock.CertPath.{CertPath}
+use Rattle.sect_points.specs.declared.holders.Variable.{Variable}
+use Rattle.sect_points.specs.{declared.holders.Variable.TheVariants.{Global, Local}, Paths.{PathView, var, dot}}
+use Rattle.sect_names.specs.Locks.{IsOwn, VariableTo, FieldTo, PathTo}
+use Rattle.sect_cert.specs.{declared.lock.CertBase.{CertBase}, declared.lock.CertPath.{CertPath}}
 use Rattle.sect_check.specs.Names.{or_variable, variable_named, field_named, referred, record_of_variable}
 use Rattle.sect_check.specs.Names.{record_of_field, path_from, base_named, path_named}
+use Rattle.sect_cert.specs.declared.lock.CertBase.TheVariants as base
 
 -- what is given after something was found
 and_then : {A B : Type 0} (f : A → Option B) (o : Option A) (y : B) → option_and_then f o ≡ Some y

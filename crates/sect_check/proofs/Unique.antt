@@ -1,36 +1,23 @@
 -- The words of a certificate stand for one thing, and a valid certificate has no fault.
 use Rattle.std.proofs.Common.{◌≡◌, ◌≢◌, ℕ, suc, List, [], ◌∷◌, Some, Result, Ok, Err, length, refl, sym, ap, ◌∙◌, subst}
-use Rattle.std.proofs.Common.{arith}
-use Rattle.std.specs.Prelude.{slice_get, IsOkUnless}
-use Rattle.std.specs.List.{AllZip}
-use Rattle.std.proofs.lemmas.Option.{slice_get_within}
+use Rattle.std.proofs.{Common.{arith}, lemmas.Option.{slice_get_within}}
+use Rattle.std.specs.{Prelude.{slice_get, IsOkUnless}, List.{AllZip}}
 use Rattle.sect_types.specs.Sections.{sections_of}
 use Rattle.sect_graph.specs.declared.flow.Node.{Node}
-use Rattle.sect_names.specs.declared.lock.Lock.{Lock}
-use Rattle.sect_names.specs.declared.link.Link.{Link}
-use Rattle.sect_names.specs.Schemes.{SchemeView, IsScheme}
-use Rattle.sect_names.specs.Needed.{end_of}
-use Rattle.sect_names.specs.Chains.{link}
-use Rattle.sect_cert.specs.declared.lock.CertLock.{CertLock}
-use Rattle.sect_cert.specs.declared.certificate.CertStep.{CertStep}
-use Rattle.sect_cert.specs.declared.certificate.CertChain.{CertChain}
-use Rattle.sect_cert.specs.declared.certificate.CertSection.{CertSection}
-use Rattle.sect_cert.specs.declared.certificate.Cert.{Cert}
-use Rattle.sect_cert.specs.Texts.{HasText}
-use Rattle.sect_check.specs.declared.claims.Claims.{Claims}
-use Rattle.sect_check.specs.declared.claims.ChainClaim.{ChainClaim}
-use Rattle.sect_check.specs.declared.fault.SectionFault.{SectionFault}
-use Rattle.sect_check.specs.declared.fault.SectionFault.TheVariants as section
-use Rattle.sect_check.specs.declared.fault.CheckFault.{CheckFault}
-use Rattle.sect_check.specs.declared.fault.CheckFault.TheVariants as fault
-use Rattle.sect_check.specs.Names.{Denotes}
-use Rattle.sect_check.specs.Meaning.{DenotesStep, DenotesChain, DenotesSection, DenotesAll}
-use Rattle.sect_check.specs.Valid.{IsValid}
-use Rattle.sect_check.specs.Faults.{IsFaultAt}
+use Rattle.sect_names.specs.{declared.lock.Lock.{Lock}, declared.link.Link.{Link}, Schemes.{SchemeView, IsScheme}}
+use Rattle.sect_names.specs.{Needed.{end_of}, Chains.{link}}
+use Rattle.sect_cert.specs.{declared.lock.CertLock.{CertLock}, declared.certificate.CertStep.{CertStep}}
+use Rattle.sect_cert.specs.{declared.certificate.CertChain.{CertChain}, declared.certificate.CertSection.{CertSection}}
+use Rattle.sect_cert.specs.{declared.certificate.Cert.{Cert}, Texts.{HasText}}
+use Rattle.sect_check.specs.{declared.claims.Claims.{Claims}, declared.claims.ChainClaim.{ChainClaim}}
+use Rattle.sect_check.specs.{declared.fault.SectionFault.{SectionFault}, declared.fault.CheckFault.{CheckFault}}
+use Rattle.sect_check.specs.{Names.{Denotes}, Meaning.{DenotesStep, DenotesChain, DenotesSection, DenotesAll}}
+use Rattle.sect_check.specs.{Valid.{IsValid}, Faults.{IsFaultAt}}
 use Rattle.sect_check.specs.steps.Parts.{JudgesCert}
 use Rattle.sect_lemmas.proofs.Places.{at_of}
-use Rattle.sect_check.proofs.Numbering.{all_shaped}
-use Rattle.sect_check.proofs.Excluding.{no_fault}
+use Rattle.sect_check.proofs.{Numbering.{all_shaped}, Excluding.{no_fault}}
+use Rattle.sect_check.specs.declared.fault.SectionFault.TheVariants as section
+use Rattle.sect_check.specs.declared.fault.CheckFault.TheVariants as fault
 
 -- a relation that has one value at most has one list at most
 zip_one : {A B : Type 0} (R : A → B → Type 0) → ((x : A) (y z : B) → R x y → R x z → y ≡ z)

@@ -3,20 +3,14 @@ use Rattle.std.specs.Prelude.{◌≡◌, ◌<◌, ◌≤◌, ◌+◌, ◌⊎◌,
 use Rattle.sect_lemmas.specs.Lists.{Has}
 use Rattle.sect_types.specs.Sections.{SectionView}
 use Rattle.sect_graph.specs.declared.flow.Node.{Node}
-use Rattle.sect_names.specs.declared.lock.Lock.{Lock}
-use Rattle.sect_names.specs.declared.link.Link.{Link}
-use Rattle.sect_names.specs.Schemes.{SchemeView}
-use Rattle.sect_names.specs.Needed.{end_of}
-use Rattle.sect_names.specs.Order.{AreInOrder}
-use Rattle.sect_names.specs.Chains.{link, LinksTo, IsGeneratedAt}
+use Rattle.sect_names.specs.{declared.lock.Lock.{Lock}, declared.link.Link.{Link}, Schemes.{SchemeView}}
+use Rattle.sect_names.specs.{Needed.{end_of}, Order.{AreInOrder}, Chains.{link, LinksTo, IsGeneratedAt}}
 use Rattle.sect_cert.specs.declared.certificate.Cert.{Cert}
-use Rattle.sect_check.specs.declared.claims.Claims.{Claims}
-use Rattle.sect_check.specs.declared.claims.ChainClaim.{ChainClaim}
-use Rattle.sect_check.specs.declared.fault.SectionFault.{SectionFault}
-use Rattle.sect_check.specs.declared.fault.SectionFault.TheVariants as fault
-use Rattle.sect_check.specs.Meaning.{IsSectionAt, DenotesAll}
+use Rattle.sect_check.specs.{declared.claims.Claims.{Claims}, declared.claims.ChainClaim.{ChainClaim}}
+use Rattle.sect_check.specs.{declared.fault.SectionFault.{SectionFault}, Meaning.{IsSectionAt, DenotesAll}}
 use Rattle.sect_check.specs.Valid.{list_at, AreCovered, CoversGenerated, CoversCarried, AreApart, IsClaimed}
 use Rattle.sect_check.specs.Valid.{HasItsChain, IsValidAt}
+use Rattle.sect_check.specs.declared.fault.SectionFault.TheVariants as fault
 
 -- it fails for n, and holds for each number below
 abbrev pub IsFirst : (ℕ → Type 0) → ℕ → Type 0

@@ -1,17 +1,11 @@
 -- What a certificate says of a program, by the program's numbers.
-use Rattle.std.specs.Prelude.{◌≡◌, ◌+◌, ℕ, List, Some, length, slice_get}
-use Rattle.std.specs.List.{AllZip}
+use Rattle.std.specs.{Prelude.{◌≡◌, ◌+◌, ℕ, List, Some, length, slice_get}, List.{AllZip}}
 use Rattle.sect_types.specs.Sections.{SectionView, sections_of}
 use Rattle.sect_graph.specs.declared.flow.Node.{Node}
-use Rattle.sect_names.specs.declared.link.Link.{Link}
-use Rattle.sect_names.specs.Schemes.{SchemeView}
-use Rattle.sect_cert.specs.declared.certificate.CertStep.{CertStep}
-use Rattle.sect_cert.specs.declared.certificate.CertChain.{CertChain}
-use Rattle.sect_cert.specs.declared.certificate.CertSection.{CertSection}
-use Rattle.sect_cert.specs.declared.certificate.Cert.{Cert}
-use Rattle.sect_check.specs.declared.claims.Claims.{Claims}
-use Rattle.sect_check.specs.declared.claims.ChainClaim.{ChainClaim}
-use Rattle.sect_check.specs.Names.{Denotes}
+use Rattle.sect_names.specs.{declared.link.Link.{Link}, Schemes.{SchemeView}}
+use Rattle.sect_cert.specs.{declared.certificate.CertStep.{CertStep}, declared.certificate.CertChain.{CertChain}}
+use Rattle.sect_cert.specs.{declared.certificate.CertSection.{CertSection}, declared.certificate.Cert.{Cert}}
+use Rattle.sect_check.specs.{declared.claims.Claims.{Claims}, declared.claims.ChainClaim.{ChainClaim}, Names.{Denotes}}
 
 abbrev pub DenotesStep : SchemeView → ℕ → CertStep → Link → Type 0
 DenotesStep s t a b = (a.node ≡ b.node) × Denotes s t a.lock b.lock

@@ -1,23 +1,13 @@
 -- Valid certificates.
-use Rattle.std.specs.Prelude.{◌≡◌, ◌<◌, ℕ, List, [], Some, length, slice_get, slice_index_or}
-use Rattle.std.specs.List.{AllZip}
+use Rattle.std.specs.{Prelude.{◌≡◌, ◌<◌, ℕ, List, [], Some, length, slice_get, slice_index_or}, List.{AllZip}}
 use Rattle.sect_lemmas.specs.Lists.{Has}
-use Rattle.sect_types.specs.Sections.{SectionView, sections_of}
-use Rattle.sect_types.specs.declared.expansion.action.Label.{Label}
-use Rattle.sect_graph.specs.declared.flow.Node.{Node}
-use Rattle.sect_graph.specs.Paths.{LeadsTo}
-use Rattle.sect_names.specs.declared.lock.Lock.{Lock}
-use Rattle.sect_names.specs.Schemes.{SchemeView}
-use Rattle.sect_names.specs.Locks.{Covers, CoveredBy}
-use Rattle.sect_names.specs.Carrying.{CarriedBack}
-use Rattle.sect_names.specs.Needed.{end_of, IsLeast}
-use Rattle.sect_names.specs.Order.{AreInOrder}
+use Rattle.sect_types.specs.{Sections.{SectionView, sections_of}, declared.expansion.action.Label.{Label}}
+use Rattle.sect_graph.specs.{declared.flow.Node.{Node}, Paths.{LeadsTo}}
+use Rattle.sect_names.specs.{declared.lock.Lock.{Lock}, Schemes.{SchemeView}, Locks.{Covers, CoveredBy}}
+use Rattle.sect_names.specs.{Carrying.{CarriedBack}, Needed.{end_of, IsLeast}, Order.{AreInOrder}}
 use Rattle.sect_names.specs.Chains.{link, IsGeneratedAt, IsChain}
-use Rattle.sect_cert.specs.declared.certificate.CertSection.{CertSection}
-use Rattle.sect_cert.specs.declared.certificate.Cert.{Cert}
-use Rattle.sect_check.specs.declared.claims.Claims.{Claims}
-use Rattle.sect_check.specs.declared.claims.ChainClaim.{ChainClaim}
-use Rattle.sect_check.specs.Names.{Denotes}
+use Rattle.sect_cert.specs.{declared.certificate.CertSection.{CertSection}, declared.certificate.Cert.{Cert}}
+use Rattle.sect_check.specs.{declared.claims.Claims.{Claims}, declared.claims.ChainClaim.{ChainClaim}, Names.{Denotes}}
 use Rattle.sect_check.specs.Meaning.{IsSectionAt, DenotesAll}
 
 -- the list of node j

@@ -1,22 +1,17 @@
 -- What a source text and the bytes of a certificate are answered with.
 use Rattle.std.specs.Prelude.{◌≡◌, ◌≢◌, ◌≤◌, ℕ, List, Result, Ok, Err}
-use Rattle.sect_names.specs.Schemes.{SchemeView}
-use Rattle.sect_names.specs.Sources.{IsAccepted, IsDue}
+use Rattle.sect_names.specs.{Schemes.{SchemeView}, Sources.{IsAccepted, IsDue}}
 use Rattle.sect_names.specs.declared.refusal.SourceRefusal.{SourceRefusal}
-use Rattle.sect_names.specs.declared.refusal.SourceRefusal.TheVariants as refusal
-use Rattle.sect_cert.specs.declared.certificate.Cert.{Cert}
-use Rattle.sect_cert.specs.declared.fault.CertFault.{CertFault}
-use Rattle.sect_cert.specs.declared.fault.CertFault.TheVariants as text
+use Rattle.sect_cert.specs.{declared.certificate.Cert.{Cert}, declared.fault.CertFault.{CertFault}}
 use Rattle.sect_cert.specs.Texts.{HasText, certificate_text}
-use Rattle.sect_cert.specs.Verdicts as texts
-use Rattle.sect_check.specs.declared.claims.Claims.{Claims}
-use Rattle.sect_check.specs.declared.fault.SectionFault.{SectionFault}
-use Rattle.sect_check.specs.declared.fault.SectionFault.TheVariants as section
-use Rattle.sect_check.specs.declared.fault.CheckFault.{CheckFault}
-use Rattle.sect_check.specs.declared.fault.CheckFault.TheVariants as fault
-use Rattle.sect_check.specs.Meaning.{DenotesAll}
-use Rattle.sect_check.specs.Valid.{IsValid}
+use Rattle.sect_check.specs.{declared.claims.Claims.{Claims}, declared.fault.SectionFault.{SectionFault}}
+use Rattle.sect_check.specs.{declared.fault.CheckFault.{CheckFault}, Meaning.{DenotesAll}, Valid.{IsValid}}
 use Rattle.sect_check.specs.Faults.{IsFaultAt}
+use Rattle.sect_names.specs.declared.refusal.SourceRefusal.TheVariants as refusal
+use Rattle.sect_cert.specs.declared.fault.CertFault.TheVariants as text
+use Rattle.sect_cert.specs.Verdicts as texts
+use Rattle.sect_check.specs.declared.fault.SectionFault.TheVariants as section
+use Rattle.sect_check.specs.declared.fault.CheckFault.TheVariants as fault
 
 -- a refusal of the source is the checker's fault, and so is a fault of the certificate's text; want of memory is never
 -- inside another

@@ -1,14 +1,11 @@
 //! The checker.
 
 ghost use Rattle.std.specs.Prelude.{◌≡◌, ◌<◌, List, length, IfOk, IsOkUnless};
-ghost use Rattle.sect_types.specs.Sections.{SectionView, sections_of};
-ghost use Rattle.sect_types.specs.Sight.{names_of_globals};
+ghost use Rattle.sect_types.specs.{Sections.{SectionView, sections_of}, Sight.{names_of_globals}};
 ghost use Rattle.sect_graph.specs.declared.flow.Node.{Node};
 ghost use Rattle.sect_cert.specs.Texts.{HasText};
-ghost use Rattle.sect_check.specs.declared.fault.CheckFault.TheVariants.{Memory};
-ghost use Rattle.sect_check.specs.Meaning.{IsSectionAt, DenotesAll};
-ghost use Rattle.sect_check.specs.Valid.{IsValid, AreEntriesLeast};
-ghost use Rattle.sect_check.specs.Verdicts.{IsRead, Judges};
+ghost use Rattle.sect_check.specs.{declared.fault.CheckFault.TheVariants.{Memory}, Meaning.{IsSectionAt, DenotesAll}};
+ghost use Rattle.sect_check.specs.{Valid.{IsValid, AreEntriesLeast}, Verdicts.{IsRead, Judges}};
 ghost use Rattle.sect_check.specs.steps.Resolving.{Resolves, DenotesAt};
 ghost use Rattle.sect_check.specs.steps.Shapes.{HaveShape, AreLawfulLists, AreLawfulChains};
 ghost use Rattle.sect_check.specs.steps.Parts.{JudgesAt, JudgesCert};

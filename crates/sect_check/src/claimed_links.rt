@@ -1,8 +1,7 @@
 //! The links of claimed chains, in which neighbours often have one lock.
 
 ghost use Rattle.std.specs.Prelude.{◌≡◌, ◌≢◌, ◌<◌, ◌-◌, [], ◌∷◌, ◌++◌, Some, slice_get, length, OnOk, IfOk, IsTrue};
-ghost use Rattle.sect_names.specs.declared.link.Link.{Link};
-ghost use Rattle.sect_names.specs.Chains.{link};
+ghost use Rattle.sect_names.specs.{declared.link.Link.{Link}, Chains.{link}};
 
 use sect_cert::Runs;
 use sect_names::Lock;

@@ -1,10 +1,8 @@
 //! What a certificate claims of a section, by the program's numbers.
 
-ghost use Rattle.std.specs.Prelude.{◌≡◌, ◌<◌, ℕ, Some, length, take, slice_get, IfSome};
-ghost use Rattle.std.specs.List.{AllZip};
+ghost use Rattle.std.specs.{Prelude.{◌≡◌, ◌<◌, ℕ, Some, length, take, slice_get, IfSome}, List.{AllZip}};
 ghost use Rattle.sect_names.specs.Schemes.{SchemeView};
-ghost use Rattle.sect_check.specs.Names.{Denotes};
-ghost use Rattle.sect_check.specs.Meaning.{DenotesStep, DenotesChain, DenotesSection};
+ghost use Rattle.sect_check.specs.{Names.{Denotes}, Meaning.{DenotesStep, DenotesChain, DenotesSection}};
 ghost use Rattle.sect_check.specs.steps.Resolving.{Resolves, Extends};
 
 use crate::claimed_links::ClaimedLinks;

@@ -2,8 +2,7 @@
 
 ghost use Rattle.std.specs.Prelude.{◌≡◌, ◌<◌, ◌↔◌, length, IfOk, IsTrue};
 ghost use Rattle.sect_lemmas.specs.Lists.{Has};
-ghost use Rattle.sect_names.specs.declared.lock.Lock.{Lock};
-ghost use Rattle.sect_names.specs.Locks.{CoveredBy};
+ghost use Rattle.sect_names.specs.{declared.lock.Lock.{Lock}, Locks.{CoveredBy}};
 ghost use Rattle.sect_check.specs.Valid.{list_at, AreCovered};
 
 use crate::claims::Claims;

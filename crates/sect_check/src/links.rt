@@ -2,9 +2,7 @@
 
 ghost use Rattle.std.specs.Prelude.{◌≡◌, ◌≤◌, ◌<◌, ◌-◌, ◌↔◌, length, slice_get, Some, MatchOption, IfOk, IsTrue};
 ghost use Rattle.sect_graph.specs.Paths.{IsSuccessor};
-ghost use Rattle.sect_names.specs.Locks.{IsLockOf};
-ghost use Rattle.sect_names.specs.Carrying.{CarriedBack};
-ghost use Rattle.sect_names.specs.Needed.{end_locks};
+ghost use Rattle.sect_names.specs.{Locks.{IsLockOf}, Carrying.{CarriedBack}, Needed.{end_locks}};
 ghost use Rattle.sect_names.specs.Chains.{link, IsGeneratedAt, LinksTo, IsChain};
 ghost use Rattle.sect_check.specs.Faults.{IsFirst, ComesRight, EndsRight, IsStepRight};
 ghost use Rattle.sect_check.specs.steps.Shapes.{AreLawfulLinks};

@@ -3,13 +3,10 @@
 ghost use Rattle.std.specs.Prelude.{◌≡◌, ◌≤◌, ◌<◌, ◌+◌, ◌⊎◌, ◌↔◌, ℕ, length, Some, IfOk, IfSome, IfNone, IsTrue};
 ghost use Rattle.sect_lemmas.specs.Lists.{Has};
 ghost use Rattle.sect_graph.specs.Paths.{IsSuccessor};
-ghost use Rattle.sect_names.specs.declared.lock.Lock.{Lock};
-ghost use Rattle.sect_names.specs.Needed.{end_locks};
-ghost use Rattle.sect_names.specs.Chains.{link, IsGeneratedAt};
+ghost use Rattle.sect_names.specs.{declared.lock.Lock.{Lock}, Needed.{end_locks}, Chains.{link, IsGeneratedAt}};
+ghost use Rattle.sect_names.specs.{Locks.{CoveredBy, IsLockOf}, Carrying.{CarriedBack}};
 ghost use Rattle.sect_check.specs.Valid.{list_at, CoversGenerated, AreCarriedInto, CoversCarried};
 ghost use Rattle.sect_check.specs.Faults.{IsFirst, IsFirstPair};
-ghost use Rattle.sect_names.specs.Locks.{CoveredBy, IsLockOf};
-ghost use Rattle.sect_names.specs.Carrying.{CarriedBack};
 ghost use Rattle.sect_check.specs.steps.Shapes.{StaysWithin, AreLawfulLists};
 
 use crate::claims::Claims;

@@ -1,12 +1,11 @@
 //! The locks of a certificate, by the program's numbers.
 
-ghost use Rattle.std.specs.Prelude.{◌≡◌, ◌≤◌, MatchOption, Some, IsTrue, ◌↔◌};
-ghost use Rattle.std.specs.Option.{option_map};
+ghost use Rattle.std.specs.{Prelude.{◌≡◌, ◌≤◌, MatchOption, Some, IsTrue, ◌↔◌}, Option.{option_map}};
 ghost use Rattle.sect_lemmas.specs.Lists.{Has};
-ghost use Rattle.sect_names.specs.declared.lock.Lock.TheVariants as lock;
 ghost use Rattle.sect_names.specs.Locks.{depth, IsClassed, IsLockOf};
 ghost use Rattle.sect_check.specs.Names.{path_named as path_by, Denotes};
 ghost use Rattle.sect_check.specs.steps.Resolving.{Finds, Resolves};
+ghost use Rattle.sect_names.specs.declared.lock.Lock.TheVariants as lock;
 
 use crate::names::{field_named, record_of_field, record_of_variable};
 use crate::naming::Naming;

@@ -3,8 +3,8 @@
 ghost use Rattle.std.specs.Prelude.{◌≡◌, ◌<◌, length, slice_index_or, [], IfSome, IsTrue, nat_eq};
 ghost use Rattle.std.specs.Cmp.Lexicographic.{pointwise};
 ghost use Rattle.sect_types.specs.Sight.{place, names_of_declared};
-ghost use Rattle.sect_types.specs.LocalNames.{all_local_names, place_of_local};
-ghost use Rattle.sect_types.specs.LocalNames.{is_same_call as same_call, is_same_local as same_local};
+ghost use Rattle.sect_types.specs.LocalNames.{all_local_names, place_of_local, is_same_call as same_call};
+ghost use Rattle.sect_types.specs.LocalNames.{is_same_local as same_local};
 ghost use Rattle.sect_check.specs.Names.{local_named as local_by, field_named as field_by, referred as refers_to};
 ghost use Rattle.sect_check.specs.Names.{record_of_variable as variable_record, record_of_field as field_record};
 

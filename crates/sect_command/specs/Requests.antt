@@ -2,31 +2,23 @@
 use Rattle.std.specs.Prelude.{◌≡◌, ◌≢◌, ◌≤◌, ◌⊎◌, ◌++◌, ℕ, Option, List, Result, Ok, IfSome, codes}
 use Rattle.std.specs.Io.KnownBytes.{Appends}
 use Rattle.sect_infer.specs.Workers.{AreOffered}
-use Rattle.sect_answers.specs.Answers.{IsAnswer, IsDue}
-use Rattle.sect_answers.specs.Charting.{IsCharted}
-use Rattle.sect_answers.specs.Checking.{IsValidInput, IsCheckDue}
+use Rattle.sect_answers.specs.{Answers.{IsAnswer, IsDue}, Charting.{IsCharted}, Checking.{IsValidInput, IsCheckDue}}
 use Rattle.sect_answers.specs.Compiling.{IsCertified, IsProgramListing, IsProgramDocument, IsCompileDue}
-use Rattle.sect_answers.specs.Conflicting.{AreProgramConflicts}
-use Rattle.sect_answers.specs.Explaining.{IsProgramExplanation}
-use Rattle.sect_answers.specs.Graphing.{IsProgramGraph, IsGraphDue}
-use Rattle.sect_answers.specs.Linting.{IsUnblamed, IsInspection, IsLintDue}
-use Rattle.sect_answers.specs.Outcomes.{AreAllOutcomes, IsOutcomesDue}
-use Rattle.sect_answers.specs.Refusals.{refusal_text}
-use Rattle.sect_answers.specs.Running.{IsOutcomeOfRun}
-use Rattle.sect_answers.specs.Scheduling.{IsScheduled, IsScheduleDue}
-use Rattle.sect_answers.specs.Serial.{IsOutcome, IsSerialDue}
+use Rattle.sect_answers.specs.{Conflicting.{AreProgramConflicts}, Explaining.{IsProgramExplanation}}
+use Rattle.sect_answers.specs.{Graphing.{IsProgramGraph, IsGraphDue}, Linting.{IsUnblamed, IsInspection, IsLintDue}}
+use Rattle.sect_answers.specs.{Outcomes.{AreAllOutcomes, IsOutcomesDue}, Refusals.{refusal_text}}
+use Rattle.sect_answers.specs.{Running.{IsOutcomeOfRun}, Scheduling.{IsScheduled, IsScheduleDue}}
+use Rattle.sect_answers.specs.{Serial.{IsOutcome, IsSerialDue}, declared.refusal.Refusal.{Refusal}}
 use Rattle.sect_lint.specs.declared.format.Format.TheVariants.{Json}
-use Rattle.sect_answers.specs.declared.refusal.Refusal.{Refusal}
-use Rattle.sect_answers.specs.declared.refusal.Refusal.TheVariants as refusal
 use Rattle.sect_command.specs.declared.dispatch.TheConstants.{DONE, REFUSED, WRONG_WORDS, FAILED}
-use Rattle.sect_command.specs.declared.dispatch.Answer.{Answer}
-use Rattle.sect_command.specs.declared.dispatch.Failure.{Failure}
-use Rattle.sect_lsp.specs.Sessions.{IsSession}
+use Rattle.sect_command.specs.{declared.dispatch.Answer.{Answer}, declared.dispatch.Failure.{Failure}}
 use Rattle.sect_command.specs.declared.options.Form.TheVariants.{Listing, Document, Certificate}
 use Rattle.sect_command.specs.declared.options.Request.{Request}
 use Rattle.sect_command.specs.declared.options.Request.TheVariants.{Locks, Compile, Explain, Conflicts, Graph, Lint}
-use Rattle.sect_command.specs.declared.options.Request.TheVariants.{Inspect, Check}
-use Rattle.sect_command.specs.declared.options.Request.TheVariants.{Serial, Outcomes, Schedule, Chart, Run}
+use Rattle.sect_command.specs.declared.options.Request.TheVariants.{Inspect, Check, Serial, Outcomes, Schedule, Chart}
+use Rattle.sect_command.specs.declared.options.Request.TheVariants.{Run}
+use Rattle.sect_lsp.specs.Sessions.{IsSession}
+use Rattle.sect_answers.specs.declared.refusal.Refusal.TheVariants as refusal
 
 -- the bytes are what is requested of the source
 abbrev pub Answers : Request → List ℕ → List ℕ → Type 0

@@ -1,6 +1,5 @@
 -- What the words of a command line say. The functions that read them cite it.
-use Rattle.std.specs.Prelude.{◌≡◌, ◌≤◌, ℕ, List, Option, Some, None}
-use Rattle.std.specs.Str.Parse.{IsNumeral, digits_value}
+use Rattle.std.specs.{Prelude.{◌≡◌, ◌≤◌, ℕ, List, Option, Some, None}, Str.Parse.{IsNumeral, digits_value}}
 
 -- the text is decimal digits alone, and spells this number, which lies between these two
 abbrev pub Spells : ℕ → ℕ → List ℕ → ℕ → Type 0

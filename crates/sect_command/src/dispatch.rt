@@ -1,12 +1,9 @@
 //! One run of the program, over any reader and writer.
 
-ghost use Rattle.std.specs.Prelude.{◌≡◌, ◌⊎◌, IfOk, IfErr, IfSome};
-ghost use Rattle.std.specs.Io.KnownBytes.{Appends};
+ghost use Rattle.std.specs.{Prelude.{◌≡◌, ◌⊎◌, IfOk, IfErr, IfSome}, Io.KnownBytes.{Appends}, String.{string_bytes}};
 ghost use Rattle.sect_command.specs.declared.dispatch.Failure.TheVariants.{Memory};
 ghost use Rattle.sect_command.specs.declared.dispatch.TheConstants.{FAILED, WRONG_WORDS};
-ghost use Rattle.sect_command.specs.Requests.{Answers, IsRefusalDue, IsRight, IsTold, line_of};
-ghost use Rattle.sect_command.specs.Requests.{IsAnswerTold};
-ghost use Rattle.std.specs.String.{string_bytes};
+ghost use Rattle.sect_command.specs.Requests.{Answers, IsRefusalDue, IsRight, IsTold, line_of, IsAnswerTold};
 
 use crate::options::{Form, Request, UsageFault, Wanted, wanted_of};
 use crate::serving::served;

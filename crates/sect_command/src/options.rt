@@ -1,7 +1,6 @@
 //! What the words of a command line ask for.
 
-ghost use Rattle.std.specs.Prelude.{◌≤◌, SomeIff};
-ghost use Rattle.std.specs.Str.Parse.{IsNumeral, digits_value};
+ghost use Rattle.std.specs.{Prelude.{◌≤◌, SomeIff}, Str.Parse.{IsNumeral, digits_value}};
 
 use crate::formats::{format_of, lint_format_of};
 use crate::grammar::grammar;

@@ -1,8 +1,7 @@
 //! A session with an editor.
 
 ghost use Rattle.std.specs.Prelude.{◌≡◌, ◌⊎◌};
-ghost use Rattle.sect_command.specs.declared.dispatch.TheConstants.{FAILED};
-ghost use Rattle.sect_command.specs.Requests.{IsServed};
+ghost use Rattle.sect_command.specs.{declared.dispatch.TheConstants.{FAILED}, Requests.{IsServed}};
 
 use crate::dispatch::FAILED;
 use sect_lsp::serve;

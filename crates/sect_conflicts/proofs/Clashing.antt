@@ -1,35 +1,21 @@
 -- Where plans clash.
 use Rattle.std.proofs.Common.{◌≡◌, ◌⊎◌, ℕ, ◌<◌, List, [], length, false, Some, refl, sym, ap, ◌∙◌, subst, inl, inr}
-use Rattle.std.proofs.Common.{arith}
+use Rattle.std.proofs.{Common.{arith}, lemmas.Option.{slice_get_within, slice_get-get_or}}
 use Rattle.std.specs.Prelude.{slice_get, slice_index_or, ◌↔◌}
-use Rattle.std.proofs.lemmas.Option.{slice_get_within, slice_get-get_or}
 use Rattle.sect_lemmas.specs.Lists.{Has}
-use Rattle.sect_lemmas.proofs.Membership.{Has-cases, Has-left}
-use Rattle.sect_lemmas.proofs.Options.{some_injective}
-use Rattle.sect_types.specs.Sections.{sections_of}
-use Rattle.sect_types.specs.Store.{StoreView, ObjectView, object_at}
-use Rattle.sect_types.specs.Meaning.{WorkView}
-use Rattle.sect_types.specs.declared.meaning.store.ObjectName.{ObjectName}
-use Rattle.sect_types.specs.declared.meaning.store.Datum.{Datum}
+use Rattle.sect_lemmas.proofs.{Membership.{Has-cases, Has-left}, Options.{some_injective}}
+use Rattle.sect_types.specs.{Sections.{sections_of}, Store.{StoreView, ObjectView, object_at}, Meaning.{WorkView}}
+use Rattle.sect_types.specs.{declared.meaning.store.ObjectName.{ObjectName}, declared.meaning.store.Datum.{Datum}}
 use Rattle.sect_types.specs.declared.meaning.store.Datum.TheVariants.{Refers}
-use Rattle.sect_points.specs.Paths.{PathView, PathHas}
-use Rattle.sect_points.specs.Sets.{InSets}
-use Rattle.sect_modes.specs.declared.mode.Mode.{Mode}
-use Rattle.sect_modes.specs.declared.key.Key.{Key}
-use Rattle.sect_modes.specs.Mode.{are_compatible}
-use Rattle.sect_names.specs.declared.lock.Effect.{Effect}
-use Rattle.sect_names.specs.declared.lock.Lock.{Lock}
-use Rattle.sect_names.specs.declared.lock.Lock.TheVariants as lock
-use Rattle.sect_names.specs.Schemes.{SchemeView}
-use Rattle.sect_names.specs.Locks.{IsPathIn}
-use Rattle.sect_names.specs.Records.{IsTypedProgram}
+use Rattle.sect_points.specs.{Paths.{PathView, PathHas}, Sets.{InSets}}
+use Rattle.sect_modes.specs.{declared.mode.Mode.{Mode}, declared.key.Key.{Key}, Mode.{are_compatible}}
+use Rattle.sect_names.specs.{declared.lock.Effect.{Effect}, declared.lock.Lock.{Lock}, Schemes.{SchemeView}}
+use Rattle.sect_names.specs.{Locks.{IsPathIn}, Records.{IsTypedProgram}}
 use Rattle.sect_emit.specs.declared.plan.Grip.{Grip}
 use Rattle.sect_emit.specs.Plan.{grip, key_of, object_mode, gathered, object_wishes, path_datum, IsFixedPart}
-use Rattle.sect_emit.specs.Pointed.{ObjectsStay}
-use Rattle.sect_emit.specs.State.{plan_at, start}
+use Rattle.sect_emit.specs.{Pointed.{ObjectsStay}, State.{plan_at, start}}
 use Rattle.sect_emit.specs.Compiled.{CompiledView, IsCompiled, program_of}
-use Rattle.sect_emit.proofs.shared.Modes.{sharing_turned, at_least_itself}
-use Rattle.sect_emit.proofs.shared.Pointing.{denoted}
+use Rattle.sect_emit.proofs.shared.{Modes.{sharing_turned, at_least_itself}, Pointing.{denoted}}
 use Rattle.sect_emit.proofs.shared.Plans.{gathered-all, fixed_part_keys, object_part_keys, object_wish_from}
 use Rattle.sect_emit.proofs.shared.PlanModes.{plan_gives_object, key_of-injective, class_or_object, all_or_object}
 use Rattle.sect_emit.proofs.shared.TypedPrograms.{typed_program}
@@ -39,11 +25,10 @@ use Rattle.sect_conflicts.specs.Conflicts.{set_at}
 use Rattle.sect_conflicts.specs.Laws.{IsSectionOver, Meets, PlansAlwaysClash, PlansClashWherePathsMeet, PlansNeverClash}
 use Rattle.sect_conflicts.specs.Laws.{PlansGoTogetherAtTheStart}
 use Rattle.sect_conflicts.specs.steps.Steady.{steady_at}
-use Rattle.sect_conflicts.proofs.shared.Stronger.{both_stronger}
-use Rattle.sect_conflicts.proofs.ModeTables.{join_apart}
-use Rattle.sect_conflicts.proofs.PathPairs.{between_locked, locked_between}
-use Rattle.sect_conflicts.proofs.shared.Selecting.{selected, all_selected}
+use Rattle.sect_conflicts.proofs.shared.{Stronger.{both_stronger}, Selecting.{selected, all_selected}}
+use Rattle.sect_conflicts.proofs.{ModeTables.{join_apart}, PathPairs.{between_locked, locked_between}}
 use Rattle.sect_conflicts.proofs.Steadying.{plan_at_the_start, none_clashes}
+use Rattle.sect_names.specs.declared.lock.Lock.TheVariants as lock
 
 -- sections that ask for a key in every state clash in whatever states
 pub always_clashing : (c : CompiledView) → PlansAlwaysClash c

@@ -1,18 +1,13 @@
 -- The first key of an ascending list.
-use Rattle.std.proofs.Common.{◌≡◌, ℕ, ◌+◌, ◌<◌, ◌++◌, List, ◌∷◌, length, take, drop, get_or, Bool, true, false, refl, sym}
-use Rattle.std.proofs.Common.{ap, ◌∙◌, subst, inl, inr}
-use Rattle.std.specs.Prelude.{◌&&◌, not}
-use Rattle.std.proofs.lemmas.Bool.{and_parts, and_from}
+use Rattle.std.proofs.Common.{◌≡◌, ℕ, ◌+◌, ◌<◌, ◌++◌, List, ◌∷◌, length, take, drop, get_or, Bool, true, false, refl}
+use Rattle.std.proofs.{Common.{sym, ap, ◌∙◌, subst, inl, inr}, lemmas.Bool.{and_parts, and_from}}
 use Rattle.std.proofs.lemmas.List.{take-append-drop}
+use Rattle.std.specs.Prelude.{◌&&◌, not}
 use Rattle.sect_lemmas.specs.Lists.{Has}
-use Rattle.sect_lemmas.proofs.Elements.{drop_next}
-use Rattle.sect_lemmas.proofs.Membership.{Has-cases}
-use Rattle.sect_modes.specs.Mode.{are_compatible}
-use Rattle.sect_modes.specs.Key.{is_key_below, is_same_key}
-use Rattle.sect_emit.specs.declared.plan.Grip.{Grip}
-use Rattle.sect_emit.specs.Plan.{Ascends}
-use Rattle.sect_emit.proofs.shared.Keys.{same_key, key_itself, not_below_itself, below_along}
-use Rattle.sect_emit.proofs.shared.Plans.{ascends_right}
+use Rattle.sect_lemmas.proofs.{Elements.{drop_next}, Membership.{Has-cases}}
+use Rattle.sect_modes.specs.{Mode.{are_compatible}, Key.{is_key_below, is_same_key}}
+use Rattle.sect_emit.specs.{declared.plan.Grip.{Grip}, Plan.{Ascends}}
+use Rattle.sect_emit.proofs.shared.{Keys.{same_key, key_itself, not_below_itself, below_along}, Plans.{ascends_right}}
 use Rattle.sect_conflicts.proofs.shared.Stronger.{negated, unnegated}
 
 -- an element of the list stands before place i, at it, or above it

@@ -1,9 +1,7 @@
 -- What the tables of the modes say of joins.
-use Rattle.std.proofs.Common.{◌≡◌, ◌⊎◌, Bool, false, refl, inl, inr}
+use Rattle.std.proofs.{Common.{◌≡◌, ◌⊎◌, Bool, false, refl, inl, inr}, lemmas.Bool.{or_cases}}
 use Rattle.std.specs.Prelude.{◌||◌, not}
-use Rattle.std.proofs.lemmas.Bool.{or_cases}
-use Rattle.sect_modes.specs.declared.mode.Mode.{Mode}
-use Rattle.sect_modes.specs.Mode.{are_compatible, join_of}
+use Rattle.sect_modes.specs.{declared.mode.Mode.{Mode}, Mode.{are_compatible, join_of}}
 use Rattle.sect_emit.proofs.shared.Modes.{all_modes, each_mode, if_then, holds}
 use Rattle.sect_conflicts.proofs.shared.Stronger.{negated, unnegated}
 

@@ -1,25 +1,19 @@
 -- Pairs of paths, lock by lock.
-use Rattle.std.proofs.Common.{◌≡◌, ◌⊎◌, ℕ, zero, suc, ◌+◌, ◌<◌, ◌++◌, List, [], ◌∷◌, length, take, get_or, Bool, true, false}
-use Rattle.std.proofs.Common.{refl, sym, ap, ◌∙◌, subst, inl, inr, arith}
-use Rattle.std.specs.Prelude.{◌↔◌, if◌then◌else◌}
-use Rattle.std.specs.List.{AllZip}
+use Rattle.std.proofs.Common.{◌≡◌, ◌⊎◌, ℕ, zero, suc, ◌+◌, ◌<◌, ◌++◌, List, [], ◌∷◌, length, take, get_or, Bool, true}
+use Rattle.std.proofs.Common.{false, refl, sym, ap, ◌∙◌, subst, inl, inr, arith}
 use Rattle.std.proofs.lemmas.List.{append_assoc, append-nil, take_more}
+use Rattle.std.specs.{Prelude.{◌↔◌, if◌then◌else◌}, List.{AllZip}}
 use Rattle.sect_lemmas.specs.Lists.{Has}
 use Rattle.sect_lemmas.proofs.Membership.{Has-cases, Has-left, Has-right}
-use Rattle.sect_points.specs.declared.sites.SiteSet.{SiteSet}
-use Rattle.sect_points.specs.Sites.{InBoth}
-use Rattle.sect_points.specs.Paths.{PathView}
+use Rattle.sect_points.specs.{declared.sites.SiteSet.{SiteSet}, Sites.{InBoth}, Paths.{PathView}}
 use Rattle.sect_modes.specs.Mode.{are_compatible}
-use Rattle.sect_names.specs.declared.lock.Effect.{Effect}
-use Rattle.sect_names.specs.declared.lock.Lock.{Lock}
-use Rattle.sect_names.specs.declared.lock.Lock.TheVariants as lock
-use Rattle.sect_names.specs.Schemes.{SchemeView}
+use Rattle.sect_names.specs.{declared.lock.Effect.{Effect}, declared.lock.Lock.{Lock}, Schemes.{SchemeView}}
 use Rattle.sect_emit.specs.Plan.{object_mode}
 use Rattle.sect_conflicts.specs.declared.conflict.PathPair.{PathPair}
-use Rattle.sect_conflicts.specs.Conflicts.{MayBeOne, paths_of_two, paths_with, paths_between}
+use Rattle.sect_conflicts.specs.{Conflicts.{MayBeOne, paths_of_two, paths_with, paths_between}, Selecting.{Adds}}
 use Rattle.sect_conflicts.specs.steps.Profiles.{AreSitesOfLock}
-use Rattle.sect_conflicts.specs.Selecting.{Adds}
 use Rattle.sect_conflicts.proofs.shared.Selecting.{adds_nothing, adds_one, adds_none, adds_both}
+use Rattle.sect_names.specs.declared.lock.Lock.TheVariants as lock
 
 -- one lock more on the second side
 paths_with_more : (l : Lock) (others : List Lock) (other : Lock)

@@ -1,30 +1,22 @@
 -- What sections are compared by, one after another.
 use Rattle.std.proofs.Common.{◌≡◌, ◌≢◌, ℕ, ◌+◌, ◌<◌, ◌++◌, List, [], ◌∷◌, length, length-append, get_or, Some, sym, ap}
-use Rattle.std.proofs.Common.{◌∙◌, subst, inl, inr, arith}
+use Rattle.std.proofs.{Common.{◌∙◌, subst, inl, inr, arith}, lemmas.Option.{slice_get_within, slice_get-get_or}}
 use Rattle.std.specs.Prelude.{◌↔◌, slice_get, slice_index_or}
-use Rattle.std.proofs.lemmas.Option.{slice_get_within, slice_get-get_or}
-use Rattle.sect_lemmas.proofs.Options.{some_injective}
-use Rattle.sect_lemmas.proofs.Places.{pushed_at, one_at}
+use Rattle.sect_lemmas.proofs.{Options.{some_injective}, Places.{pushed_at, one_at}}
 use Rattle.sect_types.specs.Sections.{SectionView, sections_of}
-use Rattle.sect_points.specs.declared.sites.SiteSet.{SiteSet}
-use Rattle.sect_points.specs.Sites.{HasSite}
-use Rattle.sect_points.specs.Sets.{PointsToView, InSets}
+use Rattle.sect_points.specs.{declared.sites.SiteSet.{SiteSet}, Sites.{HasSite}, Sets.{PointsToView, InSets}}
 use Rattle.sect_points.specs.Paths.{PathView, PathHas}
-use Rattle.sect_names.specs.declared.lock.Effect.{Effect}
-use Rattle.sect_names.specs.declared.lock.Lock.{Lock}
-use Rattle.sect_names.specs.declared.lock.Lock.TheVariants as lock
-use Rattle.sect_names.specs.Schemes.{SchemeView}
-use Rattle.sect_emit.specs.declared.plan.Grip.{Grip}
-use Rattle.sect_emit.specs.Plan.{Ascends}
-use Rattle.sect_emit.specs.Compiled.{CompiledView, IsCompiled, program_of}
-use Rattle.sect_conflicts.specs.declared.profile.Profile.{Profile}
-use Rattle.sect_conflicts.specs.declared.conflict.KeyClash.{KeyClash}
+use Rattle.sect_names.specs.{declared.lock.Effect.{Effect}, declared.lock.Lock.{Lock}, Schemes.{SchemeView}}
+use Rattle.sect_emit.specs.{declared.plan.Grip.{Grip}, Plan.{Ascends}, Compiled.{CompiledView, IsCompiled, program_of}}
+use Rattle.sect_conflicts.specs.{declared.profile.Profile.{Profile}, declared.conflict.KeyClash.{KeyClash}}
 use Rattle.sect_conflicts.specs.declared.conflict.PathPair.{PathPair}
 use Rattle.sect_conflicts.specs.Conflicts.{Clash, IsFirstClash, MayBeOne, MayGoTogether, Selects, paths_between, set_at}
 use Rattle.sect_conflicts.specs.Comparing.{AreCompared}
 use Rattle.sect_conflicts.specs.steps.Steady.{steady_of, steady_at, IsFirstIn}
-use Rattle.sect_conflicts.specs.steps.Profiles.{AreSitesOfLock, AreSitesOfLocks, IsProfile, AreFirstProfiles, AreProfiles}
+use Rattle.sect_conflicts.specs.steps.Profiles.{AreSitesOfLock, AreSitesOfLocks, IsProfile, AreFirstProfiles}
+use Rattle.sect_conflicts.specs.steps.Profiles.{AreProfiles}
 use Rattle.sect_conflicts.proofs.Steadying.{steady_ascends, first_found, none_found}
+use Rattle.sect_names.specs.declared.lock.Lock.TheVariants as lock
 
 -- the element at a place
 pub given_at : {X : Type 0} (xs : List (List X)) (i : ℕ) (x : List X) → slice_get xs i ≡ Some x

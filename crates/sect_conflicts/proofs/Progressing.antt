@@ -1,14 +1,11 @@
 -- Pairs of sections, one after another.
-use Rattle.std.proofs.Common.{◌≡◌, ◌⊎◌, ℕ, ◌+◌, ◌<◌, ◌≤◌, ◌++◌, List, [], ◌∷◌, length, refl, sym, subst}
-use Rattle.std.proofs.Common.{◌∙◌, inl, inr, arith}
-use Rattle.std.proofs.lemmas.Bool.{cases_lt}
-use Rattle.std.proofs.lemmas.Option.{slice_get_within}
+use Rattle.std.proofs.Common.{◌≡◌, ◌⊎◌, ℕ, ◌+◌, ◌<◌, ◌≤◌, ◌++◌, List, [], ◌∷◌, length, refl, sym, subst, ◌∙◌, inl, inr}
+use Rattle.std.proofs.{Common.{arith}, lemmas.Bool.{cases_lt}, lemmas.Option.{slice_get_within}}
 use Rattle.sect_lemmas.specs.Lists.{Has}
 use Rattle.sect_lemmas.proofs.Inserting.{behind}
 use Rattle.sect_types.specs.Sections.{sections_of}
 use Rattle.sect_emit.specs.Compiled.{CompiledView, program_of}
-use Rattle.sect_conflicts.specs.declared.conflict.SectionPair.{SectionPair}
-use Rattle.sect_conflicts.specs.Conflicts.{IsConflict}
+use Rattle.sect_conflicts.specs.{declared.conflict.SectionPair.{SectionPair}, Conflicts.{IsConflict}}
 use Rattle.sect_conflicts.specs.Comparing.{AreCompared, IsPairBefore, ArePairsInOrder, AreConflicts}
 use Rattle.sect_conflicts.specs.steps.Progress.{AreConflictsBefore}
 

@@ -1,45 +1,34 @@
 -- What a section asks for in every state is its fixed part and the globals that its locks name.
 use Rattle.std.proofs.Common.{◌≡◌, ◌⊎◌, ℕ, List, [], ◌∷◌, ◌++◌, Option, Some, None, true, false, refl, sym, ap, ◌∙◌}
-use Rattle.std.proofs.Common.{subst}
-use Rattle.std.proofs.Common.{inl, inr}
+use Rattle.std.proofs.Common.{subst, inl, inr}
 use Rattle.std.specs.Prelude.{slice_get, slice_index_or}
 use Rattle.sect_lemmas.specs.Lists.{Has}
-use Rattle.sect_lemmas.proofs.Membership.{Has-cases, Has-left, Has-right}
-use Rattle.sect_lemmas.proofs.Options.{some_injective}
+use Rattle.sect_lemmas.proofs.{Membership.{Has-cases, Has-left, Has-right}, Options.{some_injective}}
 use Rattle.sect_lemmas.proofs.Replaced.{slice_get-map}
 use Rattle.sect_types.specs.declared.declarations.types.ValueType.{ValueType}
-use Rattle.sect_types.specs.declared.meaning.store.ObjectName.{ObjectName}
-use Rattle.sect_types.specs.declared.meaning.store.Datum.{Datum}
+use Rattle.sect_types.specs.{declared.meaning.store.ObjectName.{ObjectName}, declared.meaning.store.Datum.{Datum}}
 use Rattle.sect_types.specs.declared.meaning.store.Datum.TheVariants.{Number, Null, Refers}
 use Rattle.sect_types.specs.Store.{ObjectView, StoreView, object_at}
 use Rattle.sect_types.specs.Whole.{FrameView, first_store, first_work, first_frames}
-use Rattle.sect_types.proofs.shared.Data.{fresh_refers, null_refers}
-use Rattle.sect_types.proofs.shared.Starts.{first_frame, settled_work}
-use Rattle.sect_points.specs.declared.holders.Variable.TheVariants as variable
+use Rattle.sect_types.proofs.shared.{Data.{fresh_refers, null_refers}, Starts.{first_frame, settled_work}}
 use Rattle.sect_points.specs.Paths.{PathView, var, dot}
-use Rattle.sect_modes.specs.declared.mode.Mode.{Mode}
-use Rattle.sect_modes.specs.declared.key.Key.{Key}
-use Rattle.sect_modes.specs.declared.key.Key.TheVariants as key
-use Rattle.sect_modes.specs.Mode.{are_compatible, is_at_least}
+use Rattle.sect_modes.specs.{declared.mode.Mode.{Mode}, declared.key.Key.{Key}, Mode.{are_compatible, is_at_least}}
 use Rattle.sect_modes.specs.Key.{is_key_below}
-use Rattle.sect_names.specs.declared.lock.Effect.{Effect}
-use Rattle.sect_names.specs.declared.lock.Lock.{Lock}
-use Rattle.sect_names.specs.declared.lock.Lock.TheVariants as lock
-use Rattle.sect_names.specs.Schemes.{SchemeView}
+use Rattle.sect_names.specs.{declared.lock.Effect.{Effect}, declared.lock.Lock.{Lock}, Schemes.{SchemeView}}
 use Rattle.sect_emit.specs.declared.plan.Grip.{Grip}
 use Rattle.sect_emit.specs.Plan.{grip, object_mode, object_wish, gathered, object_wishes, path_datum, plan_of}
-use Rattle.sect_emit.specs.Plan.{IsFixedPart, Ascends, field_datum, field_of}
-use Rattle.sect_emit.specs.PlanLaws.{Gives}
-use Rattle.sect_emit.specs.Compiled.{CompiledView, program_of}
-use Rattle.sect_emit.specs.State.{ThreadState, IsThread, outside, start, plan_at}
+use Rattle.sect_emit.specs.{Plan.{IsFixedPart, Ascends, field_datum, field_of}, PlanLaws.{Gives}}
+use Rattle.sect_emit.specs.{Compiled.{CompiledView, program_of}, State.{ThreadState, IsThread, outside, start, plan_at}}
 use Rattle.sect_emit.proofs.shared.Modes.{at_least_itself, join_least}
 use Rattle.sect_emit.proofs.shared.Plans.{gathered-all, gathered_key, gathered_meets, gathered_ascends, ascending_mode}
-use Rattle.sect_emit.proofs.shared.Plans.{ascends-append, fixed_part_keys}
-use Rattle.sect_emit.proofs.shared.Starting.{no_reference}
+use Rattle.sect_emit.proofs.shared.{Plans.{ascends-append, fixed_part_keys}, Starting.{no_reference}}
 use Rattle.sect_conflicts.specs.declared.conflict.KeyClash.{KeyClash}
 use Rattle.sect_conflicts.specs.Conflicts.{Clash, AlwaysAsks, AlwaysClash, IsStrongest, IsFirstClash, set_at}
 use Rattle.sect_conflicts.specs.steps.Steady.{global_wish, global_wishes, steady_of, steady_at, IsFirstIn}
 use Rattle.sect_conflicts.proofs.shared.Stronger.{both_stronger}
+use Rattle.sect_points.specs.declared.holders.Variable.TheVariants as variable
+use Rattle.sect_modes.specs.declared.key.Key.TheVariants as key
+use Rattle.sect_names.specs.declared.lock.Lock.TheVariants as lock
 
 -- in each state a path asks for the global that it names
 global_there : (store : StoreView) (locals : List Datum) (p : PathView) (e : Effect) (g : Grip)

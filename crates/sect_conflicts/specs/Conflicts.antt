@@ -1,26 +1,17 @@
 -- Whether two sections exclude each other. `conflicts` cites it.
 use Rattle.std.specs.Prelude.{◌≡◌, ◌⊎◌, ◌<◌, ℕ, true, false, List, [], ◌∷◌, ◌++◌, slice_index_or, if◌then◌else◌}
 use Rattle.sect_lemmas.specs.Lists.{Has}
-use Rattle.sect_types.specs.Store.{StoreView}
-use Rattle.sect_types.specs.declared.meaning.store.Datum.{Datum}
-use Rattle.sect_points.specs.Paths.{PathHas}
-use Rattle.sect_points.specs.Sets.{InSets}
-use Rattle.sect_modes.specs.declared.mode.Mode.{Mode}
-use Rattle.sect_modes.specs.declared.key.Key.{Key}
-use Rattle.sect_modes.specs.Mode.{are_compatible, is_at_least}
+use Rattle.sect_types.specs.{Store.{StoreView}, declared.meaning.store.Datum.{Datum}}
+use Rattle.sect_points.specs.{Paths.{PathHas}, Sets.{InSets}}
+use Rattle.sect_modes.specs.{declared.mode.Mode.{Mode}, declared.key.Key.{Key}, Mode.{are_compatible, is_at_least}}
 use Rattle.sect_modes.specs.Key.{is_key_below}
-use Rattle.sect_names.specs.declared.lock.Lock.{Lock}
-use Rattle.sect_names.specs.declared.lock.Lock.TheVariants as lock
-use Rattle.sect_names.specs.Schemes.{SchemeView}
-use Rattle.sect_emit.specs.declared.plan.Grip.{Grip}
-use Rattle.sect_emit.specs.Plan.{grip, object_mode}
-use Rattle.sect_emit.specs.PlanLaws.{Gives}
-use Rattle.sect_emit.specs.State.{plan_at}
+use Rattle.sect_names.specs.{declared.lock.Lock.{Lock}, Schemes.{SchemeView}}
+use Rattle.sect_emit.specs.{declared.plan.Grip.{Grip}, Plan.{grip, object_mode}, PlanLaws.{Gives}, State.{plan_at}}
 use Rattle.sect_emit.specs.Compiled.{CompiledView}
-use Rattle.sect_conflicts.specs.declared.conflict.KeyClash.{KeyClash}
-use Rattle.sect_conflicts.specs.declared.conflict.PathPair.{PathPair}
+use Rattle.sect_conflicts.specs.{declared.conflict.KeyClash.{KeyClash}, declared.conflict.PathPair.{PathPair}}
 use Rattle.sect_conflicts.specs.declared.conflict.Conflict.{Conflict}
 use Rattle.sect_conflicts.specs.declared.conflict.Conflict.TheVariants.{Always, Sometimes, Never}
+use Rattle.sect_names.specs.declared.lock.Lock.TheVariants as lock
 
 -- both plans ask for some key, in modes that aren't compatible
 abbrev pub Clash : List Grip → List Grip → Type 0

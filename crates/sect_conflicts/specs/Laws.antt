@@ -1,19 +1,13 @@
 -- What holds of sections that exclude each other, and of those that don't. The laws of this crate cite it.
 use Rattle.std.specs.Prelude.{◌≡◌, ◌↔◌, ℕ, List, [], Some, slice_get}
 use Rattle.sect_lemmas.specs.Lists.{Has}
-use Rattle.sect_types.specs.Sections.{SectionView, sections_of}
-use Rattle.sect_types.specs.Store.{StoreView}
-use Rattle.sect_types.specs.Meaning.{WorkView}
-use Rattle.sect_types.specs.declared.meaning.store.ObjectName.{ObjectName}
-use Rattle.sect_types.specs.declared.meaning.store.Datum.{Datum}
+use Rattle.sect_types.specs.{Sections.{SectionView, sections_of}, Store.{StoreView}, Meaning.{WorkView}}
+use Rattle.sect_types.specs.{declared.meaning.store.ObjectName.{ObjectName}, declared.meaning.store.Datum.{Datum}}
 use Rattle.sect_types.specs.declared.meaning.store.Datum.TheVariants.{Refers}
 use Rattle.sect_modes.specs.declared.key.Key.{Key}
-use Rattle.sect_emit.specs.Plan.{path_datum}
-use Rattle.sect_emit.specs.Compiled.{CompiledView, program_of}
-use Rattle.sect_emit.specs.Pointed.{IsPointed, ObjectsStay}
+use Rattle.sect_emit.specs.{Plan.{path_datum}, Compiled.{CompiledView, program_of}, Pointed.{IsPointed, ObjectsStay}}
 use Rattle.sect_emit.specs.State.{ThreadState, IsThread, plan_at, start}
-use Rattle.sect_conflicts.specs.declared.conflict.PathPair.{PathPair}
-use Rattle.sect_conflicts.specs.Conflicts.{Clash, AlwaysClash, MayGoTogether}
+use Rattle.sect_conflicts.specs.{declared.conflict.PathPair.{PathPair}, Conflicts.{Clash, AlwaysClash, MayGoTogether}}
 
 -- section i is one of a thread that works so over this store
 pub record IsSectionOver (c : CompiledView) (i : ℕ) (store : StoreView) (w : WorkView) : Type 0 where

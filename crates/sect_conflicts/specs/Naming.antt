@@ -3,8 +3,7 @@ use Rattle.std.specs.Prelude.{◌≢◌, ⊤, List, []}
 use Rattle.sect_lemmas.specs.Lists.{Has}
 use Rattle.sect_types.specs.Programs.{ProgramView}
 use Rattle.sect_names.specs.Locks.{IsPathOf}
-use Rattle.sect_conflicts.specs.declared.conflict.PathPair.{PathPair}
-use Rattle.sect_conflicts.specs.declared.conflict.SectionPair.{SectionPair}
+use Rattle.sect_conflicts.specs.{declared.conflict.PathPair.{PathPair}, declared.conflict.SectionPair.{SectionPair}}
 use Rattle.sect_conflicts.specs.declared.conflict.Conflict.{Conflict}
 use Rattle.sect_conflicts.specs.declared.conflict.Conflict.TheVariants.{Always, Sometimes, Never}
 

@@ -2,12 +2,9 @@
 
 ghost use Rattle.std.specs.Prelude.{◌≡◌, ◌&&◌, ◌∷◌, [], ◌++◌, ℕ, List, not, false, IfOk, OnOk, IfSome, IfNone};
 ghost use Rattle.sect_lemmas.specs.Lists.{Has};
-ghost use Rattle.sect_points.specs.declared.holders.Variable.TheVariants.{Global as GlobalOf};
-ghost use Rattle.sect_points.specs.Paths.{var};
-ghost use Rattle.sect_modes.specs.Key.{is_same_key};
-ghost use Rattle.sect_modes.specs.Mode.{are_compatible};
-ghost use Rattle.sect_emit.specs.declared.plan.Grip.{Grip as GripOf};
-ghost use Rattle.sect_emit.specs.Plan.{grip, gathered, Ascends};
+ghost use Rattle.sect_points.specs.{declared.holders.Variable.TheVariants.{Global as GlobalOf}, Paths.{var}};
+ghost use Rattle.sect_modes.specs.{Key.{is_same_key}, Mode.{are_compatible}};
+ghost use Rattle.sect_emit.specs.{declared.plan.Grip.{Grip as GripOf}, Plan.{grip, gathered, Ascends}};
 ghost use Rattle.sect_conflicts.specs.Conflicts.{Clash};
 ghost use Rattle.sect_conflicts.specs.steps.Steady.{global_wishes, steady_of, IsFirstIn};
 

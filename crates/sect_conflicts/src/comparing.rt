@@ -2,10 +2,8 @@
 
 ghost use Rattle.std.specs.Prelude.{◌≡◌, ◌<◌, ◌+◌, ◌↔◌, [], length, IfOk, OnOk, IsTrue};
 ghost use Rattle.sect_types.specs.Sections.{sections_of};
-ghost use Rattle.sect_conflicts.specs.Conflicts.{IsConflict};
-ghost use Rattle.sect_conflicts.specs.Comparing.{AreConflicts};
-ghost use Rattle.sect_conflicts.specs.steps.Profiles.{AreProfiles};
-ghost use Rattle.sect_conflicts.specs.steps.Progress.{AreConflictsBefore};
+ghost use Rattle.sect_conflicts.specs.{Conflicts.{IsConflict}, Comparing.{AreConflicts}};
+ghost use Rattle.sect_conflicts.specs.steps.{Profiles.{AreProfiles}, Progress.{AreConflictsBefore}};
 
 use crate::always::first_clash;
 use crate::conflict::{Conflict, PathPair, SectionPair};

@@ -4,8 +4,8 @@ ghost use Rattle.std.specs.Prelude.{◌≡◌, ◌↔◌, ℕ, length, IsTrue, O
 ghost use Rattle.sect_names.specs.Schemes.{SchemeView};
 ghost use Rattle.sect_points.specs.Sites.{InBoth};
 ghost use Rattle.sect_conflicts.specs.Conflicts.{MayBeOne, Selects, paths_of_two, paths_with, paths_between};
-ghost use Rattle.sect_conflicts.specs.steps.Profiles.{AreSitesOfLock, AreSitesOfLocks};
 ghost use Rattle.sect_conflicts.specs.Selecting.{Adds};
+ghost use Rattle.sect_conflicts.specs.steps.Profiles.{AreSitesOfLock, AreSitesOfLocks};
 
 use crate::conflict::PathPair;
 use sect_emit::object_mode;

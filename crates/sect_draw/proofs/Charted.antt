@@ -1,25 +1,17 @@
 -- Turns that are charted one after another.
-use Rattle.std.proofs.Common.{◌≡◌, ℕ, ◌+◌, ◌<◌, List, [], ◌∷◌, ◌++◌, length, map, drop, refl, sym, ap}
-use Rattle.std.proofs.Common.{◌∙◌, subst, inl, inr, arith}
-use Rattle.std.specs.Prelude.{String, Vec}
-use Rattle.std.specs.List.{flat_map}
-use Rattle.std.specs.declared.alloc.Global.{Global}
-use Rattle.std.proofs.lemmas.Grind.{flat_map-append}
+use Rattle.std.proofs.Common.{◌≡◌, ℕ, ◌+◌, ◌<◌, List, [], ◌∷◌, ◌++◌, length, map, drop, refl, sym, ap, ◌∙◌, subst, inl}
+use Rattle.std.proofs.{Common.{inr, arith}, lemmas.Grind.{flat_map-append}}
 use Rattle.std.proofs.lemmas.List.{append-nil, map-append, length-map}
+use Rattle.std.specs.{Prelude.{String, Vec}, List.{flat_map}, declared.alloc.Global.{Global}}
 use Rattle.sect_lemmas.specs.Lists.{Has}
 use Rattle.sect_lemmas.proofs.Membership.{Has-cases}
 use Rattle.sect_types.specs.Programs.{ProgramView}
-use Rattle.sect_store.specs.Printing.{outcome_text}
-use Rattle.sect_store.specs.Outcomes.{OutcomeView}
-use Rattle.sect_emit.specs.Compiled.{CompiledView, program_of}
-use Rattle.sect_emit.specs.State.{State, start}
-use Rattle.sect_world.specs.Runs.{order_of}
-use Rattle.sect_world.specs.Worlds.{WorldView, Does, threads_of, outcome_at}
-use Rattle.sect_draw.specs.Waits.{waiting_after}
-use Rattle.sect_draw.specs.Table.{table_text}
+use Rattle.sect_store.specs.{Printing.{outcome_text}, Outcomes.{OutcomeView}}
+use Rattle.sect_emit.specs.{Compiled.{CompiledView, program_of}, State.{State, start}}
+use Rattle.sect_world.specs.{Runs.{order_of}, Worlds.{WorldView, Does, threads_of, outcome_at}}
+use Rattle.sect_draw.specs.{Waits.{waiting_after}, Table.{table_text}}
 use Rattle.sect_draw.specs.Chart.{TurnView, AreTurns, IsChart, heading, turn_row, turn_rows, chart_text}
-use Rattle.sect_draw.specs.steps.Tables.{texts, rows_of, HaveCells}
-use Rattle.sect_draw.specs.steps.Turning.{IsCharted}
+use Rattle.sect_draw.specs.steps.{Tables.{texts, rows_of, HaveCells}, Turning.{IsCharted}}
 use Rattle.sect_draw.proofs.Turns.{turns_more, rows_more}
 
 -- what the turns of these threads have made of the first world, with their rows below the heading

@@ -1,12 +1,8 @@
 -- A cell for each thread.
 use Rattle.std.proofs.Common.{◌≡◌, ℕ, ◌+◌, ◌<◌, List, [], ◌∷◌, ◌++◌, length, drop, sym, ap, ◌∙◌, append_assoc}
-use Rattle.std.specs.Prelude.{String}
-use Rattle.std.specs.String.{string_bytes}
-use Rattle.std.specs.declared.alloc.Global.{Global}
-use Rattle.std.proofs.lemmas.List.{map-append}
-use Rattle.std.proofs.lemmas.Option.{get_or_from_slice_get}
-use Rattle.sect_lemmas.proofs.Elements.{drop_next}
-use Rattle.sect_lemmas.proofs.Places.{at_of}
+use Rattle.std.proofs.{lemmas.List.{map-append}, lemmas.Option.{get_or_from_slice_get}}
+use Rattle.std.specs.{Prelude.{String}, String.{string_bytes}, declared.alloc.Global.{Global}}
+use Rattle.sect_lemmas.proofs.{Elements.{drop_next}, Places.{at_of}}
 use Rattle.sect_types.specs.Statements.{TextView}
 use Rattle.sect_draw.specs.Chart.{by_thread}
 use Rattle.sect_draw.specs.steps.Tables.{texts}

@@ -1,24 +1,16 @@
 -- What every event keeps, and what turns come to.
-use Rattle.std.proofs.Common.{◌≡◌, ◌≢◌, ◌≤◌, ◌<◌, ℕ, List, [], ◌∷◌, length, Some, refl, sym, ap, subst}
-use Rattle.std.proofs.Common.{◌∙◌, inl, inr, arith, length-append}
+use Rattle.std.proofs.Common.{◌≡◌, ◌≢◌, ◌≤◌, ◌<◌, ℕ, List, [], ◌∷◌, length, Some, refl, sym, ap, subst, ◌∙◌, inl, inr}
+use Rattle.std.proofs.{Common.{arith, length-append}, lemmas.Option.{slice_get_within}}
 use Rattle.std.specs.Prelude.{slice_get}
-use Rattle.std.proofs.lemmas.Option.{slice_get_within}
 use Rattle.sect_lemmas.specs.Lists.{Has}
 use Rattle.sect_lemmas.proofs.Replaced.{length-put_at, put_same}
-use Rattle.sect_emit.specs.Compiled.{CompiledView}
-use Rattle.sect_emit.specs.Plan.{grip}
-use Rattle.sect_emit.specs.State.{ThreadState, State, IsThread, with_thread, plan_at}
-use Rattle.sect_emit.specs.declared.plan.Grip.{Grip}
-use Rattle.sect_world.specs.Events.{MayDo, entering}
-use Rattle.sect_world.specs.Runs.{RunsTo}
-use Rattle.sect_world.specs.Sights.{wish_in}
-use Rattle.sect_world.specs.Worlds.{Does, MayFollow, kind_of}
-use Rattle.sect_world.specs.declared.event.Deed.{Deed}
+use Rattle.sect_emit.specs.{Compiled.{CompiledView}, Plan.{grip}}
+use Rattle.sect_emit.specs.{State.{ThreadState, State, IsThread, with_thread, plan_at}, declared.plan.Grip.{Grip}}
+use Rattle.sect_world.specs.{Events.{MayDo, entering}, Runs.{RunsTo}, Sights.{wish_in}}
+use Rattle.sect_world.specs.{Worlds.{Does, MayFollow, kind_of}, declared.event.Deed.{Deed}}
 use Rattle.sect_world.specs.declared.event.Deed.TheVariants.{Local, Enter, Take, Begin, Again, Act, Leave}
-use Rattle.sect_world.specs.declared.event.Event.{Event}
-use Rattle.sect_world.specs.declared.turned.EventKind.{EventKind}
-use Rattle.sect_world.specs.declared.turned.Turned.{Turned}
-use Rattle.sect_world.specs.declared.turned.Turned.TheVariants.{Moved, Waits, Ended}
+use Rattle.sect_world.specs.{declared.event.Event.{Event}, declared.turned.EventKind.{EventKind}}
+use Rattle.sect_world.specs.{declared.turned.Turned.{Turned}, declared.turned.Turned.TheVariants.{Moved, Waits, Ended}}
 use Rattle.sect_draw.specs.steps.Turning.{HasEntered, WantsSome}
 
 -- the output grows, and the threads stay as many

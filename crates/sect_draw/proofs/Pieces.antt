@@ -1,9 +1,8 @@
 -- Texts that are put together piece by piece.
 use Rattle.std.proofs.Common.{◌≡◌, ℕ, ◌+◌, ◌<◌, List, ◌++◌, length, drop, Some, sym, ap, ◌∙◌, append_assoc}
-use Rattle.std.specs.Prelude.{slice_get}
 use Rattle.std.proofs.lemmas.Option.{slice_get_within, get_or_from_slice_get}
-use Rattle.sect_lemmas.proofs.Elements.{drop_next}
-use Rattle.sect_lemmas.proofs.Places.{at_of}
+use Rattle.std.specs.Prelude.{slice_get}
+use Rattle.sect_lemmas.proofs.{Elements.{drop_next}, Places.{at_of}}
 use Rattle.sect_store.specs.Printing.{by_place}
 
 -- one piece more

@@ -1,11 +1,8 @@
 -- The cells of a row from a place on.
-use Rattle.std.proofs.Common.{◌≡◌, ℕ, ◌+◌, ◌-◌, ◌<◌, List, [], ◌∷◌, ◌++◌, length, drop, get_or, true, false, refl, ap, ◌∙◌}
-use Rattle.std.proofs.Common.{append_assoc, Bool, take, arith, length-drop}
-use Rattle.std.proofs.lemmas.List.{take_all}
-use Rattle.std.specs.Prelude.{String, codes, replicate, ◌==◌, ◌&&◌, if◌then◌else◌}
-use Rattle.std.specs.List.{list_all}
-use Rattle.std.specs.String.{string_bytes}
-use Rattle.std.specs.declared.alloc.Global.{Global}
+use Rattle.std.proofs.Common.{◌≡◌, ℕ, ◌+◌, ◌-◌, ◌<◌, List, [], ◌∷◌, ◌++◌, length, drop, get_or, true, false, refl, ap}
+use Rattle.std.proofs.{Common.{◌∙◌, append_assoc, Bool, take, arith, length-drop}, lemmas.List.{take_all}}
+use Rattle.std.specs.{Prelude.{String, codes, replicate, ◌==◌, ◌&&◌, if◌then◌else◌}, List.{list_all}}
+use Rattle.std.specs.{String.{string_bytes}, declared.alloc.Global.{Global}}
 use Rattle.sect_lemmas.proofs.Elements.{drop_next}
 use Rattle.sect_emit.specs.Explaining.{column}
 use Rattle.sect_draw.specs.Table.{widest, cells_text}

@@ -1,11 +1,9 @@
 -- Turns one after another.
 use Rattle.std.proofs.Common.{◌≡◌, ℕ, ◌+◌, List, [], ◌∷◌, ◌++◌, length, drop, refl, sym, ap, subst, ◌∙◌, arith}
 use Rattle.sect_types.specs.Programs.{ProgramView}
-use Rattle.sect_emit.specs.Compiled.{CompiledView}
-use Rattle.sect_emit.specs.State.{State}
+use Rattle.sect_emit.specs.{Compiled.{CompiledView}, State.{State}}
 use Rattle.sect_world.specs.Worlds.{Does, threads_of}
-use Rattle.sect_draw.specs.Waits.{waiting_after}
-use Rattle.sect_draw.specs.Chart.{TurnView, AreTurns, turn_row, turn_rows}
+use Rattle.sect_draw.specs.{Waits.{waiting_after}, Chart.{TurnView, AreTurns, turn_row, turn_rows}}
 
 -- one turn more
 pub turns_more : (c : CompiledView) (s : State) (ws : List ℕ) (xs : List TurnView) (between : State) (waited : List ℕ)

@@ -2,8 +2,7 @@
 use Rattle.std.proofs.Common.{◌≡◌, ℕ, zero, suc, ◌<◌, List, [], ◌∷◌, length, Some, arith}
 use Rattle.std.specs.Prelude.{slice_get}
 use Rattle.sect_lemmas.proofs.Options.{none_or_some}
-use Rattle.sect_emit.specs.State.{ThreadState, State}
-use Rattle.sect_emit.specs.declared.plan.Grip.{Grip}
+use Rattle.sect_emit.specs.{State.{ThreadState, State}, declared.plan.Grip.{Grip}}
 use Rattle.sect_world.specs.Sights.{first_wish, wish_in}
 
 wishes_there : (threads : List ThreadState) (t : ℕ) (g : Grip) → wish_in (slice_get threads t) ≡ Some g

@@ -1,27 +1,17 @@
 -- A chart of turns. `chart` cites it.
 use Rattle.std.specs.Prelude.{◌≡◌, ℕ, ℤ, ◌+◌, ◌-◌, List, [], ◌∷◌, ◌++◌, Option, Some, None, codes, map, drop, length}
-use Rattle.std.specs.Prelude.{replicate, slice_get, ◌==◌, if◌then◌else◌}
-use Rattle.std.specs.List.{flat_map}
+use Rattle.std.specs.{Prelude.{replicate, slice_get, ◌==◌, if◌then◌else◌}, List.{flat_map}}
 use Rattle.std.specs.Fmt.{decimal, signed_decimal}
-use Rattle.sect_types.specs.Statements.{TextView, Stop, Do, Choose, Loop, Section}
-use Rattle.sect_types.specs.Programs.{ProgramView}
-use Rattle.sect_types.specs.Endings.{end_text}
-use Rattle.sect_types.specs.declared.meaning.store.End.{End}
+use Rattle.sect_types.specs.{Statements.{TextView, Stop, Do, Choose, Loop, Section}, Programs.{ProgramView}}
+use Rattle.sect_types.specs.{Endings.{end_text}, declared.meaning.store.End.{End}}
 use Rattle.sect_store.specs.Printing.{outcome_text}
-use Rattle.sect_emit.specs.Labels.{thread_name}
-use Rattle.sect_emit.specs.Compiled.{CompiledView, program_of}
+use Rattle.sect_emit.specs.{Labels.{thread_name}, Compiled.{CompiledView, program_of}}
 use Rattle.sect_emit.specs.State.{ThreadState, State, start}
-use Rattle.sect_world.specs.Runs.{order_of}
-use Rattle.sect_world.specs.Sights.{end_of}
-use Rattle.sect_world.specs.Worlds.{Does, threads_of, outcome_at}
-use Rattle.sect_world.specs.declared.event.Deed.{Deed}
-use Rattle.sect_world.specs.declared.event.Deed.TheVariants.{Enter}
-use Rattle.sect_world.specs.declared.event.Event.{Event}
-use Rattle.sect_world.specs.declared.turned.Turned.{Turned}
+use Rattle.sect_world.specs.{Runs.{order_of}, Sights.{end_of}, Worlds.{Does, threads_of, outcome_at}}
+use Rattle.sect_world.specs.{declared.event.Deed.{Deed}, declared.event.Deed.TheVariants.{Enter}}
+use Rattle.sect_world.specs.{declared.event.Event.{Event}, declared.turned.Turned.{Turned}}
 use Rattle.sect_world.specs.declared.turned.Turned.TheVariants.{Moved, Waits, Ended}
-use Rattle.sect_draw.specs.Words.{deed_text}
-use Rattle.sect_draw.specs.Waits.{waiting_after, wait_text}
-use Rattle.sect_draw.specs.Table.{table_text}
+use Rattle.sect_draw.specs.{Words.{deed_text}, Waits.{waiting_after, wait_text}, Table.{table_text}}
 
 -- a turn: its thread, what it has come to, its events, the numbers that it has delivered, the state after it, and who
 -- waits then, in the order in which they began to

@@ -1,21 +1,14 @@
 -- Control-flow graphs in the language of Graphviz. `graph` cites it.
 use Rattle.std.specs.Prelude.{◌≡◌, ◌↔◌, ℕ, ◌+◌, List, [], ◌∷◌, ◌++◌, Option, Some, None, codes, length, slice_get}
-use Rattle.std.specs.Prelude.{slice_index_or, ◌==◌, ◌||◌, if◌then◌else◌}
-use Rattle.std.specs.List.{flat_map}
-use Rattle.std.specs.Fmt.{decimal}
+use Rattle.std.specs.{Prelude.{slice_index_or, ◌==◌, ◌||◌, if◌then◌else◌}, List.{flat_map}, Fmt.{decimal}}
 use Rattle.sect_front.specs.TreeView.{TreeView}
-use Rattle.sect_graph.specs.declared.flow.Node.{Node}
-use Rattle.sect_graph.specs.declared.flow.Successors.{Successors}
-use Rattle.sect_graph.specs.declared.flow.Successors.TheVariants.{Next, Branch}
-use Rattle.sect_graph.specs.Layout.{flow_nodes}
+use Rattle.sect_graph.specs.{declared.flow.Node.{Node}, declared.flow.Successors.{Successors}}
+use Rattle.sect_graph.specs.{declared.flow.Successors.TheVariants.{Next, Branch}, Layout.{flow_nodes}}
 use Rattle.sect_infer.specs.Sets.{AreNeeded}
-use Rattle.sect_names.specs.Chains.{link, IsGeneratedAt}
-use Rattle.sect_names.specs.Needed.{end_of}
-use Rattle.sect_names.specs.Printing.{lock_text, locks_text}
+use Rattle.sect_names.specs.{Chains.{link, IsGeneratedAt}, Needed.{end_of}, Printing.{lock_text, locks_text}}
 use Rattle.sect_names.specs.declared.lock.Lock.{Lock}
 use Rattle.sect_store.specs.Printing.{by_place}
-use Rattle.sect_emit.specs.Compiled.{CompiledView, program_of}
-use Rattle.sect_emit.specs.Explaining.{section_at, section_deed}
+use Rattle.sect_emit.specs.{Compiled.{CompiledView, program_of}, Explaining.{section_at, section_deed}}
 use Rattle.sect_emit.specs.Labels.{thread_name}
 
 -- a byte in a string: behind `\` where it is `"` or `\`

@@ -1,19 +1,13 @@
 -- Who waits for what. `put_wait` and `note_turn` cite it.
 use Rattle.std.specs.Prelude.{ℕ, Bool, false, not, List, [], ◌∷◌, ◌++◌, Option, Some, None, codes, filter, ◌==◌}
-use Rattle.std.specs.Prelude.{if◌then◌else◌}
-use Rattle.std.specs.List.{flat_map, list_any}
+use Rattle.std.specs.{Prelude.{if◌then◌else◌}, List.{flat_map, list_any}}
 use Rattle.sect_types.specs.Programs.{ProgramView}
-use Rattle.sect_modes.specs.Mode.{mode_text, are_compatible}
-use Rattle.sect_modes.specs.Key.{is_same_key}
-use Rattle.sect_modes.specs.declared.mode.Mode.{Mode}
+use Rattle.sect_modes.specs.{Mode.{mode_text, are_compatible}, Key.{is_same_key}, declared.mode.Mode.{Mode}}
 use Rattle.sect_modes.specs.declared.key.Key.{Key}
 use Rattle.sect_store.specs.Printing.{by_place}
-use Rattle.sect_emit.specs.Labels.{thread_name}
-use Rattle.sect_emit.specs.Plan.{held_mode}
-use Rattle.sect_emit.specs.State.{ThreadState, State}
+use Rattle.sect_emit.specs.{Labels.{thread_name}, Plan.{held_mode}, State.{ThreadState, State}}
 use Rattle.sect_emit.specs.declared.plan.Grip.{Grip}
-use Rattle.sect_world.specs.Sights.{first_wish}
-use Rattle.sect_world.specs.declared.turned.Turned.{Turned}
+use Rattle.sect_world.specs.{Sights.{first_wish}, declared.turned.Turned.{Turned}}
 use Rattle.sect_world.specs.declared.turned.Turned.TheVariants.{Moved, Waits, Ended}
 use Rattle.sect_draw.specs.Words.{key_text}
 

@@ -1,14 +1,12 @@
 -- Keys and deeds as they are printed. `put_key` and `put_deed` cite it.
-use Rattle.std.specs.Prelude.{ℕ, List, ◌++◌, codes}
-use Rattle.std.specs.Fmt.{decimal}
+use Rattle.std.specs.{Prelude.{ℕ, List, ◌++◌, codes}, Fmt.{decimal}}
 use Rattle.sect_types.specs.Programs.{ProgramView}
-use Rattle.sect_types.specs.declared.meaning.store.ObjectName.TheVariants as object
 use Rattle.sect_store.specs.Printing.{object_name}
-use Rattle.sect_modes.specs.Mode.{mode_text}
-use Rattle.sect_modes.specs.declared.key.Key.{Key}
-use Rattle.sect_modes.specs.declared.key.Key.TheVariants as key
+use Rattle.sect_modes.specs.{Mode.{mode_text}, declared.key.Key.{Key}}
 use Rattle.sect_world.specs.declared.event.Deed.{Deed}
 use Rattle.sect_world.specs.declared.event.Deed.TheVariants.{Local, Enter, Take, Begin, Again, Act, Leave}
+use Rattle.sect_types.specs.declared.meaning.store.ObjectName.TheVariants as object
+use Rattle.sect_modes.specs.declared.key.Key.TheVariants as key
 
 -- all, a class by its number, an object by its name
 abbrev pub key_text : ProgramView → Key → List ℕ

@@ -1,18 +1,15 @@
 //! Control-flow graphs in the language of Graphviz.
 
 ghost use Rattle.std.specs.Prelude.{◌≡◌, ◌<◌, ◌≤◌, ◌+◌, ◌-◌, ◌++◌, ℕ, List, Some, length, slice_get, IfOk, OnOk};
+ghost use Rattle.std.specs.String.{string_bytes};
 ghost use Rattle.sect_types.specs.Sections.{sections_of};
 ghost use Rattle.sect_graph.specs.Layout.{flow_nodes};
-ghost use Rattle.sect_names.specs.declared.lock.Lock.{Lock as ALock};
-ghost use Rattle.sect_names.specs.Printing.{IsNamed, AreNamed};
+ghost use Rattle.sect_names.specs.{declared.lock.Lock.{Lock as ALock}, Printing.{IsNamed, AreNamed}};
 ghost use Rattle.sect_store.specs.Printing.{by_place};
-ghost use Rattle.sect_emit.specs.Compiled.{program_of};
-ghost use Rattle.sect_emit.specs.Explaining.{section_at, section_deed};
+ghost use Rattle.sect_emit.specs.{Compiled.{program_of}, Explaining.{section_at, section_deed}};
 ghost use Rattle.sect_draw.specs.Graphs.{escaped_byte, label_line, node_opening, node_closing, node_text, edge_text};
 ghost use Rattle.sect_draw.specs.Graphs.{edges_text, node_edges, heading_text, cluster_text, AreGenerated, IsCluster};
-ghost use Rattle.sect_draw.specs.Graphs.{IsGraph};
-ghost use Rattle.sect_draw.specs.Graphs.{section_words, takes_words, needs_words, node_with};
-ghost use Rattle.std.specs.String.{string_bytes};
+ghost use Rattle.sect_draw.specs.Graphs.{IsGraph, section_words, takes_words, needs_words, node_with};
 ghost use Rattle.sect_draw.specs.steps.Drawings.{AreNamedLocks, IsDrawing};
 
 use sect_emit::{

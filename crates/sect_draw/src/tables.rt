@@ -1,9 +1,7 @@
 //! Cells in columns.
 
-ghost use Rattle.std.specs.Prelude.{◌≡◌, ◌<◌, ◌≤◌, ◌++◌, ℕ, List, length, slice_index_or, IfOk, OnOk};
-ghost use Rattle.std.specs.Prelude.{vec_len, [], ◌==◌};
-ghost use Rattle.std.specs.List.{list_all};
-ghost use Rattle.std.specs.String.{string_bytes};
+ghost use Rattle.std.specs.Prelude.{◌≡◌, ◌<◌, ◌≤◌, ◌++◌, ℕ, List, length, slice_index_or, IfOk, OnOk, vec_len, []};
+ghost use Rattle.std.specs.{Prelude.{◌==◌}, List.{list_all}, String.{string_bytes}};
 ghost use Rattle.sect_draw.specs.Table.{widest, cells_text, row_line, table_text};
 ghost use Rattle.sect_draw.specs.steps.Tables.{texts, rows_of, HaveCells, HaveWidths};
 

@@ -1,12 +1,8 @@
 //! Who waits for what.
 
-ghost use Rattle.std.specs.Prelude.{◌≡◌, ◌<◌, ◌++◌, length, Some, OnOk};
-ghost use Rattle.std.specs.List.{flat_map};
-ghost use Rattle.std.specs.String.{string_bytes};
-ghost use Rattle.sect_emit.specs.declared.plan.Grip.{Grip as Wish};
-ghost use Rattle.sect_emit.specs.Compiled.{program_of};
+ghost use Rattle.std.specs.{Prelude.{◌≡◌, ◌<◌, ◌++◌, length, Some, OnOk}, List.{flat_map}, String.{string_bytes}};
+ghost use Rattle.sect_emit.specs.{declared.plan.Grip.{Grip as Wish}, Compiled.{program_of}, Labels.{thread_name}};
 ghost use Rattle.sect_world.specs.Sights.{first_wish, mode_of};
-ghost use Rattle.sect_emit.specs.Labels.{thread_name};
 ghost use Rattle.sect_draw.specs.Waits.{waiting_after, ahead_of, against_text, behind_text, holders_text, wait_text};
 
 use crate::words::put_key;

@@ -1,7 +1,6 @@
 //! Keys and deeds as they are printed.
 
-ghost use Rattle.std.specs.Prelude.{◌≡◌, ◌++◌, OnOk};
-ghost use Rattle.std.specs.String.{string_bytes};
+ghost use Rattle.std.specs.{Prelude.{◌≡◌, ◌++◌, OnOk}, String.{string_bytes}};
 ghost use Rattle.sect_draw.specs.Words.{key_text, deed_text};
 
 use sect_modes::Key;

@@ -1,8 +1,7 @@
 -- Numbers that are chosen one by one.
 use Rattle.std.proofs.Common.{ℕ, ◌+◌, List, [], ◌∷◌, ◌++◌, refl, sym, subst}
 use Rattle.std.specs.List.{range_with_len}
-use Rattle.sect_conflicts.specs.Conflicts.{Selects}
-use Rattle.sect_conflicts.specs.Selecting.{Adds}
+use Rattle.sect_conflicts.specs.{Conflicts.{Selects}, Selecting.{Adds}}
 use Rattle.sect_conflicts.proofs.shared.Selecting.{adds_one, adds_none, adds_both, adds_all}
 use Rattle.sect_editor.proofs.Listing.{counting}
 

@@ -1,15 +1,10 @@
 -- Lists of values that are made one by one.
 use Rattle.std.proofs.Common.{◌≡◌, ℕ, ◌+◌, ◌<◌, ◌≤◌, List, [], ◌∷◌, ◌++◌, length, map, take, get_or, sym, ap, ◌∙◌}
-use Rattle.std.proofs.Common.{arith, append-nil, append_assoc}
-use Rattle.std.specs.Prelude.{Vec}
-use Rattle.std.specs.declared.alloc.Global.{Global}
-use Rattle.std.specs.List.{flat_map, range_with_len}
-use Rattle.std.proofs.lemmas.Grind.{flat_map-append}
+use Rattle.std.proofs.{Common.{arith, append-nil, append_assoc}, lemmas.Grind.{flat_map-append}}
 use Rattle.std.proofs.lemmas.List.{map-append, map-id, take_all, take_more}
 use Rattle.std.proofs.lemmas.List.FromFn.{map-range_with_len_more}
-use Rattle.serde_json.specs.Data.{Data}
-use Rattle.serde_json.specs.View.{view}
-use Rattle.serde_json.specs.declared.value.Value.{Value, Array}
+use Rattle.std.specs.{Prelude.{Vec}, declared.alloc.Global.{Global}, List.{flat_map, range_with_len}}
+use Rattle.serde_json.specs.{Data.{Data}, View.{view}, declared.value.Value.{Value, Array}}
 use Rattle.serde_json.proofs.Views.{view-Array}
 use Rattle.sect_editor.specs.Ranges.{list}
 

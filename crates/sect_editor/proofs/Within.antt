@@ -1,20 +1,14 @@
 -- What is found among names lies where they lie.
-use Rattle.std.proofs.Common.{ℕ, List, [], ◌∷◌, Option, Some, None, map, filter}
-use Rattle.std.proofs.Common.{subst, sym, ⊎_elim, arith}
+use Rattle.std.proofs.Common.{ℕ, List, [], ◌∷◌, Option, Some, None, map, filter, subst, sym, ⊎_elim, arith}
+use Rattle.std.proofs.{lemmas.List.Elements.{All-nil, All-cons, All-filter, All-map}, lemmas.Option.{slice_get_cases}}
 use Rattle.std.specs.Prelude.{option_and_then, slice_get}
-use Rattle.std.proofs.lemmas.List.Elements.{All-nil, All-cons, All-filter, All-map}
-use Rattle.std.proofs.lemmas.Option.{slice_get_cases}
 use Rattle.sect_front.specs.FaultPlaces.{IsWithin}
-use Rattle.sect_places.specs.Spans.{AreProper}
-use Rattle.sect_places.specs.declared.name_use.NameSpan.{NameSpan}
-use Rattle.sect_places.specs.declared.name_use.Role.{Role}
-use Rattle.sect_places.specs.declared.name_use.Role.TheVariants as role
-use Rattle.sect_editor.specs.declared.position.Encoding.{Encoding}
-use Rattle.sect_editor.specs.declared.position.Place.{Place}
+use Rattle.sect_places.specs.{Spans.{AreProper}, declared.name_use.NameSpan.{NameSpan}, declared.name_use.Role.{Role}}
+use Rattle.sect_editor.specs.{declared.position.Encoding.{Encoding}, declared.position.Place.{Place}}
 use Rattle.sect_editor.specs.Queries.{declared_at, uses_by}
-use Rattle.sect_editor.specs.Referring.{found, field_by, base_record, declaration_by, declaration_of, name_at}
-use Rattle.sect_editor.specs.Referring.{refers}
+use Rattle.sect_editor.specs.Referring.{found, field_by, base_record, declaration_by, declaration_of, name_at, refers}
 use Rattle.sect_editor.specs.steps.Naming.{IsNameWithin, AreNamesWithin, AreSpansWithin, IsFoundWithin}
+use Rattle.sect_places.specs.declared.name_use.Role.TheVariants as role
 
 -- names whose spans are proper
 pub proper_within : (total : ℕ) (names : List NameSpan) → AreProper total (map (λ n. n.span) names)

@@ -1,8 +1,7 @@
 -- Words that are read one by one.
 use Rattle.std.proofs.Common.{◌≡◌, ◌<◌, ℕ, List, [], ◌∷◌, ◌++◌, length, take, drop, ap, subst, ◌∙◌}
 use Rattle.sect_front.specs.Gaps.{after_gap}
-use Rattle.sect_editor.specs.declared.words.Word.{Word}
-use Rattle.sect_editor.specs.Words.{word_of, word_length, Begins}
+use Rattle.sect_editor.specs.{declared.words.Word.{Word}, Words.{word_of, word_length, Begins}}
 
 -- one word more
 pub begins_more : (bytes : List ℕ) (ws : List Word) (rest : List ℕ) (w : Word) → Begins bytes ws rest → 0 < length rest

@@ -1,10 +1,9 @@
 -- The compiled program of a text, if it has one.
 use Rattle.std.specs.Prelude.{◌≡◌, ◌≢◌, ◌⊎◌, ℕ, List, Option, Some, None}
 use Rattle.serde_json.specs.Data.{Data, null}
-use Rattle.sect_names.specs.Sources.{IsDue}
-use Rattle.sect_names.specs.declared.refusal.SourceRefusal.{SourceRefusal}
-use Rattle.sect_names.specs.declared.refusal.SourceRefusal.TheVariants as refusal
+use Rattle.sect_names.specs.{Sources.{IsDue}, declared.refusal.SourceRefusal.{SourceRefusal}}
 use Rattle.sect_emit.specs.Compiled.{CompiledView, IsCompiledFrom}
+use Rattle.sect_names.specs.declared.refusal.SourceRefusal.TheVariants as refusal
 
 -- the text is refused
 abbrev pub IsRefused : List ℕ → ℕ → Type 0

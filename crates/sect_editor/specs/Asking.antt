@@ -1,19 +1,12 @@
 -- What may be asked of an open document, and what is answered.
 use Rattle.std.specs.Prelude.{ℕ, List, Option, Some, None, option_map}
 use Rattle.serde_json.specs.Data.{Data}
-use Rattle.sect_editor.specs.declared.position.Encoding.{Encoding}
-use Rattle.sect_editor.specs.declared.position.Place.{Place}
-use Rattle.sect_editor.specs.declared.question.Question.{Question}
+use Rattle.sect_editor.specs.{declared.position.Encoding.{Encoding}, declared.position.Place.{Place}}
+use Rattle.sect_editor.specs.{declared.question.Question.{Question}, declared.text.Reading.{Reading}}
+use Rattle.sect_editor.specs.{declared.text.Text.{Text}, Accepted.{IsCompiledIf, IsToldOf}, Completing.{IsCompletion}}
+use Rattle.sect_editor.specs.{Hovering.{IsHoverIf}, Marks.{AreHints, AreLenses, hinted_range}, Positions.{offset}}
+use Rattle.sect_editor.specs.{Queries.{IsAnswer, place_of}, Symbols.{AreSymbols}}
 use Rattle.sect_editor.specs.declared.question.Question.TheVariants as question
-use Rattle.sect_editor.specs.declared.text.Reading.{Reading}
-use Rattle.sect_editor.specs.declared.text.Text.{Text}
-use Rattle.sect_editor.specs.Accepted.{IsCompiledIf, IsToldOf}
-use Rattle.sect_editor.specs.Completing.{IsCompletion}
-use Rattle.sect_editor.specs.Hovering.{IsHoverIf}
-use Rattle.sect_editor.specs.Marks.{AreHints, AreLenses, hinted_range}
-use Rattle.sect_editor.specs.Positions.{offset}
-use Rattle.sect_editor.specs.Queries.{IsAnswer, place_of}
-use Rattle.sect_editor.specs.Symbols.{AreSymbols}
 
 -- the compiled program is that of the text, which has none if it is refused
 abbrev pub IsJudged : Text → Type 0

@@ -1,20 +1,14 @@
 -- What may be written at a place of a text, whether or not it is one of the language.
 use Rattle.std.specs.Prelude.{◌≡◌, ℕ, ◌+◌, ◌-◌, ◌&&◌, Bool, true, false, if◌then◌else◌, nat_eq, List, [], ◌∷◌, ◌++◌}
 use Rattle.std.specs.Prelude.{Option, Some, None, option_and_then, length, take, map, filter, position, slice_get}
-use Rattle.std.specs.Prelude.{codes}
-use Rattle.std.specs.Prelude.{count_by}
-use Rattle.std.specs.Option.{option_or}
-use Rattle.std.specs.Cmp.Lexicographic.{pointwise}
+use Rattle.std.specs.{Prelude.{codes, count_by}, Option.{option_or}, Cmp.Lexicographic.{pointwise}}
 use Rattle.serde_json.specs.Data.{Data, null, string, object, no_members, member}
 use Rattle.sect_places.specs.declared.name_use.Thing.{Thing}
+use Rattle.sect_editor.specs.{declared.words.Word.{Word}, declared.declaring.Head.{Head}}
+use Rattle.sect_editor.specs.{declared.declaring.Declared.{Declared}, Ranges.{count, list}, Words.{AreWords}}
 use Rattle.sect_places.specs.declared.name_use.Thing.TheVariants as thing
-use Rattle.sect_editor.specs.declared.words.Word.{Word}
 use Rattle.sect_editor.specs.declared.words.Word.TheVariants as word
-use Rattle.sect_editor.specs.declared.declaring.Head.{Head}
 use Rattle.sect_editor.specs.declared.declaring.Head.TheVariants as head
-use Rattle.sect_editor.specs.declared.declaring.Declared.{Declared}
-use Rattle.sect_editor.specs.Ranges.{count, list}
-use Rattle.sect_editor.specs.Words.{AreWords}
 
 -- ---- what is declared
 

@@ -2,8 +2,7 @@
 use Rattle.std.specs.Prelude.{◌⊎◌, ℕ, List}
 use Rattle.serde_json.specs.Data.{Data}
 use Rattle.sect_emit.specs.Compiled.{CompiledView, IsCompiledFrom}
-use Rattle.sect_editor.specs.Mistaken.{IsMistake}
-use Rattle.sect_editor.specs.Warned.{AreWarningsOf}
+use Rattle.sect_editor.specs.{Mistaken.{IsMistake}, Warned.{AreWarningsOf}}
 
 -- the diagnostics of a text are those of `lint`: the mistake for which it is refused, or the warnings of what it is
 -- compiled to

@@ -1,40 +1,29 @@
 -- What is told of the place under the pointer: of a name what it is, of an `atomic` its locks and why they are needed,
 -- of a statement of a section the locks that are needed from there on.
 use Rattle.std.specs.Prelude.{◌≡◌, ◌<◌, ℕ, ◌-◌, ◌&&◌, Bool, true, false, if◌then◌else◌, nat_lt, nat_le, List, [], ◌∷◌}
-use Rattle.std.specs.Prelude.{nat_eq}
-use Rattle.std.specs.Prelude.{◌++◌, Option, Some, None, filter, length, slice_get, slice_index_or, codes}
-use Rattle.std.specs.Prelude.{zero, suc}
-use Rattle.std.specs.List.{flat_map, list_any, count_by, range_with_len}
-use Rattle.std.specs.Fmt.{decimal}
+use Rattle.std.specs.Prelude.{nat_eq, ◌++◌, Option, Some, None, filter, length, slice_get, slice_index_or, codes, zero}
+use Rattle.std.specs.{Prelude.{suc}, List.{flat_map, list_any, count_by, range_with_len}, Fmt.{decimal}}
 use Rattle.serde_json.specs.Data.{Data, null, string, object, no_members, member}
 use Rattle.sect_front.specs.declared.span.Span.{Span}
-use Rattle.sect_types.specs.Programs.{sites_of}
-use Rattle.sect_types.specs.Sections.{sections_of}
+use Rattle.sect_types.specs.{Programs.{sites_of}, Sections.{sections_of}}
 use Rattle.sect_graph.specs.Layout.{flow_nodes}
-use Rattle.sect_points.specs.declared.holders.Holder.TheVariants as holder
 use Rattle.sect_points.specs.Sets.{PointsToView, InSets}
 use Rattle.sect_infer.specs.Sets.{AreNeeded}
-use Rattle.sect_names.specs.declared.link.Link.{Link}
-use Rattle.sect_names.specs.declared.lock.Lock.{Lock}
-use Rattle.sect_names.specs.Needed.{end_of}
+use Rattle.sect_names.specs.{declared.link.Link.{Link}, declared.lock.Lock.{Lock}, Needed.{end_of}}
 use Rattle.sect_names.specs.Printing.{locks_text}
-use Rattle.sect_places.specs.declared.lines.NodeLine.{NodeLine}
-use Rattle.sect_places.specs.declared.name_use.NameSpan.{NameSpan}
-use Rattle.sect_places.specs.declared.name_use.Role.{Role}
-use Rattle.sect_places.specs.declared.name_use.Role.TheVariants as role
-use Rattle.sect_places.specs.declared.name_use.Thing.TheVariants as thing
-use Rattle.sect_places.specs.declared.origin_spans.NodeSpan.{NodeSpan}
-use Rattle.sect_places.specs.Declarations.{is_record, is_global, is_thread, does_in}
-use Rattle.sect_places.specs.NameSpans.{AreNameSpans}
-use Rattle.sect_places.specs.NodeLines.{AreNodeLines}
-use Rattle.sect_places.specs.NodeSpans.{NodeSpansView, AreNodeSpans}
+use Rattle.sect_places.specs.{declared.lines.NodeLine.{NodeLine}, declared.name_use.NameSpan.{NameSpan}}
+use Rattle.sect_places.specs.{declared.name_use.Role.{Role}, declared.origin_spans.NodeSpan.{NodeSpan}}
+use Rattle.sect_places.specs.{Declarations.{is_record, is_global, is_thread, does_in}, NameSpans.{AreNameSpans}}
+use Rattle.sect_places.specs.{NodeLines.{AreNodeLines}, NodeSpans.{NodeSpansView, AreNodeSpans}}
 use Rattle.sect_emit.specs.Compiled.{CompiledView, program_of}
 use Rattle.sect_emit.specs.Explaining.{IsChained, section_at, section_deed, section_explained}
 use Rattle.sect_conflicts.specs.Conflicts.{Selects}
-use Rattle.sect_editor.specs.declared.objects.Referrer.{Referrer}
-use Rattle.sect_editor.specs.declared.objects.Referrer.TheVariants as referrer
-use Rattle.sect_editor.specs.Marks.{head_at, set_text}
+use Rattle.sect_editor.specs.{declared.objects.Referrer.{Referrer}, Marks.{head_at, set_text}}
 use Rattle.sect_editor.specs.Referring.{declared_under, type_by}
+use Rattle.sect_points.specs.declared.holders.Holder.TheVariants as holder
+use Rattle.sect_places.specs.declared.name_use.Role.TheVariants as role
+use Rattle.sect_places.specs.declared.name_use.Thing.TheVariants as thing
+use Rattle.sect_editor.specs.declared.objects.Referrer.TheVariants as referrer
 
 -- a place stands at some bytes, or right behind them
 abbrev pub touches_span : ℕ → Span → Bool

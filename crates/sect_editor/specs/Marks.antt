@@ -1,24 +1,17 @@
 -- What is told at the sections of a text: behind each `atomic` its locks, and above it which sections it excludes.
 use Rattle.std.specs.Prelude.{◌≡◌, ℕ, ◌-◌, ◌==◌, ◌&&◌, Bool, true, false, if◌then◌else◌, nat_le, List, [], ◌∷◌, ◌++◌}
 use Rattle.std.specs.Prelude.{Option, Some, None, length, slice_index_or, codes, option_and_then}
-use Rattle.std.specs.List.{flat_map, range_with_len}
-use Rattle.std.specs.Fmt.{decimal}
-use Rattle.serde_json.specs.Data.{Data, boolean, string, object, no_members, member}
-use Rattle.serde_json.specs.Find.{pointer}
-use Rattle.sect_front.specs.Front.{line_of}
-use Rattle.sect_front.specs.declared.span.Span.{Span}
+use Rattle.std.specs.{List.{flat_map, range_with_len}, Fmt.{decimal}}
+use Rattle.serde_json.specs.{Data.{Data, boolean, string, object, no_members, member}, Find.{pointer}}
+use Rattle.sect_front.specs.{Front.{line_of}, declared.span.Span.{Span}}
 use Rattle.sect_types.specs.Sections.{sections_of}
 use Rattle.sect_names.specs.Printing.{locks_text}
-use Rattle.sect_places.specs.NodeSpans.{NodeSpansView, AreNodeSpans}
-use Rattle.sect_places.specs.Spans.{no_span}
+use Rattle.sect_places.specs.{NodeSpans.{NodeSpansView, AreNodeSpans}, Spans.{no_span}}
 use Rattle.sect_emit.specs.Compiled.{CompiledView, program_of}
-use Rattle.sect_conflicts.specs.Comparing.{AreConflicts}
-use Rattle.sect_conflicts.specs.Conflicts.{set_at}
-use Rattle.sect_conflicts.specs.declared.conflict.Conflict.{Conflict}
+use Rattle.sect_conflicts.specs.{Comparing.{AreConflicts}, Conflicts.{set_at}, declared.conflict.Conflict.{Conflict}}
 use Rattle.sect_conflicts.specs.declared.conflict.Conflict.TheVariants.{Always, Sometimes, Never}
 use Rattle.sect_conflicts.specs.declared.conflict.SectionPair.{SectionPair}
-use Rattle.sect_editor.specs.declared.position.Range.{Range}
-use Rattle.sect_editor.specs.Positions.{range_in}
+use Rattle.sect_editor.specs.{declared.position.Range.{Range}, Positions.{range_in}}
 use Rattle.sect_editor.specs.Ranges.{list, place_json, range_json}
 
 -- the numbers of all sections

@@ -1,14 +1,11 @@
 -- The mistake of a text that is refused, as an editor shows it.
 use Rattle.std.specs.Prelude.{◌≡◌, ℕ, List, [], ◌∷◌, ◌++◌, codes}
 use Rattle.serde_json.specs.Data.{Data, string, object, no_members, member}
-use Rattle.sect_front.specs.FaultPlaces.{span_from}
-use Rattle.sect_front.specs.declared.span.Span.{Span}
-use Rattle.sect_lint.specs.declared.diagnostic.Detail.{Detail}
-use Rattle.sect_lint.specs.declared.diagnostic.Detail.TheVariants as detail
-use Rattle.sect_lint.specs.declared.diagnostic.Diagnostic.{Diagnostic}
-use Rattle.sect_lint.specs.Mistakes.{number_of, title_of, note_of}
-use Rattle.sect_lint.specs.Reports.{IsRefusedFor}
+use Rattle.sect_front.specs.{FaultPlaces.{span_from}, declared.span.Span.{Span}}
+use Rattle.sect_lint.specs.{declared.diagnostic.Detail.{Detail}, declared.diagnostic.Diagnostic.{Diagnostic}}
+use Rattle.sect_lint.specs.{Mistakes.{number_of, title_of, note_of}, Reports.{IsRefusedFor}}
 use Rattle.sect_editor.specs.Ranges.{count, list, range_json, location_json}
+use Rattle.sect_lint.specs.declared.diagnostic.Detail.TheVariants as detail
 
 -- another place of the document, and what is said of it
 abbrev pub related_json : List ℕ → List ℕ → List ℕ → Span → Data

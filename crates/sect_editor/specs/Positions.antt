@@ -1,12 +1,10 @@
 -- Positions of the protocol in a text: a line, and units of the encoding on it, both counted from 0.
-use Rattle.std.specs.Prelude.{ℕ, ◌+◌, ◌-◌, ◌==◌, ◌&&◌, ◌||◌, if◌then◌else◌, nat_lt, nat_le, List, [], ◌∷◌, drop}
-use Rattle.std.specs.Prelude.{Option, option_map, option_and_then, codes}
-use Rattle.serde_json.specs.Data.{Data}
-use Rattle.serde_json.specs.Find.{get, as_number, as_u64}
+use Rattle.std.specs.Prelude.{ℕ, ◌+◌, ◌-◌, ◌==◌, ◌&&◌, ◌||◌, if◌then◌else◌, nat_lt, nat_le, List, [], ◌∷◌, drop, Option}
+use Rattle.std.specs.Prelude.{option_map, option_and_then, codes}
+use Rattle.serde_json.specs.{Data.{Data}, Find.{get, as_number, as_u64}}
 use Rattle.sect_front.specs.Gaps.{line_feed}
 use Rattle.sect_editor.specs.declared.position.Encoding.{Encoding}
-use Rattle.sect_editor.specs.declared.position.Encoding.TheVariants.{Utf8, Utf16}
-use Rattle.sect_editor.specs.declared.position.Place.{Place}
+use Rattle.sect_editor.specs.{declared.position.Encoding.TheVariants.{Utf8, Utf16}, declared.position.Place.{Place}}
 use Rattle.sect_editor.specs.declared.position.Range.{Range}
 
 -- ---- in a message

@@ -1,28 +1,20 @@
 -- What is asked of an open document, and what is answered.
-use Rattle.std.specs.Prelude.{◌≡◌, ◌≢◌, ◌⊎◌, ℕ, Bool, false, not, ◌&&◌, ◌||◌, if◌then◌else◌, List, [], map}
-use Rattle.std.specs.Prelude.{Option, Some, None, option_and_then, nat_eq, codes}
-use Rattle.std.specs.List.{list_any}
+use Rattle.std.specs.Prelude.{◌≡◌, ◌≢◌, ◌⊎◌, ℕ, Bool, false, not, ◌&&◌, ◌||◌, if◌then◌else◌, List, [], map, Option}
+use Rattle.std.specs.{Prelude.{Some, None, option_and_then, nat_eq, codes}, List.{list_any}}
 use Rattle.std.specs.Cmp.Lexicographic.{pointwise}
-use Rattle.serde_json.specs.Data.{Data, null, string, object, no_members, member}
-use Rattle.serde_json.specs.Find.{pointer, as_str}
-use Rattle.sect_front.specs.Front.{IsFault}
-use Rattle.sect_front.specs.Words.{is_name}
-use Rattle.sect_front.specs.declared.parsing.FrontFault.{FrontFault}
-use Rattle.sect_front.specs.declared.parsing.FrontFault.TheVariants as front
+use Rattle.serde_json.specs.{Data.{Data, null, string, object, no_members, member}, Find.{pointer, as_str}}
+use Rattle.sect_front.specs.{Front.{IsFault}, Words.{is_name}, declared.parsing.FrontFault.{FrontFault}}
 use Rattle.sect_front.specs.declared.span.Span.{Span}
-use Rattle.sect_places.specs.NameSpans.{HasNameSpans}
-use Rattle.sect_places.specs.declared.name_use.NameSpan.{NameSpan}
-use Rattle.sect_places.specs.declared.name_use.Thing.TheVariants as thing
+use Rattle.sect_places.specs.{NameSpans.{HasNameSpans}, declared.name_use.NameSpan.{NameSpan}}
 use Rattle.sect_places.specs.declared.name_use.Role.{Role}
-use Rattle.sect_places.specs.declared.name_use.Role.TheVariants as role
 use Rattle.sect_places.specs.Declarations.{is_record, is_field, is_global, is_procedure, is_thread, is_local}
-use Rattle.sect_editor.specs.declared.position.Encoding.{Encoding}
-use Rattle.sect_editor.specs.declared.position.Place.{Place}
-use Rattle.sect_editor.specs.declared.query.Query.{Query}
+use Rattle.sect_editor.specs.{declared.position.Encoding.{Encoding}, declared.position.Place.{Place}}
+use Rattle.sect_editor.specs.{declared.query.Query.{Query}, Positions.{offset, place_in}}
+use Rattle.sect_editor.specs.{Ranges.{list, range_json, location_json}, Referring.{declared_under, uses_of}}
+use Rattle.sect_front.specs.declared.parsing.FrontFault.TheVariants as front
+use Rattle.sect_places.specs.declared.name_use.Thing.TheVariants as thing
+use Rattle.sect_places.specs.declared.name_use.Role.TheVariants as role
 use Rattle.sect_editor.specs.declared.query.Query.TheVariants as query
-use Rattle.sect_editor.specs.Positions.{offset, place_in}
-use Rattle.sect_editor.specs.Ranges.{list, range_json, location_json}
-use Rattle.sect_editor.specs.Referring.{declared_under, uses_of}
 
 -- the names of a text. One that spells no tree has none
 abbrev pub AreNamesOf : List ℕ → List NameSpan → Type 0

@@ -1,9 +1,7 @@
 -- Places of a text, as the protocol tells them.
 use Rattle.std.specs.Prelude.{ℕ, ◌-◌, List, codes}
-use Rattle.serde_json.specs.Data.{Data, number, string, array, object, unsigned, no_members, member}
-use Rattle.serde_json.specs.View.{items_of}
-use Rattle.sect_front.specs.Front.{line_of}
-use Rattle.sect_front.specs.declared.span.Span.{Span}
+use Rattle.serde_json.specs.{Data.{Data, number, string, array, object, unsigned, no_members, member}, View.{items_of}}
+use Rattle.sect_front.specs.{Front.{line_of}, declared.span.Span.{Span}}
 use Rattle.sect_places.specs.Positions.{column_of}
 
 abbrev pub count : ℕ → Data

@@ -1,12 +1,10 @@
 -- Which declaration a name of a text refers to, and which names refer to it.
-use Rattle.std.specs.Prelude.{ℕ, Bool, false, ◌&&◌, List, Option, Some, None, map, filter}
-use Rattle.std.specs.Prelude.{nat_eq, nat_le, position, slice_get, option_and_then}
-use Rattle.std.specs.Cmp.Lexicographic.{pointwise}
+use Rattle.std.specs.Prelude.{ℕ, Bool, false, ◌&&◌, List, Option, Some, None, map, filter, nat_eq, nat_le, position}
+use Rattle.std.specs.{Prelude.{slice_get, option_and_then}, Cmp.Lexicographic.{pointwise}}
 use Rattle.sect_front.specs.declared.span.Span.{Span}
-use Rattle.sect_places.specs.declared.name_use.NameSpan.{NameSpan}
-use Rattle.sect_places.specs.declared.name_use.Role.{Role}
-use Rattle.sect_places.specs.declared.name_use.Role.TheVariants as role
+use Rattle.sect_places.specs.{declared.name_use.NameSpan.{NameSpan}, declared.name_use.Role.{Role}}
 use Rattle.sect_places.specs.Declarations.{record_of, global_of, procedure_of, field_of, variable_of, type_in, base_in}
+use Rattle.sect_places.specs.declared.name_use.Role.TheVariants as role
 
 -- the name of that number, if one is given
 abbrev pub found : List NameSpan → Option ℕ → Option NameSpan

@@ -1,21 +1,14 @@
 -- What is listed of a text: what it declares, and its sections.
-use Rattle.std.specs.Prelude.{◌≡◌, ℕ, List, [], ◌∷◌, ◌++◌, Option, Some, None, codes}
-use Rattle.std.specs.List.{flat_map}
-use Rattle.std.specs.Fmt.{decimal}
+use Rattle.std.specs.{Prelude.{◌≡◌, ℕ, List, [], ◌∷◌, ◌++◌, Option, Some, None, codes}, List.{flat_map}, Fmt.{decimal}}
 use Rattle.serde_json.specs.Data.{Data, string, object, no_members, member}
 use Rattle.sect_front.specs.declared.span.Span.{Span}
-use Rattle.sect_places.specs.NodeSpans.{NodeSpansView, AreNodeSpans}
-use Rattle.sect_places.specs.declared.name_use.NameSpan.{NameSpan}
+use Rattle.sect_places.specs.{NodeSpans.{NodeSpansView, AreNodeSpans}, declared.name_use.NameSpan.{NameSpan}}
 use Rattle.sect_places.specs.declared.name_use.Role.{Role}
+use Rattle.sect_emit.specs.{Compiled.{CompiledView, program_of}, Explaining.{section_at}, Labels.{thread_name}}
+use Rattle.sect_editor.specs.{Accepted.{IsCompiledIf}, Marks.{head_at, section_numbers}, Queries.{AreNamesOf}}
+use Rattle.sect_editor.specs.Ranges.{count, list, range_json}
 use Rattle.sect_places.specs.declared.name_use.Role.TheVariants as role
 use Rattle.sect_places.specs.declared.name_use.Thing.TheVariants as thing
-use Rattle.sect_emit.specs.Compiled.{CompiledView, program_of}
-use Rattle.sect_emit.specs.Explaining.{section_at}
-use Rattle.sect_emit.specs.Labels.{thread_name}
-use Rattle.sect_editor.specs.Accepted.{IsCompiledIf}
-use Rattle.sect_editor.specs.Marks.{head_at, section_numbers}
-use Rattle.sect_editor.specs.Queries.{AreNamesOf}
-use Rattle.sect_editor.specs.Ranges.{count, list, range_json}
 
 -- how the protocol calls what is listed: a struct, a variable, a function, and a module for a thread
 abbrev pub symbol_kind : Role → Option ℕ

@@ -3,12 +3,10 @@ use Rattle.std.specs.Prelude.{◌≡◌, ℕ, List, [], ◌∷◌, ◌++◌, map
 use Rattle.serde_json.specs.Data.{Data, string, object, no_members, member}
 use Rattle.sect_emit.specs.Compiled.{CompiledView}
 use Rattle.sect_editor.specs.Ranges.{count, list, range_json}
-use Rattle.sect_warnings.specs.Titles.{told_name}
-use Rattle.sect_warnings.specs.Formats.{AreAllPlaced}
-use Rattle.sect_warnings.specs.declared.warning.Spare.TheVariants as spare
-use Rattle.sect_warnings.specs.declared.warning.Told.{Told}
-use Rattle.sect_warnings.specs.declared.warning.Told.TheVariants as told
+use Rattle.sect_warnings.specs.{Titles.{told_name}, Formats.{AreAllPlaced}, declared.warning.Told.{Told}}
 use Rattle.sect_warnings.specs.Placed.{PlacedView, behind}
+use Rattle.sect_warnings.specs.declared.warning.Spare.TheVariants as spare
+use Rattle.sect_warnings.specs.declared.warning.Told.TheVariants as told
 
 -- what nothing uses is shown as something that may go
 abbrev pub tags : Told → List Data

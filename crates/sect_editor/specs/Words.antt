@@ -1,8 +1,7 @@
 -- The words of a text, whether or not it is one of the language.
 use Rattle.std.specs.Prelude.{◌≡◌, ◌<◌, ℕ, if◌then◌else◌, max, List, [], ◌∷◌, length, take, drop, take_while, codes}
 use Rattle.std.specs.Str.{bytes_eq}
-use Rattle.sect_front.specs.Gaps.{after_gap}
-use Rattle.sect_front.specs.Words.{is_name_byte, is_name}
+use Rattle.sect_front.specs.{Gaps.{after_gap}, Words.{is_name_byte, is_name}}
 use Rattle.sect_editor.specs.declared.words.Word.{Word}
 use Rattle.sect_editor.specs.declared.words.Word.TheVariants as word
 

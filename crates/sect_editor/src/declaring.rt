@@ -1,7 +1,6 @@
 //! What the words of a text declare, whether or not it is one of the language.
 
-ghost use Rattle.std.specs.Prelude.{◌≡◌, ◌++◌, IfOk, OnOk};
-ghost use Rattle.std.specs.Option.{option_copied};
+ghost use Rattle.std.specs.{Prelude.{◌≡◌, ◌++◌, IfOk, OnOk}, Option.{option_copied}};
 ghost use Rattle.sect_editor.specs.Completing.{is_head as is_head_by, head_after as head_by, typed, named_by};
 ghost use Rattle.sect_editor.specs.Completing.{declared_by, declared_in as declared_in_by, scope_of as scope_by};
 ghost use Rattle.sect_editor.specs.Completing.{base_by, base_of as base_of_by};

@@ -2,8 +2,7 @@
 
 ghost use Rattle.std.specs.Prelude.{◌≤◌, IfOk};
 ghost use Rattle.serde_json.specs.View.{view};
-ghost use Rattle.sect_editor.specs.Accepted.{IsCompiledIf};
-ghost use Rattle.sect_editor.specs.Diagnosing.{AreDiagnostics};
+ghost use Rattle.sect_editor.specs.{Accepted.{IsCompiledIf}, Diagnosing.{AreDiagnostics}};
 
 use crate::mistakes::mistake_value;
 use crate::warned::warnings_of;

@@ -1,7 +1,6 @@
 //! What is told of the place under the pointer.
 
-ghost use Rattle.std.specs.Prelude.{◌≡◌, ◌<◌, ◌++◌, Some, IfOk, OnOk, IfSome, length};
-ghost use Rattle.std.specs.Option.{option_copied};
+ghost use Rattle.std.specs.{Prelude.{◌≡◌, ◌<◌, ◌++◌, Some, IfOk, OnOk, IfSome, length}, Option.{option_copied}};
 ghost use Rattle.std.specs.String.{string_bytes};
 ghost use Rattle.serde_json.specs.View.{view};
 ghost use Rattle.sect_front.specs.Front.{IsSpelled};
@@ -9,9 +8,9 @@ ghost use Rattle.sect_types.specs.Sections.{sections_of};
 ghost use Rattle.sect_emit.specs.Compiled.{program_of};
 ghost use Rattle.sect_editor.specs.Hovering.{touches_span as touches_by, IsFirst, is_head_under, IsSectionTold};
 ghost use Rattle.sect_editor.specs.Hovering.{is_statement_under, is_node_under, node_count, IsNodeTold, AreNodesTold};
-ghost use Rattle.sect_editor.specs.Hovering.{node_head, node_lines as node_lines_by};
+ghost use Rattle.sect_editor.specs.Hovering.{node_head, node_lines as node_lines_by, AreAllNodesTold, section_count};
+ghost use Rattle.sect_editor.specs.Hovering.{hover_json, IsHover, IsHoverIf};
 ghost use Rattle.sect_names.specs.Printing.{AreNamed};
-ghost use Rattle.sect_editor.specs.Hovering.{AreAllNodesTold, section_count, hover_json, IsHover, IsHoverIf};
 ghost use Rattle.sect_editor.specs.steps.Pointing.{IsPointed};
 
 use crate::marks::put_set;

@@ -1,12 +1,9 @@
 //! What is told at the sections of a text: behind each `atomic` its locks, and above it which sections it excludes.
 
-ghost use Rattle.std.specs.Prelude.{◌≡◌, ◌<◌, ◌-◌, ◌++◌, IfOk, OnOk, length, map, codes};
-ghost use Rattle.std.specs.Fmt.{decimal};
-ghost use Rattle.std.specs.List.{flat_map};
-ghost use Rattle.std.specs.String.{string_bytes};
+ghost use Rattle.std.specs.{Prelude.{◌≡◌, ◌<◌, ◌-◌, ◌++◌, IfOk, OnOk, length, map, codes}, Fmt.{decimal}};
+ghost use Rattle.std.specs.{List.{flat_map}, String.{string_bytes}};
 ghost use Rattle.serde_json.specs.View.{view};
-ghost use Rattle.sect_front.specs.Front.{IsSpelled, line_of};
-ghost use Rattle.sect_front.specs.FaultPlaces.{IsWithin};
+ghost use Rattle.sect_front.specs.{Front.{IsSpelled, line_of}, FaultPlaces.{IsWithin}};
 ghost use Rattle.sect_types.specs.Sections.{sections_of};
 ghost use Rattle.sect_emit.specs.Compiled.{program_of};
 ghost use Rattle.sect_conflicts.specs.Conflicts.{set_at};

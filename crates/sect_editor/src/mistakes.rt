@@ -4,8 +4,7 @@ ghost use Rattle.std.specs.Prelude.{◌≡◌, IfOk, length};
 ghost use Rattle.serde_json.specs.View.{view};
 ghost use Rattle.sect_front.specs.FaultPlaces.{IsWithin};
 ghost use Rattle.sect_lint.specs.Details.{IsDetailWithin};
-ghost use Rattle.sect_editor.specs.Mistaken.{related_json, related_by, mistake_json};
-ghost use Rattle.sect_editor.specs.Ranges.{list};
+ghost use Rattle.sect_editor.specs.{Mistaken.{related_json, related_by, mistake_json}, Ranges.{list}};
 
 use crate::ranges::{location_value, range_value};
 use sect_front::Span;

@@ -1,12 +1,8 @@
 //! Which objects a declared name may refer to, and how both are told.
 
 ghost use Rattle.std.specs.Prelude.{◌≡◌, ◌<◌, ◌≤◌, ◌↔◌, ◌&&◌, ◌++◌, ◌-◌, ℕ, Some, IfOk, OnOk, IsTrue, All, length};
-ghost use Rattle.std.specs.Prelude.{nat_lt};
-ghost use Rattle.std.specs.Prelude.{slice_get, slice_index_or};
-ghost use Rattle.std.specs.List.{list_any};
-ghost use Rattle.std.specs.String.{string_bytes};
-ghost use Rattle.sect_points.specs.Sets.{InSets};
-ghost use Rattle.sect_points.specs.declared.holders.Holder.TheVariants.{Local, Slot};
+ghost use Rattle.std.specs.{Prelude.{nat_lt, slice_get, slice_index_or}, List.{list_any}, String.{string_bytes}};
+ghost use Rattle.sect_points.specs.{Sets.{InSets}, declared.holders.Holder.TheVariants.{Local, Slot}};
 ghost use Rattle.sect_places.specs.Declarations.{is_record, is_global, is_thread, does_in};
 ghost use Rattle.sect_editor.specs.Hovering.{type_text, kind_text, declaration_line, declared_before, referrer_by};
 ghost use Rattle.sect_editor.specs.Hovering.{RefersTo, AreSitesOf, record_numbers, sites_in as sites_in_by, class_line};

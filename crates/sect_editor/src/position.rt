@@ -3,9 +3,8 @@
 ghost use Rattle.std.specs.Prelude.{◌≡◌, ◌≤◌, length};
 ghost use Rattle.serde_json.specs.View.{view};
 ghost use Rattle.sect_editor.specs.Positions.{units as units_by, line_start as line_start_by};
-ghost use Rattle.sect_editor.specs.Positions.{bytes_of_units as bytes_by, offset as offset_by};
-ghost use Rattle.sect_editor.specs.Positions.{number_in as number_by, place_in as place_by, place_at as place_at_by};
-ghost use Rattle.sect_editor.specs.Positions.{range_in as range_by};
+ghost use Rattle.sect_editor.specs.Positions.{bytes_of_units as bytes_by, offset as offset_by, number_in as number_by};
+ghost use Rattle.sect_editor.specs.Positions.{place_in as place_by, place_at as place_at_by, range_in as range_by};
 
 use serde_json::Value;
 

@@ -1,16 +1,12 @@
 //! What is asked of an open document.
 
-ghost use Rattle.std.specs.Prelude.{◌≡◌, Some, IfOk, length, map, option_map, option_and_then};
-ghost use Rattle.serde_json.specs.View.{view};
+ghost use Rattle.std.specs.{Prelude.{◌≡◌, Some, IfOk, length, map, option_map, option_and_then}, List.{list_any}};
+ghost use Rattle.serde_json.specs.{View.{view}, Find.{pointer as pointer_by, as_str}};
 ghost use Rattle.sect_front.specs.FaultPlaces.{IsWithin};
-ghost use Rattle.sect_editor.specs.Queries.{AreNamesOf};
-ghost use Rattle.sect_editor.specs.Positions.{place_in as place_in_by};
-ghost use Rattle.serde_json.specs.Find.{pointer as pointer_by, as_str};
-ghost use Rattle.std.specs.List.{list_any};
-ghost use Rattle.sect_editor.specs.Queries.{declared_at as declared_by, definition_json, uses_by, highlight_json};
-ghost use Rattle.sect_editor.specs.Queries.{clashes as clashes_by, takes as takes_by};
+ghost use Rattle.sect_editor.specs.Queries.{AreNamesOf, declared_at as declared_by, definition_json, uses_by};
+ghost use Rattle.sect_editor.specs.Queries.{highlight_json, clashes as clashes_by, takes as takes_by};
 ghost use Rattle.sect_editor.specs.Queries.{may_be_called as may_be_called_by, edit_json, rename_json, rename_by};
-ghost use Rattle.sect_editor.specs.Queries.{answer_by, IsAnswer};
+ghost use Rattle.sect_editor.specs.{Queries.{answer_by, IsAnswer}, Positions.{place_in as place_in_by}};
 ghost use Rattle.sect_editor.specs.Ranges.{list, location_json};
 ghost use Rattle.sect_editor.specs.steps.Naming.{AreNamesWithin, AreSpansWithin, IsFoundWithin};
 

@@ -1,12 +1,9 @@
 //! What may be asked of an open document, and what is answered.
 
 ghost use Rattle.std.specs.Prelude.{◌≡◌, ◌≤◌, IfOk, IfSome, length, option_map, option_and_then};
-ghost use Rattle.serde_json.specs.Find.{pointer};
-ghost use Rattle.sect_editor.specs.Positions.{range_in as range_in_by};
-ghost use Rattle.serde_json.specs.View.{view};
-ghost use Rattle.sect_editor.specs.Accepted.{IsToldOf};
-ghost use Rattle.sect_editor.specs.Asking.{byte_told as byte_by, IsJudged, IsAnswerTo};
-ghost use Rattle.sect_editor.specs.Hovering.{IsHoverIf};
+ghost use Rattle.serde_json.specs.{Find.{pointer}, View.{view}};
+ghost use Rattle.sect_editor.specs.{Positions.{range_in as range_in_by}, Accepted.{IsToldOf}};
+ghost use Rattle.sect_editor.specs.{Asking.{byte_told as byte_by, IsJudged, IsAnswerTo}, Hovering.{IsHoverIf}};
 ghost use Rattle.sect_editor.specs.Marks.{AreHints, AreLenses, hinted_range as range_by};
 
 use crate::completion::completion_value;

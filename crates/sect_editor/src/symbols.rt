@@ -1,22 +1,15 @@
 //! What is listed of a text: what it declares, and its sections.
 
 ghost use Rattle.std.specs.Prelude.{◌≡◌, ◌<◌, ◌++◌, List, Some, IfOk, IfSome, OnOk, length, map, option_map};
-ghost use Rattle.std.specs.List.{flat_map};
-ghost use Rattle.std.specs.String.{string_bytes};
-ghost use Rattle.serde_json.specs.Data.{Data};
-ghost use Rattle.serde_json.specs.View.{view};
-ghost use Rattle.sect_front.specs.Front.{IsSpelled};
-ghost use Rattle.sect_front.specs.FaultPlaces.{IsWithin};
+ghost use Rattle.std.specs.{List.{flat_map}, String.{string_bytes}};
+ghost use Rattle.serde_json.specs.{Data.{Data}, View.{view}};
+ghost use Rattle.sect_front.specs.{Front.{IsSpelled}, FaultPlaces.{IsWithin}};
 ghost use Rattle.sect_types.specs.Sections.{sections_of};
-ghost use Rattle.sect_emit.specs.Compiled.{program_of};
-ghost use Rattle.sect_emit.specs.Explaining.{section_at};
-ghost use Rattle.sect_emit.specs.Labels.{thread_name};
-ghost use Rattle.sect_editor.specs.Asking.{IsJudged};
-ghost use Rattle.sect_editor.specs.Marks.{section_numbers};
+ghost use Rattle.sect_emit.specs.{Compiled.{program_of}, Explaining.{section_at}, Labels.{thread_name}};
+ghost use Rattle.sect_editor.specs.{Asking.{IsJudged}, Marks.{section_numbers}};
 ghost use Rattle.sect_editor.specs.Symbols.{symbol_kind as symbol_kind_by, symbol_json, symbol_by, symbols_of};
 ghost use Rattle.sect_editor.specs.Symbols.{section_with, section_symbols, AreSectionSymbols, AreSymbols};
-ghost use Rattle.sect_editor.specs.steps.Marking.{IsMarked};
-ghost use Rattle.sect_editor.specs.steps.Naming.{AreNamesWithin};
+ghost use Rattle.sect_editor.specs.steps.{Marking.{IsMarked}, Naming.{AreNamesWithin}};
 
 use crate::marks::{Marked, head_of};
 use crate::query::names_of;

@@ -1,10 +1,8 @@
 //! The warnings of a text that is accepted, as an editor shows them.
 
-ghost use Rattle.std.specs.Prelude.{◌≡◌, IfOk, length, map};
-ghost use Rattle.std.specs.String.{string_bytes};
+ghost use Rattle.std.specs.{Prelude.{◌≡◌, IfOk, length, map}, String.{string_bytes}};
 ghost use Rattle.serde_json.specs.View.{view};
-ghost use Rattle.sect_front.specs.Front.{IsSpelled};
-ghost use Rattle.sect_front.specs.FaultPlaces.{IsWithin};
+ghost use Rattle.sect_front.specs.{Front.{IsSpelled}, FaultPlaces.{IsWithin}};
 ghost use Rattle.sect_emit.specs.Compiled.{program_of};
 ghost use Rattle.sect_editor.specs.Ranges.{list};
 ghost use Rattle.sect_editor.specs.Warned.{message_of as message_by, tags as tags_by, warning_json, AreWarningsOf};

@@ -1,7 +1,6 @@
 //! The words of a text, whether or not it is one of the language.
 
-ghost use Rattle.std.specs.Prelude.{◌≡◌, ◌<◌, ◌≤◌, IfOk, length, take_while};
-ghost use Rattle.std.specs.Str.{bytes_eq};
+ghost use Rattle.std.specs.{Prelude.{◌≡◌, ◌<◌, ◌≤◌, IfOk, length, take_while}, Str.{bytes_eq}};
 ghost use Rattle.sect_front.specs.Words.{is_name_byte as is_name_byte_by};
 ghost use Rattle.sect_editor.specs.Words.{word_of as word_by, word_length as length_by, AreWords};
 

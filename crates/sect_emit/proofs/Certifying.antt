@@ -1,28 +1,20 @@
 -- What is inferred of a program and spelled by its names is a valid certificate.
 use Rattle.std.proofs.Common.{◌≡◌, ℕ, ◌<◌, List, Some, length, sym, ◌∙◌, subst, arith}
-use Rattle.std.specs.Prelude.{slice_get}
 use Rattle.std.proofs.lemmas.Option.{slice_get_within}
-use Rattle.sect_types.specs.First.{IsTyped}
-use Rattle.sect_types.specs.Programs.{IsOfTree}
-use Rattle.sect_types.specs.Sections.{SectionView, sections_of}
+use Rattle.std.specs.Prelude.{slice_get}
+use Rattle.sect_types.specs.{First.{IsTyped}, Programs.{IsOfTree}, Sections.{SectionView, sections_of}}
 use Rattle.sect_lemmas.proofs.Places.{at_of, one_at, chosen}
 use Rattle.sect_graph.specs.declared.flow.Node.{Node}
-use Rattle.sect_names.specs.Needed.{end_of}
-use Rattle.sect_names.specs.Schemes.{SchemeView, IsScheme}
-use Rattle.sect_infer.specs.Sets.{LocksView, AreLocksOf}
-use Rattle.sect_chains.specs.Chains.{AreChains}
-use Rattle.sect_names.specs.Laws.{AreLawful}
-use Rattle.sect_cert.specs.declared.certificate.CertSection.{CertSection}
-use Rattle.sect_cert.specs.declared.certificate.Cert.{Cert}
-use Rattle.sect_check.specs.declared.claims.Claims.{Claims}
-use Rattle.sect_check.specs.Meaning.{IsSectionAt, DenotesSection}
-use Rattle.sect_check.specs.Valid.{IsValidSection, IsValid}
+use Rattle.sect_names.specs.{Needed.{end_of}, Schemes.{SchemeView, IsScheme}, Laws.{AreLawful}}
 use Rattle.sect_names.specs.declared.link.Link.{Link}
+use Rattle.sect_infer.specs.Sets.{LocksView, AreLocksOf, AreAllInferred}
+use Rattle.sect_chains.specs.Chains.{AreChains}
+use Rattle.sect_cert.specs.{declared.certificate.CertSection.{CertSection}, declared.certificate.Cert.{Cert}}
+use Rattle.sect_check.specs.{declared.claims.Claims.{Claims}, Meaning.{IsSectionAt, DenotesSection}}
+use Rattle.sect_check.specs.Valid.{IsValidSection, IsValid}
 use Rattle.sect_emit.specs.Claimed.{claims_of}
-use Rattle.sect_infer.specs.Sets.{AreAllInferred}
 use Rattle.sect_emit.specs.steps.Spelled.{IsSpelled}
-use Rattle.sect_emit.proofs.Chained.{chains_lawful}
-use Rattle.sect_emit.proofs.Denoting.{section_denoted}
+use Rattle.sect_emit.proofs.{Chained.{chains_lawful}, Denoting.{section_denoted}}
 
 -- the words on a section stand for claims, and these are right
 abbrev IsRight : SchemeView → ℕ → Claims → SectionView → List Node → CertSection → Type 0

@@ -2,21 +2,13 @@
 use Rattle.std.proofs.Common.{◌≡◌, ◌≢◌, ℕ, List, [], ◌∷◌, Some, subst, inl, inr}
 use Rattle.std.specs.Prelude.{slice_get}
 use Rattle.sect_lemmas.specs.Lists.{Has}
-use Rattle.sect_types.specs.Sections.{SectionView, sections_of}
-use Rattle.sect_types.specs.declared.expansion.action.Label.{Label}
+use Rattle.sect_types.specs.{Sections.{SectionView, sections_of}, declared.expansion.action.Label.{Label}}
 use Rattle.sect_graph.specs.declared.flow.Node.{Node}
-use Rattle.sect_names.specs.declared.link.Link.{Link}
-use Rattle.sect_names.specs.declared.lock.Lock.{Lock}
-use Rattle.sect_names.specs.Schemes.{SchemeView}
-use Rattle.sect_names.specs.Locks.{IsLockOf}
-use Rattle.sect_names.specs.Chains.{AreLinked, IsChain}
-use Rattle.sect_names.specs.Carrying.{Generated, CarriedBack}
-use Rattle.sect_names.specs.Laws.{IsSoundStep, StandsIn}
-use Rattle.sect_names.specs.Needed.{end_of}
-use Rattle.sect_names.proofs.shared.Named.{named_lock}
-use Rattle.sect_names.proofs.shared.Ends.{ended_lawful}
+use Rattle.sect_names.specs.{declared.link.Link.{Link}, declared.lock.Lock.{Lock}, Schemes.{SchemeView}}
+use Rattle.sect_names.specs.{Locks.{IsLockOf}, Chains.{AreLinked, IsChain}, Carrying.{Generated, CarriedBack}}
+use Rattle.sect_names.specs.{Laws.{IsSoundStep, StandsIn, AreLawful}, Needed.{end_of}}
+use Rattle.sect_names.proofs.shared.{Named.{named_lock}, Ends.{ended_lawful}}
 use Rattle.sect_chains.specs.Chains.{AreChains}
-use Rattle.sect_names.specs.Laws.{AreLawful}
 use Rattle.sect_emit.specs.Words.{IsChainNamed}
 
 module _ (s : SchemeView) (t : ℕ) (last : List Lock) (g : List Node) (lawful : AreLawful s t last g) where

@@ -2,17 +2,11 @@
 use Rattle.std.proofs.Common.{◌≡◌, ℕ, List, refl, subst}
 use Rattle.std.specs.List.{AllZip}
 use Rattle.sect_types.specs.Statements.{TextView}
-use Rattle.sect_names.specs.declared.lock.Lock.{Lock}
-use Rattle.sect_names.specs.Needed.{IsLeast}
-use Rattle.sect_names.specs.Order.{AreInOrder}
-use Rattle.sect_names.specs.Schemes.{SchemeView}
+use Rattle.sect_names.specs.{declared.lock.Lock.{Lock}, Needed.{IsLeast}, Order.{AreInOrder}, Schemes.{SchemeView}}
 use Rattle.sect_cert.specs.declared.certificate.Cert.{Cert}
-use Rattle.sect_check.specs.Names.{Denotes}
-use Rattle.sect_check.specs.Valid.{IsValid, AreEntriesLeast}
-use Rattle.sect_check.specs.Verdicts.{IsRead}
+use Rattle.sect_check.specs.{Names.{Denotes}, Valid.{IsValid, AreEntriesLeast}, Verdicts.{IsRead}}
 use Rattle.sect_check.proofs.shared.Answering.{valid_for}
-use Rattle.sect_emit.specs.Certificates.{HasTheSets}
-use Rattle.sect_emit.specs.Compiled.{CompiledView, IsCompiledFrom}
+use Rattle.sect_emit.specs.{Certificates.{HasTheSets}, Compiled.{CompiledView, IsCompiledFrom}}
 
 -- its entry lists stand for least sets in canonical order, of which each section has one
 pub has_sets : ((s : SchemeView) (t : ℕ) (last : List Lock) (body : TextView) (locks others : List Lock)

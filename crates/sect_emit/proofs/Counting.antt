@@ -1,34 +1,24 @@
 -- A section has fewer locks than there are numbers.
 use Rattle.std.proofs.Common.{◌≡◌, ℕ, zero, suc, ◌+◌, ◌*◌, ◌<◌, ◌≤◌, List, [], ◌∷◌, ◌++◌, map, length, length-append}
 use Rattle.std.proofs.Common.{Option, Some, None, refl, sym, ap, ◌∙◌, subst, inl, inr, arith, slice_get}
-use Rattle.std.specs.Prelude.{slice_index_or}
-use Rattle.std.specs.List.{flat_map}
-use Rattle.std.proofs.lemmas.List.{length-map, get_or_past}
-use Rattle.std.proofs.lemmas.List.Elements.{All-get_or}
-use Rattle.std.proofs.lemmas.Bool.{cases_lt}
+use Rattle.std.proofs.{lemmas.List.{length-map, get_or_past}, lemmas.List.Elements.{All-get_or}, lemmas.Bool.{cases_lt}}
 use Rattle.std.proofs.lemmas.Option.{slice_get_within, get_or_from_slice_get}
+use Rattle.std.specs.{Prelude.{slice_index_or}, List.{flat_map}}
 use Rattle.sect_types.specs.declared.declarations.limits.TheConstants.{MOST_ALL_LOCALS, MOST_FIELDS, MOST_GLOBALS}
 use Rattle.sect_types.specs.declared.declarations.limits.TheConstants.{MOST_SITES}
-use Rattle.sect_lemmas.specs.Lists.{Has}
-use Rattle.sect_lemmas.proofs.Membership.{Has-left, Has-right}
-use Rattle.sect_types.specs.Programs.{ProgramView, IsWithinLimits, sites_of}
-use Rattle.sect_types.specs.Sound.{type_in}
-use Rattle.sect_types.specs.declared.expansion.action.Field.{Field}
-use Rattle.sect_types.specs.declared.declarations.types.ValueType.{ValueType}
+use Rattle.sect_types.specs.{Programs.{ProgramView, IsWithinLimits, sites_of}, Sound.{type_in}}
+use Rattle.sect_types.specs.{declared.expansion.action.Field.{Field}, declared.declarations.types.ValueType.{ValueType}}
 use Rattle.sect_types.specs.declared.declarations.types.ValueType.TheVariants.{Int, Refers}
+use Rattle.sect_lemmas.specs.Lists.{Has}
+use Rattle.sect_lemmas.proofs.{Membership.{Has-left, Has-right}, Listing.{Has-map, Has-flat_map, below, Has-below}}
 use Rattle.sect_points.specs.declared.holders.Variable.{Variable}
-use Rattle.sect_points.specs.declared.holders.Variable.TheVariants.{Global, Local}
-use Rattle.sect_points.specs.Paths.{PathView, var, dot}
+use Rattle.sect_points.specs.{declared.holders.Variable.TheVariants.{Global, Local}, Paths.{PathView, var, dot}}
+use Rattle.sect_names.specs.{declared.lock.Lock.{Lock}, Schemes.{SchemeView, IsScheme}, Order.{AreInOrder, LockBefore}}
+use Rattle.sect_names.specs.Locks.{depth, IsField, PathTo, IsOwn, IsPathIn, IsLockOf}
+use Rattle.sect_names.proofs.shared.{Sounding.{path_there}, Uniqueness.{lock_once}}
 use Rattle.sect_names.specs.declared.lock.Effect.TheVariants as effect
 use Rattle.sect_names.specs.declared.lock.Right.TheVariants as right
-use Rattle.sect_names.specs.declared.lock.Lock.{Lock}
 use Rattle.sect_names.specs.declared.lock.Lock.TheVariants as lock
-use Rattle.sect_names.specs.Schemes.{SchemeView, IsScheme}
-use Rattle.sect_names.specs.Order.{AreInOrder, LockBefore}
-use Rattle.sect_names.specs.Locks.{depth, IsField, PathTo, IsOwn, IsPathIn, IsLockOf}
-use Rattle.sect_lemmas.proofs.Listing.{Has-map, Has-flat_map, below, Has-below}
-use Rattle.sect_names.proofs.shared.Sounding.{path_there}
-use Rattle.sect_names.proofs.shared.Uniqueness.{lock_once}
 
 -- a list without one of its elements
 without : {X : Type 0} (xs : List X) (x : X) → Has xs x → (rest : List X) × (length xs ≡ length rest + 1)

@@ -1,28 +1,21 @@
 -- The words of a certificate stand for what was inferred.
 use Rattle.std.proofs.Common.{◌≡◌, ℕ, ◌+◌, List, [], ◌∷◌, map, Some, length, refl, ap, ◌∙◌, inl, inr}
-use Rattle.std.specs.Prelude.{slice_get}
-use Rattle.std.specs.List.{AllZip}
-use Rattle.std.specs.Option.{option_map}
 use Rattle.std.proofs.lemmas.List.{length-map}
+use Rattle.std.specs.{Prelude.{slice_get}, List.{AllZip}, Option.{option_map}}
 use Rattle.sect_lemmas.specs.Lists.{Has}
-use Rattle.sect_types.specs.First.{IsTyped}
-use Rattle.sect_types.specs.Programs.{IsOfTree}
+use Rattle.sect_types.specs.{First.{IsTyped}, Programs.{IsOfTree}}
 use Rattle.sect_lemmas.proofs.Places.{Has-index}
 use Rattle.sect_graph.specs.declared.flow.Node.{Node}
-use Rattle.sect_names.specs.declared.link.Link.{Link}
-use Rattle.sect_names.specs.declared.lock.Effect.TheVariants as effect
-use Rattle.sect_names.specs.declared.lock.Right.TheVariants as right
-use Rattle.sect_names.specs.declared.lock.Lock.{Lock}
-use Rattle.sect_names.specs.declared.lock.Lock.TheVariants as lock
-use Rattle.sect_names.specs.Schemes.{SchemeView}
+use Rattle.sect_names.specs.{declared.link.Link.{Link}, declared.lock.Lock.{Lock}, Schemes.{SchemeView}}
 use Rattle.sect_names.specs.Locks.{IsLockOf}
-use Rattle.sect_infer.specs.Sets.{LocksView}
-use Rattle.sect_check.specs.Names.{Denotes}
-use Rattle.sect_check.specs.Meaning.{DenotesStep, DenotesChain, DenotesSection}
+use Rattle.sect_infer.specs.Sets.{LocksView, AreOfProgram}
+use Rattle.sect_check.specs.{Names.{Denotes}, Meaning.{DenotesStep, DenotesChain, DenotesSection}}
 use Rattle.sect_check.proofs.shared.Calling.{path_called}
 use Rattle.sect_emit.specs.Claimed.{chain_claims, claims_of}
 use Rattle.sect_emit.specs.Words.{lock_words, list_words, step_words, chains_words, section_words}
-use Rattle.sect_infer.specs.Sets.{AreOfProgram}
+use Rattle.sect_names.specs.declared.lock.Effect.TheVariants as effect
+use Rattle.sect_names.specs.declared.lock.Right.TheVariants as right
+use Rattle.sect_names.specs.declared.lock.Lock.TheVariants as lock
 
 module _ (s : SchemeView) (typed : IsTyped s.program.source) (tree : IsOfTree s.program) (t : ℕ) where
   -- the words of a lock stand for it

@@ -1,23 +1,16 @@
 -- The lines of sections, each with the chains of its locks.
 use Rattle.std.proofs.Common.{◌≡◌, ℕ, ◌+◌, List, [], ◌∷◌, ◌++◌, Some, length, length-append, sym, ap, ◌∙◌, subst, arith}
-use Rattle.std.proofs.Common.{inl, inr}
+use Rattle.std.proofs.{Common.{inl, inr}, lemmas.Option.{slice_get_within, slice_get-get_or, get_or_from_slice_get}}
 use Rattle.std.specs.Prelude.{slice_get, slice_index_or, option_map}
-use Rattle.std.proofs.lemmas.Option.{slice_get_within, slice_get-get_or, get_or_from_slice_get}
 use Rattle.sect_lemmas.proofs.Places.{pushed_at}
-use Rattle.sect_types.specs.Programs.{ProgramView}
-use Rattle.sect_types.specs.Sections.{SectionView, sections_of}
-use Rattle.sect_types.specs.Statements.{Stop}
+use Rattle.sect_types.specs.{Programs.{ProgramView}, Sections.{SectionView, sections_of}, Statements.{Stop}}
 use Rattle.sect_places.specs.declared.lines.NodeLine.{NodeLine}
-use Rattle.sect_graph.specs.declared.flow.Node.{Node}
-use Rattle.sect_graph.specs.Layout.{flow_nodes}
-use Rattle.sect_names.specs.declared.link.Link.{Link}
-use Rattle.sect_names.specs.declared.lock.Lock.{Lock}
-use Rattle.sect_names.specs.Needed.{end_of}
+use Rattle.sect_graph.specs.{declared.flow.Node.{Node}, Layout.{flow_nodes}}
+use Rattle.sect_names.specs.{declared.link.Link.{Link}, declared.lock.Lock.{Lock}, Needed.{end_of}}
 use Rattle.sect_chains.specs.Chains.{AreChains}
 use Rattle.sect_emit.specs.Compiled.{CompiledView, IsCompiled}
 use Rattle.sect_emit.specs.Explaining.{deed_text, explained_lines, section_at, section_deed, section_explained}
-use Rattle.sect_emit.specs.Explaining.{IsChained, IsExplained}
-use Rattle.sect_emit.specs.Listing.{by_number}
+use Rattle.sect_emit.specs.{Explaining.{IsChained, IsExplained}, Listing.{by_number}}
 use Rattle.sect_emit.proofs.Numbered.{one_behind}
 
 -- the section that stands there

@@ -1,13 +1,9 @@
 -- The graphs of a compiled program are those of its texts.
 use Rattle.std.proofs.Common.{◌≡◌, ℕ, List, Some, true, false, sym, subst}
 use Rattle.std.specs.Prelude.{slice_get}
-use Rattle.sect_types.specs.Programs.{ProgramView, environment_at}
-use Rattle.sect_types.specs.Sound.{IsSound}
-use Rattle.sect_types.specs.Statements.{TextView}
+use Rattle.sect_types.specs.{Programs.{ProgramView, environment_at}, Sound.{IsSound}, Statements.{TextView}}
 use Rattle.sect_types.specs.Sections.{SectionView, sections_of}
-use Rattle.sect_graph.specs.declared.flow.Node.{Node}
-use Rattle.sect_graph.specs.Graphs.{GraphView}
-use Rattle.sect_graph.specs.Layout.{flow_nodes}
+use Rattle.sect_graph.specs.{declared.flow.Node.{Node}, Graphs.{GraphView}, Layout.{flow_nodes}}
 use Rattle.sect_emit.specs.Compiled.{CompiledView, IsCompiled}
 use Rattle.sect_emit.specs.steps.Naming.{AreNodesOf}
 use Rattle.sect_emit.proofs.Labelled.{flow_there}

@@ -1,8 +1,7 @@
 -- Keys are ordered, and tested for equality.
 use Rattle.std.proofs.Common.{◌≡◌, ℕ, ◌<◌, Bool, true, false, refl, sym, inl, inr, true≢false, arith, lt-ltb, eqb-true}
 use Rattle.std.specs.Prelude.{◌&&◌, ◌||◌, ◌==◌, nat_lt}
-use Rattle.sect_modes.specs.declared.key.Key.{Key}
-use Rattle.sect_modes.specs.declared.key.Key.TheVariants.{All, Class, Global, Made}
+use Rattle.sect_modes.specs.{declared.key.Key.{Key}, declared.key.Key.TheVariants.{All, Class, Global, Made}}
 use Rattle.sect_modes.specs.Key.{is_same_key, is_key_below}
 use Rattle.sect_emit.proofs.shared.Keys.{below_made}
 

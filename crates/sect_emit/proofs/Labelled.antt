@@ -1,28 +1,22 @@
 -- What the nodes of a sound text's graph name is there.
 use Rattle.std.proofs.Common.{◌≡◌, ◌<◌, ℕ, ◌+◌, List, [], ◌∷◌, ◌++◌, Option, Some, None, Bool, true, false, length}
-use Rattle.std.proofs.Common.{refl}
+use Rattle.std.proofs.{Common.{refl}, lemmas.Option.{slice_get_within}}
 use Rattle.std.specs.Prelude.{slice_get, slice_index_or}
-use Rattle.std.proofs.lemmas.Option.{slice_get_within}
 use Rattle.sect_types.specs.declared.declarations.types.ValueType.{ValueType}
 use Rattle.sect_types.specs.declared.declarations.types.ValueType.TheVariants.{Int, Refers}
-use Rattle.sect_types.specs.declared.expansion.action.Base.{Base}
-use Rattle.sect_types.specs.declared.expansion.action.Base.TheVariants as base
-use Rattle.sect_types.specs.declared.expansion.action.Value.{Value}
-use Rattle.sect_types.specs.declared.expansion.action.Value.TheVariants as value
-use Rattle.sect_types.specs.declared.expansion.action.Field.{Field}
-use Rattle.sect_types.specs.declared.expansion.action.Condition.{Condition}
+use Rattle.sect_types.specs.{declared.expansion.action.Base.{Base}, declared.expansion.action.Value.{Value}}
+use Rattle.sect_types.specs.{declared.expansion.action.Field.{Field}, declared.expansion.action.Condition.{Condition}}
 use Rattle.sect_types.specs.declared.expansion.action.Action.{Action}
 use Rattle.sect_types.specs.declared.expansion.action.Action.TheVariants.{Assign, Compute, New, Load, Store, Print}
 use Rattle.sect_types.specs.Programs.{ProgramView, environment_at}
 use Rattle.sect_types.specs.Sound.{reference_to, type_at, type_in, field_type, HasType, IsSoundAction, IsSoundCondition}
-use Rattle.sect_types.specs.Kinds.{compares_integers}
-use Rattle.sect_types.specs.Sound.{AreAlike, IsSound}
-use Rattle.sect_types.specs.Statements.{TextView, Stop, Do, Choose, Loop, Section}
-use Rattle.sect_types.specs.Traces.{node_count}
-use Rattle.sect_graph.specs.declared.flow.Node.{Node}
-use Rattle.sect_graph.specs.Layout.{entry_of, nodes_of, flow_nodes}
+use Rattle.sect_types.specs.{Sound.{AreAlike, IsSound}, Kinds.{compares_integers}}
+use Rattle.sect_types.specs.{Statements.{TextView, Stop, Do, Choose, Loop, Section}, Traces.{node_count}}
+use Rattle.sect_graph.specs.{declared.flow.Node.{Node}, Layout.{entry_of, nodes_of, flow_nodes}}
 use Rattle.sect_names.specs.Locks.{IsField}
 use Rattle.sect_emit.specs.steps.Naming.{IsLocalOf, IsValueOf, IsBaseOf, IsActionOf, IsConditionOf, AreNodesOf}
+use Rattle.sect_types.specs.declared.expansion.action.Base.TheVariants as base
+use Rattle.sect_types.specs.declared.expansion.action.Value.TheVariants as value
 
 -- those of both of two graphs
 both : (p : ProgramView) (u : ℕ) (g h : List Node) → AreNodesOf p u g → AreNodesOf p u h → AreNodesOf p u (g ++ h)

@@ -1,12 +1,10 @@
 -- The tables of the modes, and what they say of locks.
 use Rattle.std.proofs.Common.{◌≡◌, true, refl}
-use Rattle.sect_modes.specs.declared.mode.Mode.{Mode}
-use Rattle.sect_modes.specs.Mode.{is_at_least, join_of, intention_of}
+use Rattle.sect_modes.specs.{declared.mode.Mode.{Mode}, Mode.{is_at_least, join_of, intention_of}}
 use Rattle.sect_names.specs.declared.lock.Effect.{Effect}
-use Rattle.sect_names.specs.declared.lock.Effect.TheVariants as effect
-use Rattle.sect_emit.specs.Plan.{intended, object_mode}
-use Rattle.sect_emit.specs.ModeTests.{is_reading_object}
+use Rattle.sect_emit.specs.{Plan.{intended, object_mode}, ModeTests.{is_reading_object}}
 use Rattle.sect_emit.proofs.shared.Modes.{all_modes, each_mode, if_then, holds, at_least_along, join_least}
+use Rattle.sect_names.specs.declared.lock.Effect.TheVariants as effect
 
 same_mode_of_intentions : (a b : Mode)
     → is_at_least (join_of (intention_of a) (intention_of b)) (intention_of (join_of a b)) ≡ true

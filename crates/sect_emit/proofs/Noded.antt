@@ -1,27 +1,19 @@
 -- The nodes of a section, and the locks that are needed and generated there.
 use Rattle.std.proofs.Common.{◌≡◌, ◌↔◌, ℕ, List, Option, Some, refl, sym, ap, ◌∙◌, subst, inl, inr}
-use Rattle.std.specs.Prelude.{slice_get}
 use Rattle.std.proofs.lemmas.Option.{get_or_from_slice_get}
+use Rattle.std.specs.Prelude.{slice_get}
 use Rattle.sect_front.specs.declared.tree.Locking.{Locking}
-use Rattle.sect_front.specs.declared.tree.Locking.TheVariants as locking
 use Rattle.sect_lemmas.specs.Lists.{Has}
-use Rattle.sect_types.specs.Sections.{SectionView, sections_of}
-use Rattle.sect_types.specs.declared.expansion.action.Label.{Label}
-use Rattle.sect_graph.specs.declared.flow.Node.{Node}
-use Rattle.sect_graph.specs.Layout.{flow_nodes}
+use Rattle.sect_types.specs.{Sections.{SectionView, sections_of}, declared.expansion.action.Label.{Label}}
+use Rattle.sect_graph.specs.{declared.flow.Node.{Node}, Layout.{flow_nodes}}
 use Rattle.sect_infer.specs.Sets.{LocksView, AreNeeded, AreInferredAt}
-use Rattle.sect_names.specs.declared.lock.Lock.{Lock}
-use Rattle.sect_names.specs.Carrying.{Generated}
-use Rattle.sect_names.specs.Chains.{link, IsGeneratedAt}
-use Rattle.sect_names.specs.Laws.{IsSoundStep, StandsIn}
-use Rattle.sect_names.specs.Locks.{IsLockOf}
-use Rattle.sect_names.specs.Needed.{end_of, end_locks}
+use Rattle.sect_names.specs.{declared.lock.Lock.{Lock}, Carrying.{Generated}, Chains.{link, IsGeneratedAt}}
+use Rattle.sect_names.specs.{Laws.{IsSoundStep, StandsIn}, Locks.{IsLockOf}, Needed.{end_of, end_locks}}
 use Rattle.sect_names.specs.Printing.{IsNamed, AreNamed}
 use Rattle.sect_names.proofs.shared.Named.{named_lock}
-use Rattle.sect_emit.specs.Compiled.{CompiledView, IsCompiled}
-use Rattle.sect_emit.specs.Explaining.{section_at}
-use Rattle.sect_emit.proofs.Explained.{section_here}
-use Rattle.sect_emit.proofs.Graphed.{section_graph}
+use Rattle.sect_emit.specs.{Compiled.{CompiledView, IsCompiled}, Explaining.{section_at}}
+use Rattle.sect_emit.proofs.{Explained.{section_here}, Graphed.{section_graph}}
+use Rattle.sect_front.specs.declared.tree.Locking.TheVariants as locking
 
 -- what the end of a section generates names nothing
 end_named : (p : CompiledView) (how : Locking) (l : Lock) → Has (end_locks how) l → IsNamed p.scheme.program l

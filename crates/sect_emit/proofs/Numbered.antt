@@ -1,9 +1,8 @@
 -- Texts that are added one after another, each by its number.
 use Rattle.std.proofs.Common.{◌≡◌, ◌≤◌, ℕ, ◌+◌, List, [], ◌∷◌, ◌++◌, Some, length, drop, sym, ap, ◌∙◌, append_assoc}
-use Rattle.std.proofs.Common.{append-nil, arith, Result, Ok, Err, OnOk}
-use Rattle.std.specs.Prelude.{slice_get}
-use Rattle.std.proofs.lemmas.List.{drop_all}
+use Rattle.std.proofs.{Common.{append-nil, arith, Result, Ok, Err, OnOk}, lemmas.List.{drop_all}}
 use Rattle.std.proofs.lemmas.Option.{slice_get_within, get_or_from_slice_get}
+use Rattle.std.specs.Prelude.{slice_get}
 use Rattle.sect_lemmas.proofs.Elements.{drop_next}
 use Rattle.sect_emit.specs.Listing.{by_number}
 

@@ -1,24 +1,18 @@
 -- A compiled program has one certificate.
 use Rattle.std.proofs.Common.{◌≡◌, ℕ, suc, List, [], ◌∷◌, Some, length, map, refl, sym, ap, ◌∙◌, subst, arith}
-use Rattle.std.specs.Prelude.{slice_get}
 use Rattle.std.proofs.lemmas.Option.{slice_get_within}
+use Rattle.std.specs.Prelude.{slice_get}
 use Rattle.sect_lemmas.proofs.Places.{at_of, one_at}
-use Rattle.sect_types.specs.Statements.{TextView}
-use Rattle.sect_types.specs.Sections.{SectionView, sections_of}
+use Rattle.sect_types.specs.{Statements.{TextView}, Sections.{SectionView, sections_of}}
 use Rattle.sect_graph.specs.declared.flow.Node.{Node}
-use Rattle.sect_names.specs.declared.lock.Lock.{Lock}
-use Rattle.sect_names.specs.Needed.{end_of}
-use Rattle.sect_names.specs.Schemes.{SchemeView, IsScheme}
+use Rattle.sect_names.specs.{declared.lock.Lock.{Lock}, Needed.{end_of}, Schemes.{SchemeView, IsScheme}}
 use Rattle.sect_names.proofs.shared.Uniqueness.{same_lists}
 use Rattle.sect_infer.specs.Sets.{AreNeeded}
 use Rattle.sect_chains.specs.Chains.{AreChains}
 use Rattle.sect_chains.proofs.shared.Uniqueness.{chains_one}
-use Rattle.sect_cert.specs.declared.lock.CertLock.{CertLock}
-use Rattle.sect_cert.specs.declared.certificate.CertChain.{CertChain}
-use Rattle.sect_cert.specs.declared.certificate.CertSection.{CertSection}
-use Rattle.sect_cert.specs.declared.certificate.Cert.{Cert}
-use Rattle.sect_emit.specs.Certificates.{SaysOf, IsCertificateOf}
-use Rattle.sect_emit.specs.Compiled.{CompiledView}
+use Rattle.sect_cert.specs.{declared.lock.CertLock.{CertLock}, declared.certificate.CertChain.{CertChain}}
+use Rattle.sect_cert.specs.{declared.certificate.CertSection.{CertSection}, declared.certificate.Cert.{Cert}}
+use Rattle.sect_emit.specs.{Certificates.{SaysOf, IsCertificateOf}, Compiled.{CompiledView}}
 use Rattle.sect_emit.specs.Words.{list_words, chains_words}
 
 -- lists are one that are as long and have one element at each place

@@ -1,10 +1,8 @@
 -- The modes of a plan.
 use Rattle.std.proofs.Common.{◌≡◌, ap, ◌∙◌, List, [], ◌++◌}
 use Rattle.sect_names.specs.Schemes.{SchemeView}
-use Rattle.sect_types.specs.declared.meaning.store.Datum.{Datum}
-use Rattle.sect_emit.specs.declared.plan.Grip.{Grip}
-use Rattle.sect_types.specs.Store.{StoreView}
-use Rattle.sect_emit.specs.Plan.{gathered, IsFixedPart, plan_of}
+use Rattle.sect_types.specs.{declared.meaning.store.Datum.{Datum}, Store.{StoreView}}
+use Rattle.sect_emit.specs.{declared.plan.Grip.{Grip}, Plan.{gathered, IsFixedPart, plan_of}}
 
 -- the plan of an empty set is empty
 pub no_plan : (sch : SchemeView) (part : List Grip) (s : StoreView) (locals : List Datum) → IsFixedPart sch [] part

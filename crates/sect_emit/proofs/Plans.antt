@@ -1,18 +1,13 @@
 -- What a plan has.
-use Rattle.std.proofs.Common.{◌≡◌, ℕ, Bool, true, false, refl, sym, ap, ◌∙◌, subst, inl, inr, true≢false, List, []}
-use Rattle.std.proofs.Common.{◌∷◌}
+use Rattle.std.proofs.Common.{◌≡◌, ℕ, Bool, true, false, refl, sym, ap, ◌∙◌, subst, inl, inr, true≢false, List, [], ◌∷◌}
 use Rattle.sect_lemmas.proofs.Membership.{Has-cases, Has-left, Has-right}
 use Rattle.sect_lemmas.specs.Lists.{Has}
-use Rattle.sect_names.specs.declared.lock.Lock.{Lock}
+use Rattle.sect_names.specs.{declared.lock.Lock.{Lock}, declared.lock.Effect.{Effect}, Schemes.{SchemeView}}
+use Rattle.sect_modes.specs.{declared.key.Key.{Key}, Mode.{intention_of}}
+use Rattle.sect_emit.specs.{declared.plan.Grip.{Grip}, Plan.{grip, class_mode, intended, AreWishesFor, AreFixedWishes}}
 use Rattle.sect_names.specs.declared.lock.Lock.TheVariants as lock
-use Rattle.sect_names.specs.declared.lock.Effect.{Effect}
 use Rattle.sect_names.specs.declared.lock.Effect.TheVariants as effect
-use Rattle.sect_names.specs.Schemes.{SchemeView}
-use Rattle.sect_modes.specs.declared.key.Key.{Key}
 use Rattle.sect_modes.specs.declared.key.Key.TheVariants as key
-use Rattle.sect_modes.specs.Mode.{intention_of}
-use Rattle.sect_emit.specs.declared.plan.Grip.{Grip}
-use Rattle.sect_emit.specs.Plan.{grip, class_mode, intended, AreWishesFor, AreFixedWishes}
 
 abbrev is_all : Key → Bool
 is_all key.All = true

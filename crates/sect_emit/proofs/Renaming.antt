@@ -1,8 +1,7 @@
 -- The last of lists by their names, and the locks that it names.
 use Rattle.std.proofs.Common.{◌≡◌, ℕ, ◌-◌, ◌<◌, List, [], ◌∷◌, ◌++◌, Some, length, length-append, map, take, refl, ap}
-use Rattle.std.proofs.Common.{◌∙◌, arith}
+use Rattle.std.proofs.{Common.{◌∙◌, arith}, lemmas.List.{length-take-le, length-map}}
 use Rattle.std.specs.Prelude.{slice_get}
-use Rattle.std.proofs.lemmas.List.{length-take-le, length-map}
 use Rattle.sect_front.specs.TreeView.{TreeView}
 use Rattle.sect_names.specs.declared.lock.Lock.{Lock}
 use Rattle.sect_cert.specs.declared.lock.CertLock.{CertLock}

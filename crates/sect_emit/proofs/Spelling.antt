@@ -1,23 +1,18 @@
 -- Lists of what a certificate says, one element more.
 use Rattle.std.proofs.Common.{◌≡◌, ◌≢◌, ℕ, ◌+◌, ◌-◌, ◌<◌, List, [], ◌∷◌, ◌++◌, inl, inr, length, length-append, take}
 use Rattle.std.proofs.Common.{get_or, refl, sym, ap, ◌∙◌, subst, arith}
-use Rattle.std.specs.Prelude.{slice_get, Some, Result, Ok, Err, IfOk, map}
-use Rattle.std.specs.Option.{option_map}
-use Rattle.std.specs.List.{AllByRecursion, AllZip}
 use Rattle.std.proofs.lemmas.List.{length-take-le, length-map, map-append}
 use Rattle.std.proofs.lemmas.Option.{slice_get_within, get_or_from_slice_get, slice_get-get_or, slice_get-map}
+use Rattle.std.specs.{Prelude.{slice_get, Some, Result, Ok, Err, IfOk, map}, Option.{option_map}}
+use Rattle.std.specs.List.{AllByRecursion, AllZip}
 use Rattle.sect_front.specs.TreeView.{TreeView}
-use Rattle.sect_names.specs.declared.link.Link.{Link}
-use Rattle.sect_names.specs.declared.lock.Lock.{Lock}
-use Rattle.sect_cert.specs.declared.lock.CertLock.{CertLock}
-use Rattle.sect_cert.specs.declared.certificate.CertChain.{CertChain}
-use Rattle.sect_cert.specs.declared.certificate.CertSection.{CertSection}
-use Rattle.sect_cert.specs.Texts.{IsSection, AreRising}
-use Rattle.sect_names.specs.Schemes.{SchemeView}
+use Rattle.sect_names.specs.{declared.link.Link.{Link}, declared.lock.Lock.{Lock}, Schemes.{SchemeView}}
+use Rattle.sect_cert.specs.{declared.lock.CertLock.{CertLock}, declared.certificate.CertChain.{CertChain}}
+use Rattle.sect_cert.specs.{declared.certificate.CertSection.{CertSection}, Texts.{IsSection, AreRising}}
+use Rattle.sect_cert.specs.declared.certificate.CertStep.{CertStep}
 use Rattle.sect_infer.specs.Sets.{LocksView}
 use Rattle.sect_lemmas.proofs.Places.{one_at, pushed_at, at_of, each_at}
 use Rattle.sect_emit.specs.steps.Spelled.{IsSectionSpelled}
-use Rattle.sect_cert.specs.declared.certificate.CertStep.{CertStep}
 use Rattle.sect_emit.specs.Words.{list_words, lock_words, step_words, chain_words, chains_words}
 use Rattle.sect_check.proofs.shared.Repeating.{taken}
 use Rattle.sect_emit.proofs.Adding.{take_next}

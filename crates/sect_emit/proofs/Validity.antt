@@ -1,32 +1,21 @@
 -- What is inferred of a section is a valid claim.
 use Rattle.std.proofs.Common.{◌≡◌, ◌⊎◌, ◌↔◌, ℕ, zero, suc, ◌+◌, ◌<◌, ◌≤◌, List, [], ◌∷◌, Some, length, refl, sym, ap}
 use Rattle.std.proofs.Common.{◌∙◌, subst, inl, inr, arith}
-use Rattle.std.specs.Prelude.{slice_get, slice_index_or}
 use Rattle.std.proofs.lemmas.Option.{slice_get_within, slice_get-get_or, get_or_from_slice_get}
+use Rattle.std.specs.Prelude.{slice_get, slice_index_or}
 use Rattle.sect_lemmas.specs.Lists.{Has}
-use Rattle.sect_types.specs.Statements.{TextView, Stop, Do, Choose, Loop, Section}
-use Rattle.sect_types.specs.Sections.{SectionView}
+use Rattle.sect_types.specs.{Statements.{TextView, Stop, Do, Choose, Loop, Section}, Sections.{SectionView}}
 use Rattle.sect_types.specs.declared.expansion.action.Label.{Label}
 use Rattle.sect_types.specs.declared.expansion.action.Label.TheVariants.{Act, Test, Section as WholeSection}
-use Rattle.sect_graph.specs.declared.flow.Node.{Node}
-use Rattle.sect_graph.specs.Graphs.{IsGraphOf}
-use Rattle.sect_graph.specs.Paths.{LeadsTo}
-use Rattle.sect_graph.specs.Rests.{rest_at, Begins}
-use Rattle.sect_names.specs.declared.link.Link.{Link}
-use Rattle.sect_names.specs.declared.lock.Lock.{Lock}
-use Rattle.sect_names.specs.Schemes.{SchemeView}
-use Rattle.sect_names.specs.Locks.{CoveredBy}
-use Rattle.sect_names.specs.Carrying.{CarriedBack}
-use Rattle.sect_names.specs.Needed.{IsNeededFrom}
-use Rattle.sect_names.specs.Chains.{link, IsGeneratedAt, IsChain}
+use Rattle.sect_graph.specs.{declared.flow.Node.{Node}, Graphs.{IsGraphOf}, Paths.{LeadsTo}, Rests.{rest_at, Begins}}
+use Rattle.sect_names.specs.{declared.link.Link.{Link}, declared.lock.Lock.{Lock}, Schemes.{SchemeView}}
+use Rattle.sect_names.specs.{Locks.{CoveredBy}, Carrying.{CarriedBack}, Needed.{IsNeededFrom}}
+use Rattle.sect_names.specs.{Chains.{link, IsGeneratedAt, IsChain}, Walks.{Leads}, Along.{NeededBefore, NeededIn}}
 use Rattle.sect_names.proofs.shared.Covering.{covers_refl}
-use Rattle.sect_names.specs.Walks.{Leads}
-use Rattle.sect_names.specs.Along.{NeededBefore, NeededIn}
 use Rattle.sect_infer.specs.Sets.{LocksView, AreLocksOf}
 use Rattle.sect_chains.specs.Chains.{AreChains}
-use Rattle.sect_check.specs.declared.claims.ChainClaim.{ChainClaim}
+use Rattle.sect_check.specs.{declared.claims.ChainClaim.{ChainClaim}, Valid.{list_at, IsValidSection}}
 use Rattle.sect_emit.specs.Claimed.{chain_claims, claims_of}
-use Rattle.sect_check.specs.Valid.{list_at, IsValidSection}
 
 -- the node leads from what is still to run there to what is still to run at the node to which control goes on
 leads : (rest : ℕ → TextView) (x : Node) (k : TextView) → Begins rest x k → (j : ℕ) → LeadsTo x j

@@ -1,51 +1,35 @@
 -- What a path denotes after a step, something that it is carried back to denoted before it, or the step makes it.
 use Rattle.std.proofs.Common.{true≢false, ◌≡◌, ◌⊎◌, ℕ, List, [], Option, Some, None, Bool, true, false, refl, sym, ap}
-use Rattle.std.proofs.Common.{◌∙◌, subst, inl, inr}
+use Rattle.std.proofs.{Common.{◌∙◌, subst, inl, inr}, lemmas.Option.{same_Some}}
 use Rattle.std.specs.Prelude.{slice_get, slice_index_or, pos, if◌then◌else◌}
-use Rattle.std.proofs.lemmas.Option.{same_Some}
-use Rattle.sect_types.specs.Programs.{environment_at}
-use Rattle.sect_types.specs.Sound.{IsSoundAction}
-use Rattle.sect_types.specs.declared.declarations.types.ValueType.{ValueType}
-use Rattle.sect_types.specs.declared.expansion.action.Base.{Base}
-use Rattle.sect_types.specs.declared.expansion.action.Value.{Value}
-use Rattle.sect_types.specs.declared.expansion.action.Value.TheVariants as value
-use Rattle.sect_types.specs.declared.expansion.action.Field.{Field}
-use Rattle.sect_types.specs.declared.expansion.action.Action.{Action}
-use Rattle.sect_types.specs.declared.expansion.action.Action.TheVariants as action
-use Rattle.sect_types.specs.declared.expansion.action.Label.{Label}
-use Rattle.sect_types.specs.declared.expansion.action.Label.TheVariants as label
-use Rattle.sect_points.specs.declared.holders.Variable.{Variable}
-use Rattle.sect_points.specs.declared.holders.Variable.TheVariants.{Global, Local}
-use Rattle.sect_points.specs.Paths.{PathView, var, dot}
-use Rattle.sect_points.specs.Partitions.{HasClass}
-use Rattle.sect_points.specs.PathClasses.{variable_of, variable_in}
-use Rattle.sect_points.specs.Statements.{thread_action}
-use Rattle.sect_names.specs.Schemes.{SchemeView, IsScheme}
-use Rattle.sect_names.specs.Carrying.{Replaced, AreOfOneClass, BeforeStore, BeforeAssignment}
-use Rattle.sect_names.specs.Laws.{IsProgramStep}
-use Rattle.sect_types.specs.declared.meaning.store.ObjectName.{ObjectName}
-use Rattle.sect_types.specs.declared.meaning.store.ObjectName.TheVariants as object
-use Rattle.sect_types.specs.declared.meaning.store.Datum.{Datum}
+use Rattle.sect_types.specs.{Programs.{environment_at}, Sound.{IsSoundAction}}
+use Rattle.sect_types.specs.{declared.declarations.types.ValueType.{ValueType}, declared.expansion.action.Base.{Base}}
+use Rattle.sect_types.specs.{declared.expansion.action.Value.{Value}, declared.expansion.action.Field.{Field}}
+use Rattle.sect_types.specs.{declared.expansion.action.Action.{Action}, declared.expansion.action.Label.{Label}}
+use Rattle.sect_types.specs.{declared.meaning.store.ObjectName.{ObjectName}, declared.meaning.store.Datum.{Datum}}
 use Rattle.sect_types.specs.declared.meaning.store.Datum.TheVariants.{Number, Null, Refers}
-use Rattle.sect_types.specs.Store.{ObjectView, StoreView, object_at, row, count, with_field, write, add}
-use Rattle.sect_lemmas.specs.Lists.{put_at}
-use Rattle.sect_types.specs.Store.{same_name}
+use Rattle.sect_types.specs.Store.{ObjectView, StoreView, object_at, row, count, with_field, write, add, same_name}
 use Rattle.sect_types.specs.Meaning.{WorkView, local_datum, datum_or_null, value_datum, fresh}
+use Rattle.sect_points.specs.declared.holders.Variable.{Variable}
+use Rattle.sect_points.specs.{declared.holders.Variable.TheVariants.{Global, Local}, Paths.{PathView, var, dot}}
+use Rattle.sect_points.specs.{Partitions.{HasClass}, PathClasses.{variable_of, variable_in}, Statements.{thread_action}}
+use Rattle.sect_names.specs.Schemes.{SchemeView, IsScheme}
+use Rattle.sect_names.specs.{Carrying.{Replaced, AreOfOneClass, BeforeStore, BeforeAssignment}, Laws.{IsProgramStep}}
+use Rattle.sect_names.specs.{Locks.{VariableTo, PathTo, IsOwn}, Records.{IsTypedProgram, SiteOf}}
+use Rattle.sect_lemmas.specs.Lists.{put_at}
 use Rattle.sect_emit.specs.Plan.{field_datum, field_of, variable_datum, path_datum}
-use Rattle.sect_names.specs.Locks.{VariableTo, PathTo}
-use Rattle.sect_names.specs.Records.{IsTypedProgram, SiteOf}
 use Rattle.sect_emit.specs.Pointed.{IsPointed, StepsTo, DenotedBefore}
-use Rattle.sect_names.specs.Locks.{IsOwn}
-use Rattle.sect_names.proofs.shared.Placing.{statement_sound}
-use Rattle.sect_names.proofs.shared.Typing.{base_to}
-use Rattle.sect_lemmas.proofs.Options.{mapped}
+use Rattle.sect_names.proofs.shared.{Placing.{statement_sound}, Typing.{base_to}, Owning.{own_base}}
+use Rattle.sect_lemmas.proofs.{Options.{mapped}, Elements.{is_past}}
 use Rattle.sect_types.proofs.shared.Stores.{object_at-write, object_at-add, same_name-true, same_name-eq}
-use Rattle.sect_lemmas.proofs.Elements.{is_past}
-use Rattle.sect_names.proofs.shared.Owning.{own_base}
-use Rattle.sect_emit.proofs.Pointing.{base_variable}
-use Rattle.sect_emit.proofs.shared.Pointing.{is_reference, same_object, put_or_kept, HasDone, action_done}
-use Rattle.sect_emit.proofs.shared.Pointing.{step_pointed, denoted}
 use Rattle.sect_types.proofs.shared.Data.{fresh_refers}
+use Rattle.sect_emit.proofs.Pointing.{base_variable}
+use Rattle.sect_emit.proofs.shared.Pointing.{is_reference, same_object, put_or_kept, HasDone, action_done, step_pointed}
+use Rattle.sect_emit.proofs.shared.Pointing.{denoted}
+use Rattle.sect_types.specs.declared.expansion.action.Value.TheVariants as value
+use Rattle.sect_types.specs.declared.expansion.action.Action.TheVariants as action
+use Rattle.sect_types.specs.declared.expansion.action.Label.TheVariants as label
+use Rattle.sect_types.specs.declared.meaning.store.ObjectName.TheVariants as object
 
 -- over an assignment of d to the local x: where `source` denotes d, and fields of objects are as before
 module _ (t x : ℕ) (source : Option PathView) (d : Datum) (store after : StoreView) (locals : List Datum)

@@ -1,36 +1,24 @@
 -- What is kept of each section makes a compiled program.
 use Rattle.std.proofs.Common.{◌≡◌, ◌⊎◌, ℕ, ◌+◌, ◌<◌, List, [], ◌∷◌, ◌++◌, Some, length, length-append, get_or, sym, ap}
-use Rattle.std.proofs.Common.{◌∙◌, subst, arith, slice_get, inl, inr}
-use Rattle.std.proofs.lemmas.List.{length-map}
+use Rattle.std.proofs.{Common.{◌∙◌, subst, arith, slice_get, inl, inr}, lemmas.List.{length-map}}
 use Rattle.std.proofs.lemmas.Option.{slice_get_within, slice_get-get_or, slice_get-map as slice_get-mapped}
 use Rattle.std.specs.Option.{option_map}
-use Rattle.sect_cert.specs.declared.certificate.CertSection.{CertSection}
-use Rattle.sect_cert.specs.declared.certificate.Cert.{Cert}
+use Rattle.sect_cert.specs.{declared.certificate.CertSection.{CertSection}, declared.certificate.Cert.{Cert}}
 use Rattle.sect_cert.specs.Texts.{HasText}
-use Rattle.sect_emit.specs.Certificates.{IsCertificateOf}
-use Rattle.sect_emit.specs.steps.Spelled.{IsSpelled}
-use Rattle.sect_lemmas.specs.Lists.{Has}
-use Rattle.sect_types.specs.Sections.{SectionView, sections_of}
-use Rattle.sect_types.specs.First.{IsTyped}
-use Rattle.sect_types.specs.Programs.{IsOfTree}
-use Rattle.sect_lemmas.proofs.Places.{at_of, one_at, pushed_at, Has-index}
-use Rattle.sect_lemmas.proofs.Membership.{Has-slice_get}
-use Rattle.sect_names.specs.Printing.{AreNamed}
-use Rattle.sect_names.proofs.shared.Named.{named_lock}
-use Rattle.sect_lemmas.proofs.Replaced.{slice_get-map}
-use Rattle.sect_graph.specs.declared.flow.Node.{Node}
-use Rattle.sect_names.specs.declared.lock.Lock.{Lock}
-use Rattle.sect_names.specs.declared.lock.Lock.TheVariants as lock
-use Rattle.sect_names.specs.Locks.{IsLockOf}
-use Rattle.sect_names.specs.Needed.{end_of, Protects, IsLeast}
-use Rattle.sect_names.specs.Order.{AreInOrder}
-use Rattle.sect_names.specs.Schemes.{SchemeView, IsScheme}
-use Rattle.sect_infer.specs.Sets.{LocksView, AreInferredAt, AreAllInferred}
-use Rattle.sect_emit.specs.declared.plan.Grip.{Grip}
-use Rattle.sect_emit.specs.Plan.{IsFixedPart}
+use Rattle.sect_emit.specs.{Certificates.{IsCertificateOf}, declared.plan.Grip.{Grip}, Plan.{IsFixedPart}}
 use Rattle.sect_emit.specs.Compiled.{CompiledView, IsCompiled, AreSetsLeast}
-use Rattle.sect_emit.specs.steps.Inferred.{entries_of, AreFixedParts, IsWhole}
+use Rattle.sect_emit.specs.steps.{Spelled.{IsSpelled}, Inferred.{entries_of, AreFixedParts, IsWhole}}
 use Rattle.sect_emit.specs.steps.Wishes.{IsClassedLock}
+use Rattle.sect_lemmas.specs.Lists.{Has}
+use Rattle.sect_types.specs.{Sections.{SectionView, sections_of}, First.{IsTyped}, Programs.{IsOfTree}}
+use Rattle.sect_lemmas.proofs.{Places.{at_of, one_at, pushed_at, Has-index}, Membership.{Has-slice_get}}
+use Rattle.sect_lemmas.proofs.Replaced.{slice_get-map}
+use Rattle.sect_names.specs.{Printing.{AreNamed}, declared.lock.Lock.{Lock}, Locks.{IsLockOf}}
+use Rattle.sect_names.specs.{Needed.{end_of, Protects, IsLeast}, Order.{AreInOrder}, Schemes.{SchemeView, IsScheme}}
+use Rattle.sect_names.proofs.shared.Named.{named_lock}
+use Rattle.sect_graph.specs.declared.flow.Node.{Node}
+use Rattle.sect_infer.specs.Sets.{LocksView, AreInferredAt, AreAllInferred}
+use Rattle.sect_names.specs.declared.lock.Lock.TheVariants as lock
 
 -- one part more
 pub one_part : (s : SchemeView) (sets : List (List Lock)) (parts : List (List Grip)) (locks : List Lock)

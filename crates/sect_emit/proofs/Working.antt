@@ -1,13 +1,11 @@
 -- Why several workers refuse to compile a text.
 use Rattle.std.proofs.Common.{◌≡◌, ℕ, List, inl, inr, refl, arith}
-use Rattle.sect_names.specs.Sources.{IsDue}
-use Rattle.sect_names.specs.declared.refusal.SourceRefusal.{SourceRefusal}
+use Rattle.sect_names.specs.{Sources.{IsDue}, declared.refusal.SourceRefusal.{SourceRefusal}}
+use Rattle.sect_infer.specs.{Workers.{AreOffered, AreRefused}, declared.workers.InferFault.{InferFault}}
+use Rattle.sect_emit.specs.Faults.{IsDueBy, of_workers, of_source}
 use Rattle.sect_names.specs.declared.refusal.SourceRefusal.TheVariants as refusal
-use Rattle.sect_infer.specs.Workers.{AreOffered, AreRefused}
-use Rattle.sect_infer.specs.declared.workers.InferFault.{InferFault}
 use Rattle.sect_infer.specs.declared.workers.InferFault.TheVariants as infer
 use Rattle.sect_emit.specs.declared.fault.CompileFault.TheVariants as fault
-use Rattle.sect_emit.specs.Faults.{IsDueBy, of_workers, of_source}
 
 -- no number of workers is both offered and refused
 pub not_both : (workers : ℕ) → AreOffered workers → AreRefused workers → ⊥

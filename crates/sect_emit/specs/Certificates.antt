@@ -1,19 +1,14 @@
 -- The certificate of a compiled program.
-use Rattle.std.specs.Prelude.{◌≡◌, ℕ, List, Some, length, map, slice_get}
-use Rattle.std.specs.List.{AllZip}
+use Rattle.std.specs.{Prelude.{◌≡◌, ℕ, List, Some, length, map, slice_get}, List.{AllZip}}
 use Rattle.sect_types.specs.Sections.{SectionView, sections_of}
 use Rattle.sect_graph.specs.declared.flow.Node.{Node}
-use Rattle.sect_names.specs.declared.link.Link.{Link}
-use Rattle.sect_names.specs.declared.lock.Lock.{Lock}
-use Rattle.sect_names.specs.Needed.{end_of}
+use Rattle.sect_names.specs.{declared.link.Link.{Link}, declared.lock.Lock.{Lock}, Needed.{end_of}}
 use Rattle.sect_infer.specs.Sets.{AreNeeded}
 use Rattle.sect_chains.specs.Chains.{AreChains}
-use Rattle.sect_cert.specs.declared.certificate.CertSection.{CertSection}
-use Rattle.sect_cert.specs.declared.certificate.Cert.{Cert}
+use Rattle.sect_cert.specs.{declared.certificate.CertSection.{CertSection}, declared.certificate.Cert.{Cert}}
 use Rattle.sect_cert.specs.Texts.{HasText}
 use Rattle.sect_check.specs.Names.{Denotes}
-use Rattle.sect_emit.specs.Compiled.{CompiledView}
-use Rattle.sect_emit.specs.Words.{list_words, chains_words}
+use Rattle.sect_emit.specs.{Compiled.{CompiledView}, Words.{list_words, chains_words}}
 
 -- what it says of a section, by the names of the text: at each node the maximal locks of what is needed from there on,
 -- at the entry the set, and a chain for each lock of the set

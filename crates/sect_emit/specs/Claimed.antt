@@ -2,8 +2,7 @@
 use Rattle.std.specs.Prelude.{ℕ, ◌+◌, List, [], ◌∷◌}
 use Rattle.sect_names.specs.declared.link.Link.{Link}
 use Rattle.sect_infer.specs.Sets.{LocksView}
-use Rattle.sect_check.specs.declared.claims.Claims.{Claims}
-use Rattle.sect_check.specs.declared.claims.ChainClaim.{ChainClaim}
+use Rattle.sect_check.specs.{declared.claims.Claims.{Claims}, declared.claims.ChainClaim.{ChainClaim}}
 
 -- the chains, by number from this one
 abbrev pub chain_claims : ℕ → List (List Link) → List ChainClaim

@@ -1,17 +1,10 @@
 -- What a compiled program is to the machine.
 use Rattle.std.specs.Prelude.{◌≡◌, ℕ, List, Some, length, slice_get}
 use Rattle.sect_lemmas.specs.Lists.{Has}
-use Rattle.sect_types.specs.Sections.{SectionView, sections_of}
-use Rattle.sect_types.specs.First.{IsTyped}
-use Rattle.sect_types.specs.Programs.{ProgramView, IsOfTree}
-use Rattle.sect_names.specs.declared.lock.Lock.{Lock}
-use Rattle.sect_names.specs.Locks.{IsLockOf}
-use Rattle.sect_names.specs.Schemes.{SchemeView, IsScheme}
-use Rattle.sect_names.specs.Needed.{end_of, Protects, IsLeast}
-use Rattle.sect_names.specs.Order.{AreInOrder}
-use Rattle.sect_names.specs.Sources.{IsAccepted}
-use Rattle.sect_emit.specs.declared.plan.Grip.{Grip}
-use Rattle.sect_emit.specs.Plan.{IsFixedPart}
+use Rattle.sect_types.specs.{Sections.{SectionView, sections_of}, First.{IsTyped}, Programs.{ProgramView, IsOfTree}}
+use Rattle.sect_names.specs.{declared.lock.Lock.{Lock}, Locks.{IsLockOf}, Schemes.{SchemeView, IsScheme}}
+use Rattle.sect_names.specs.{Needed.{end_of, Protects, IsLeast}, Order.{AreInOrder}, Sources.{IsAccepted}}
+use Rattle.sect_emit.specs.{declared.plan.Grip.{Grip}, Plan.{IsFixedPart}}
 
 -- what inference knows of the program; the lock set of each section; the fixed part of each section's plan
 pub record CompiledView : Type 0 where

@@ -1,22 +1,14 @@
 -- Why sections take their locks, as it is printed. `explanation` cites it.
 use Rattle.std.specs.Prelude.{◌≡◌, ℕ, ◌-◌, max, List, [], ◌∷◌, ◌++◌, Option, Some, None, length, replicate, slice_get}
-use Rattle.std.specs.Prelude.{slice_index_or, option_map, codes}
-use Rattle.std.specs.List.{flat_map}
-use Rattle.std.specs.Fmt.{decimal}
+use Rattle.std.specs.{Prelude.{slice_index_or, option_map, codes}, List.{flat_map}, Fmt.{decimal}}
 use Rattle.sect_front.specs.TreeView.{TreeView}
-use Rattle.sect_types.specs.Statements.{Stop}
-use Rattle.sect_types.specs.Sections.{SectionView, sections_of}
+use Rattle.sect_types.specs.{Statements.{Stop}, Sections.{SectionView, sections_of}}
 use Rattle.sect_types.specs.declared.expansion.action.Label.{Label}
 use Rattle.sect_places.specs.declared.lines.NodeLine.{NodeLine}
-use Rattle.sect_graph.specs.declared.flow.Node.{Node}
-use Rattle.sect_graph.specs.Layout.{flow_nodes}
-use Rattle.sect_names.specs.declared.link.Link.{Link}
-use Rattle.sect_names.specs.Needed.{end_of}
-use Rattle.sect_names.specs.Printing.{lock_text}
+use Rattle.sect_graph.specs.{declared.flow.Node.{Node}, Layout.{flow_nodes}}
+use Rattle.sect_names.specs.{declared.link.Link.{Link}, Needed.{end_of}, Printing.{lock_text}}
 use Rattle.sect_chains.specs.Chains.{AreChains}
-use Rattle.sect_emit.specs.Compiled.{CompiledView}
-use Rattle.sect_emit.specs.Labels.{label_text, thread_name}
-use Rattle.sect_emit.specs.Listing.{by_number}
+use Rattle.sect_emit.specs.{Compiled.{CompiledView}, Labels.{label_text, thread_name}, Listing.{by_number}}
 
 -- what a node does; the exit has no label
 abbrev pub deed_text : TreeView → ℕ → Option Label → List ℕ

@@ -1,12 +1,10 @@
 -- Which refusal is due of a text that is compiled by several workers. `compile_with` cites it.
 use Rattle.std.specs.Prelude.{◌≡◌, ◌≢◌, ℕ, List}
-use Rattle.sect_names.specs.Sources.{IsDue}
-use Rattle.sect_names.specs.declared.refusal.SourceRefusal.{SourceRefusal}
-use Rattle.sect_names.specs.declared.refusal.SourceRefusal.TheVariants as refusal
-use Rattle.sect_infer.specs.Workers.{AreOffered, AreRefused}
-use Rattle.sect_infer.specs.declared.workers.InferFault.{InferFault}
-use Rattle.sect_infer.specs.declared.workers.InferFault.TheVariants as infer
+use Rattle.sect_names.specs.{Sources.{IsDue}, declared.refusal.SourceRefusal.{SourceRefusal}}
+use Rattle.sect_infer.specs.{Workers.{AreOffered, AreRefused}, declared.workers.InferFault.{InferFault}}
 use Rattle.sect_emit.specs.declared.fault.CompileFault.{CompileFault}
+use Rattle.sect_names.specs.declared.refusal.SourceRefusal.TheVariants as refusal
+use Rattle.sect_infer.specs.declared.workers.InferFault.TheVariants as infer
 use Rattle.sect_emit.specs.declared.fault.CompileFault.TheVariants as fault
 
 -- a fault of the workers, and a refusal of the source; want of memory is never inside another

@@ -1,8 +1,6 @@
 -- A running text goes on by one step.
 use Rattle.std.specs.Prelude.{◌≡◌, ℕ, true}
-use Rattle.sect_types.specs.Programs.{ProgramView}
-use Rattle.sect_types.specs.Statements.{TextView}
-use Rattle.sect_types.specs.Store.{StoreView}
+use Rattle.sect_types.specs.{Programs.{ProgramView}, Statements.{TextView}, Store.{StoreView}}
 use Rattle.sect_types.specs.Meaning.{WorkView, Change, after_change, found_at, On, next, looks, begins_step}
 
 -- the text of thread t goes on without a fault from this store and work, with this rest, to those

@@ -1,11 +1,8 @@
 -- The graphs of a compiled program. `graphed_flow` and `put_graphed_node` cite it.
 use Rattle.std.specs.Prelude.{◌<◌, ℕ, List, length, slice_index_or, slice_get, option_map}
-use Rattle.sect_types.specs.Statements.{TextView, Stop}
-use Rattle.sect_types.specs.Sections.{sections_of}
-use Rattle.sect_graph.specs.declared.flow.Node.{Node}
-use Rattle.sect_graph.specs.Layout.{flow_nodes}
-use Rattle.sect_emit.specs.Compiled.{CompiledView, program_of}
-use Rattle.sect_emit.specs.Explaining.{section_at, deed_text}
+use Rattle.sect_types.specs.{Statements.{TextView, Stop}, Sections.{sections_of}}
+use Rattle.sect_graph.specs.{declared.flow.Node.{Node}, Layout.{flow_nodes}}
+use Rattle.sect_emit.specs.{Compiled.{CompiledView, program_of}, Explaining.{section_at, deed_text}}
 use Rattle.sect_emit.specs.declared.graphs.GraphOf.{GraphOf}
 use Rattle.sect_emit.specs.declared.graphs.GraphOf.TheVariants as graphed
 

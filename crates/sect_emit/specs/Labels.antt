@@ -1,24 +1,18 @@
 -- Statements and tests as they are printed. `listing` and `explanation` cite it.
-use Rattle.std.specs.Prelude.{ℕ, List, [], ◌++◌, map, slice_index_or, codes}
-use Rattle.std.specs.Fmt.{decimal}
-use Rattle.sect_front.specs.TreeView.{TreeView}
-use Rattle.sect_front.specs.declared.tree.Thread.{Thread}
-use Rattle.sect_front.specs.declared.tree.Operator.{Operator}
+use Rattle.std.specs.{Prelude.{ℕ, List, [], ◌++◌, map, slice_index_or, codes}, Fmt.{decimal}}
+use Rattle.sect_front.specs.{TreeView.{TreeView}, declared.tree.Thread.{Thread}, declared.tree.Operator.{Operator}}
 use Rattle.sect_front.specs.declared.tree.Operator.TheVariants.{Add, Subtract, Multiply}
 use Rattle.sect_front.specs.Spelling.{comparison_spelling}
-use Rattle.sect_types.specs.Sight.{names_of_records}
-use Rattle.sect_types.specs.declared.expansion.action.Value.{Value}
-use Rattle.sect_types.specs.declared.expansion.action.Value.TheVariants as value
-use Rattle.sect_types.specs.declared.expansion.action.Base.{Base}
-use Rattle.sect_types.specs.declared.expansion.action.Base.TheVariants as base
-use Rattle.sect_types.specs.declared.expansion.action.Field.{Field}
-use Rattle.sect_types.specs.declared.expansion.action.Condition.{Condition}
-use Rattle.sect_types.specs.declared.expansion.action.Action.{Action}
+use Rattle.sect_types.specs.{Sight.{names_of_records}, declared.expansion.action.Value.{Value}}
+use Rattle.sect_types.specs.{declared.expansion.action.Base.{Base}, declared.expansion.action.Field.{Field}}
+use Rattle.sect_types.specs.{declared.expansion.action.Condition.{Condition}, declared.expansion.action.Action.{Action}}
 use Rattle.sect_types.specs.declared.expansion.action.Action.TheVariants.{Assign, Compute, New, Load, Store, Print}
 use Rattle.sect_types.specs.declared.expansion.action.Label.{Label}
 use Rattle.sect_types.specs.declared.expansion.action.Label.TheVariants.{Act, Test, Section}
 use Rattle.sect_points.specs.declared.holders.Variable.TheVariants.{Global, Local}
 use Rattle.sect_names.specs.Printing.{variable_text, field_name}
+use Rattle.sect_types.specs.declared.expansion.action.Value.TheVariants as value
+use Rattle.sect_types.specs.declared.expansion.action.Base.TheVariants as base
 
 abbrev pub record_name : TreeView → ℕ → List ℕ
 record_name t r = slice_index_or (names_of_records t.records) r []

@@ -1,25 +1,16 @@
 -- A compiled program as it is printed. `listing` cites it.
-use Rattle.std.specs.Prelude.{ℕ, List, [], ◌++◌, length, slice_index_or, codes}
-use Rattle.std.specs.List.{flat_map, enumerate_from}
+use Rattle.std.specs.{Prelude.{ℕ, List, [], ◌++◌, length, slice_index_or, codes}, List.{flat_map, enumerate_from}}
 use Rattle.std.specs.Fmt.{decimal}
 use Rattle.sect_front.specs.TreeView.{TreeView}
-use Rattle.sect_types.specs.Statements.{TextView}
-use Rattle.sect_types.specs.Sections.{SectionView, sections_of}
-use Rattle.sect_modes.specs.Mode.{mode_text}
-use Rattle.sect_modes.specs.declared.mode.Mode.{Mode}
-use Rattle.sect_modes.specs.declared.key.Key.{Key}
-use Rattle.sect_modes.specs.declared.key.Key.TheVariants as key
-use Rattle.sect_graph.specs.declared.flow.Node.{Node}
-use Rattle.sect_graph.specs.declared.flow.Successors.{Successors}
-use Rattle.sect_graph.specs.declared.flow.Successors.TheVariants.{Next, Branch}
-use Rattle.sect_graph.specs.Layout.{flow_nodes}
-use Rattle.sect_names.specs.declared.lock.Lock.{Lock}
-use Rattle.sect_names.specs.declared.lock.Lock.TheVariants as lock
-use Rattle.sect_names.specs.Printing.{path_text}
-use Rattle.sect_emit.specs.declared.plan.Grip.{Grip}
-use Rattle.sect_emit.specs.Plan.{object_mode}
-use Rattle.sect_emit.specs.Compiled.{CompiledView}
+use Rattle.sect_types.specs.{Statements.{TextView}, Sections.{SectionView, sections_of}}
+use Rattle.sect_modes.specs.{Mode.{mode_text}, declared.mode.Mode.{Mode}, declared.key.Key.{Key}}
+use Rattle.sect_graph.specs.{declared.flow.Node.{Node}, declared.flow.Successors.{Successors}}
+use Rattle.sect_graph.specs.{declared.flow.Successors.TheVariants.{Next, Branch}, Layout.{flow_nodes}}
+use Rattle.sect_names.specs.{declared.lock.Lock.{Lock}, Printing.{path_text}}
+use Rattle.sect_emit.specs.{declared.plan.Grip.{Grip}, Plan.{object_mode}, Compiled.{CompiledView}}
 use Rattle.sect_emit.specs.Labels.{label_text, thread_name}
+use Rattle.sect_modes.specs.declared.key.Key.TheVariants as key
+use Rattle.sect_names.specs.declared.lock.Lock.TheVariants as lock
 
 -- the texts of the elements, one after another, each by its number, where the first has number n
 abbrev pub by_number : {A : Type 0} → (ℕ → A → List ℕ) → ℕ → List A → List ℕ

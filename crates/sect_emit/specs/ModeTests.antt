@@ -2,8 +2,7 @@
 use Rattle.std.specs.Prelude.{Bool, true, false, Option, Some, None}
 use Rattle.sect_modes.specs.declared.mode.Mode.{Mode}
 use Rattle.sect_modes.specs.declared.mode.Mode.TheVariants.{IntentionShared, IntentionExclusive, Shared}
-use Rattle.sect_modes.specs.declared.mode.Mode.TheVariants.{SharedIntentionExclusive, Exclusive}
-use Rattle.sect_modes.specs.Mode.{is_at_least}
+use Rattle.sect_modes.specs.{declared.mode.Mode.TheVariants.{SharedIntentionExclusive, Exclusive}, Mode.{is_at_least}}
 
 -- there is a mode, and it passes the test
 abbrev pub passes : (Mode → Bool) → Option Mode → Bool

@@ -1,25 +1,18 @@
 -- What a statement of a section looks into or makes, and the lock that it needs for that.
 use Rattle.std.specs.Prelude.{◌≡◌, ℕ, ⊤, Option, Some, None, slice_get}
-use Rattle.sect_types.specs.declared.expansion.action.Base.{Base}
-use Rattle.sect_types.specs.declared.expansion.action.Action.{Action}
+use Rattle.sect_types.specs.{declared.expansion.action.Base.{Base}, declared.expansion.action.Action.{Action}}
+use Rattle.sect_types.specs.declared.meaning.store.ObjectName.{ObjectName}
+use Rattle.sect_types.specs.{declared.meaning.store.Datum.TheVariants.{Refers}, Store.{StoreView}}
+use Rattle.sect_types.specs.Meaning.{WorkView, base_datum}
+use Rattle.sect_points.specs.{declared.holders.Variable.TheVariants.{Global}, Paths.{var}, PathClasses.{variable_of}}
+use Rattle.sect_names.specs.{declared.lock.Effect.{Effect}, Schemes.{SchemeView, guard_of}, Carrying.{Generated}}
+use Rattle.sect_names.specs.{Records.{SiteOf}, Along.{read_for}}
+use Rattle.sect_emit.specs.Pointed.{ExistsAt}
 use Rattle.sect_types.specs.declared.expansion.action.Action.TheVariants as action
 use Rattle.sect_types.specs.declared.expansion.action.Label.TheVariants as label
-use Rattle.sect_points.specs.declared.holders.Variable.TheVariants.{Global}
-use Rattle.sect_points.specs.Paths.{var}
-use Rattle.sect_points.specs.PathClasses.{variable_of}
-use Rattle.sect_names.specs.declared.lock.Effect.{Effect}
 use Rattle.sect_names.specs.declared.lock.Effect.TheVariants as effect
 use Rattle.sect_names.specs.declared.lock.Right.TheVariants as right
 use Rattle.sect_names.specs.declared.lock.Lock.TheVariants as lock
-use Rattle.sect_names.specs.Schemes.{SchemeView, guard_of}
-use Rattle.sect_names.specs.Carrying.{Generated}
-use Rattle.sect_types.specs.declared.meaning.store.ObjectName.{ObjectName}
-use Rattle.sect_types.specs.declared.meaning.store.Datum.TheVariants.{Refers}
-use Rattle.sect_types.specs.Store.{StoreView}
-use Rattle.sect_types.specs.Meaning.{WorkView, base_datum}
-use Rattle.sect_names.specs.Records.{SiteOf}
-use Rattle.sect_names.specs.Along.{read_for}
-use Rattle.sect_emit.specs.Pointed.{ExistsAt}
 
 -- the object exists, and is of record r
 abbrev pub IsObjectOf : SchemeView → StoreView → ℕ → ObjectName → Type 0

@@ -2,30 +2,23 @@
 use Rattle.std.specs.Prelude.{◌≡◌, ⊤, ℕ, Bool, true, false, ◌&&◌, List, [], ◌∷◌, ◌++◌, Option, Some, None, slice_get}
 use Rattle.std.specs.Prelude.{if◌then◌else◌}
 use Rattle.sect_lemmas.specs.Lists.{Has}
-use Rattle.sect_points.specs.declared.holders.Variable.{Variable}
-use Rattle.sect_points.specs.declared.holders.Variable.TheVariants as variable
-use Rattle.sect_points.specs.Paths.{PathView, var, dot}
-use Rattle.sect_points.specs.Partitions.{HasClass}
-use Rattle.sect_names.specs.declared.lock.Effect.{Effect}
-use Rattle.sect_names.specs.declared.lock.Effect.TheVariants as effect
-use Rattle.sect_names.specs.declared.lock.Right.{Right}
-use Rattle.sect_names.specs.declared.lock.Right.TheVariants as right
-use Rattle.sect_names.specs.declared.lock.Lock.{Lock}
-use Rattle.sect_names.specs.declared.lock.Lock.TheVariants as lock
+use Rattle.sect_points.specs.{declared.holders.Variable.{Variable}, Paths.{PathView, var, dot}, Partitions.{HasClass}}
+use Rattle.sect_names.specs.{declared.lock.Effect.{Effect}, declared.lock.Right.{Right}, declared.lock.Lock.{Lock}}
 use Rattle.sect_names.specs.Schemes.{SchemeView}
 use Rattle.sect_modes.specs.declared.mode.Mode.{Mode}
 use Rattle.sect_modes.specs.declared.mode.Mode.TheVariants.{IntentionShared, IntentionExclusive, Shared, Exclusive}
-use Rattle.sect_modes.specs.declared.key.Key.{Key}
-use Rattle.sect_modes.specs.declared.key.Key.TheVariants as key
-use Rattle.sect_modes.specs.Mode.{is_at_least, join_of, intention_of}
+use Rattle.sect_modes.specs.{declared.key.Key.{Key}, Mode.{is_at_least, join_of, intention_of}}
 use Rattle.sect_modes.specs.Key.{is_same_key, is_key_below}
-use Rattle.sect_types.specs.declared.meaning.store.ObjectName.{ObjectName}
-use Rattle.sect_types.specs.declared.meaning.store.ObjectName.TheVariants as object
-use Rattle.sect_types.specs.declared.meaning.store.Datum.{Datum}
+use Rattle.sect_types.specs.{declared.meaning.store.ObjectName.{ObjectName}, declared.meaning.store.Datum.{Datum}}
 use Rattle.sect_types.specs.declared.meaning.store.Datum.TheVariants.{Number, Null, Refers}
+use Rattle.sect_types.specs.{Store.{ObjectView, StoreView, object_at}, Meaning.{datum_or_null, local_datum}}
 use Rattle.sect_emit.specs.declared.plan.Grip.{Grip}
-use Rattle.sect_types.specs.Store.{ObjectView, StoreView, object_at}
-use Rattle.sect_types.specs.Meaning.{datum_or_null, local_datum}
+use Rattle.sect_points.specs.declared.holders.Variable.TheVariants as variable
+use Rattle.sect_names.specs.declared.lock.Effect.TheVariants as effect
+use Rattle.sect_names.specs.declared.lock.Right.TheVariants as right
+use Rattle.sect_names.specs.declared.lock.Lock.TheVariants as lock
+use Rattle.sect_modes.specs.declared.key.Key.TheVariants as key
+use Rattle.sect_types.specs.declared.meaning.store.ObjectName.TheVariants as object
 
 -- a key in a mode
 abbrev pub grip : Key → Mode → Grip

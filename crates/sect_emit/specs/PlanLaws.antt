@@ -1,23 +1,16 @@
 -- What holds of plans.
 use Rattle.std.specs.Prelude.{◌≡◌, ◌⊎◌, ℕ, Bool, true, List, ◌∷◌}
 use Rattle.sect_lemmas.specs.Lists.{Has}
-use Rattle.sect_types.specs.declared.meaning.store.ObjectName.{ObjectName}
-use Rattle.sect_types.specs.declared.meaning.store.Datum.{Datum}
-use Rattle.sect_types.specs.declared.meaning.store.Datum.TheVariants.{Refers}
-use Rattle.sect_types.specs.Store.{StoreView}
-use Rattle.sect_points.specs.Paths.{PathView}
-use Rattle.sect_points.specs.Partitions.{HasClass}
-use Rattle.sect_modes.specs.declared.mode.Mode.{Mode}
-use Rattle.sect_modes.specs.declared.key.Key.{Key}
-use Rattle.sect_modes.specs.declared.key.Key.TheVariants as key
+use Rattle.sect_types.specs.{declared.meaning.store.ObjectName.{ObjectName}, declared.meaning.store.Datum.{Datum}}
+use Rattle.sect_types.specs.{declared.meaning.store.Datum.TheVariants.{Refers}, Store.{StoreView}}
+use Rattle.sect_points.specs.{Paths.{PathView}, Partitions.{HasClass}}
+use Rattle.sect_modes.specs.{declared.mode.Mode.{Mode}, declared.key.Key.{Key}}
 use Rattle.sect_modes.specs.Mode.{is_at_least, join_of, intention_of}
-use Rattle.sect_names.specs.declared.lock.Effect.{Effect}
-use Rattle.sect_names.specs.declared.lock.Lock.{Lock}
-use Rattle.sect_names.specs.declared.lock.Lock.TheVariants as lock
-use Rattle.sect_names.specs.Schemes.{SchemeView}
-use Rattle.sect_emit.specs.declared.plan.Grip.{Grip}
-use Rattle.sect_emit.specs.ModeTests.{is_reading_object}
+use Rattle.sect_names.specs.{declared.lock.Effect.{Effect}, declared.lock.Lock.{Lock}, Schemes.{SchemeView}}
+use Rattle.sect_emit.specs.{declared.plan.Grip.{Grip}, ModeTests.{is_reading_object}}
 use Rattle.sect_emit.specs.Plan.{grip, key_of, AreWishesFor, path_datum, object_wishes}
+use Rattle.sect_modes.specs.declared.key.Key.TheVariants as key
+use Rattle.sect_names.specs.declared.lock.Lock.TheVariants as lock
 
 -- a lock of the set asks for this key in this mode, whatever the state or for what its path denotes now
 abbrev pub IsWish : SchemeView → List Lock → StoreView → List Datum → Grip → Type 0

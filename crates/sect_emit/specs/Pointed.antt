@@ -1,28 +1,21 @@
 -- Stores and locals whose references lie within the points-to sets, and what a step does to them.
 use Rattle.std.specs.Prelude.{◌≡◌, ◌<◌, ◌⊎◌, ℕ, List, Some, length, slice_get}
-use Rattle.sect_types.specs.Programs.{ProgramView}
-use Rattle.sect_types.specs.declared.expansion.action.Action.TheVariants as action
-use Rattle.sect_types.specs.declared.expansion.action.Label.{Label}
-use Rattle.sect_types.specs.declared.expansion.action.Label.TheVariants as label
-use Rattle.sect_points.specs.declared.holders.Holder.TheVariants.{Local, Slot}
-use Rattle.sect_points.specs.declared.holders.Variable.TheVariants as variable
-use Rattle.sect_points.specs.Paths.{PathView, var, PathHas}
-use Rattle.sect_points.specs.Partitions.{HasClass}
-use Rattle.sect_points.specs.Sets.{InSets}
-use Rattle.sect_names.specs.declared.lock.Effect.{Effect}
-use Rattle.sect_names.specs.declared.lock.Lock.{Lock}
-use Rattle.sect_names.specs.declared.lock.Lock.TheVariants as lock
-use Rattle.sect_names.specs.Schemes.{SchemeView}
-use Rattle.sect_names.specs.Carrying.{Before, right_for}
-use Rattle.sect_types.specs.declared.meaning.store.ObjectName.{ObjectName}
-use Rattle.sect_types.specs.declared.meaning.store.ObjectName.TheVariants as object
-use Rattle.sect_types.specs.declared.meaning.store.Datum.{Datum}
+use Rattle.sect_types.specs.{Programs.{ProgramView}, declared.expansion.action.Label.{Label}}
+use Rattle.sect_types.specs.{declared.meaning.store.ObjectName.{ObjectName}, declared.meaning.store.Datum.{Datum}}
 use Rattle.sect_types.specs.declared.meaning.store.Datum.TheVariants.{Refers}
 use Rattle.sect_types.specs.Store.{ObjectView, StoreView, object_at, count}
-use Rattle.sect_types.specs.Meaning.{WorkView, local_datum, datum_or_null, Change, after_change, Went, one}
-use Rattle.sect_types.specs.Meaning.{looked, found_at}
+use Rattle.sect_types.specs.Meaning.{WorkView, local_datum, datum_or_null, Change, after_change, Went, one, looked}
+use Rattle.sect_types.specs.Meaning.{found_at}
+use Rattle.sect_points.specs.{declared.holders.Holder.TheVariants.{Local, Slot}, Paths.{PathView, var, PathHas}}
+use Rattle.sect_points.specs.{Partitions.{HasClass}, Sets.{InSets}}
+use Rattle.sect_names.specs.{declared.lock.Effect.{Effect}, declared.lock.Lock.{Lock}, Schemes.{SchemeView}}
+use Rattle.sect_names.specs.{Carrying.{Before, right_for}, Records.{SiteOf}}
 use Rattle.sect_emit.specs.Plan.{path_datum}
-use Rattle.sect_names.specs.Records.{SiteOf}
+use Rattle.sect_types.specs.declared.expansion.action.Action.TheVariants as action
+use Rattle.sect_types.specs.declared.expansion.action.Label.TheVariants as label
+use Rattle.sect_points.specs.declared.holders.Variable.TheVariants as variable
+use Rattle.sect_names.specs.declared.lock.Lock.TheVariants as lock
+use Rattle.sect_types.specs.declared.meaning.store.ObjectName.TheVariants as object
 
 -- the object exists, and its site is one of these
 abbrev pub ExistsAt : (ℕ → Type 0) → StoreView → ObjectName → Type 0

@@ -1,14 +1,10 @@
 -- The states of the machine.
 use Rattle.std.specs.Prelude.{◌≡◌, ℕ, List, [], Some, map, slice_index_or, slice_get, ℤ}
-use Rattle.sect_types.specs.Statements.{TextView}
-use Rattle.sect_types.specs.declared.meaning.store.Fault.{Fault}
-use Rattle.sect_types.specs.declared.meaning.store.Datum.{Datum}
-use Rattle.sect_emit.specs.declared.plan.Grip.{Grip}
-use Rattle.sect_types.specs.Store.{StoreView}
-use Rattle.sect_lemmas.specs.Lists.{put_at}
+use Rattle.sect_types.specs.{Statements.{TextView}, declared.meaning.store.Fault.{Fault}}
+use Rattle.sect_types.specs.{declared.meaning.store.Datum.{Datum}, Store.{StoreView}}
 use Rattle.sect_types.specs.Whole.{FrameView, first_store, first_frames}
-use Rattle.sect_emit.specs.Plan.{plan_of}
-use Rattle.sect_emit.specs.Compiled.{CompiledView, program_of}
+use Rattle.sect_emit.specs.{declared.plan.Grip.{Grip}, Plan.{plan_of}, Compiled.{CompiledView, program_of}}
+use Rattle.sect_lemmas.specs.Lists.{put_at}
 
 -- where a thread is: outside sections; entered, when it asks for keys; running the section of that number, of which
 -- this is still to run; or broken off by a fault in that section

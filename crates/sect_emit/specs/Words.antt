@@ -2,22 +2,18 @@
 use Rattle.std.specs.Prelude.{◌≢◌, ℕ, ◌+◌, List, [], ◌∷◌, map}
 use Rattle.sect_front.specs.TreeView.{TreeView}
 use Rattle.sect_points.specs.Paths.{PathView, base_of, fields_of}
-use Rattle.sect_names.specs.declared.lock.Effect.TheVariants as effect
-use Rattle.sect_names.specs.declared.lock.Right.TheVariants as right
-use Rattle.sect_names.specs.declared.lock.Lock.{Lock}
-use Rattle.sect_names.specs.declared.lock.Lock.TheVariants as lock
-use Rattle.sect_names.specs.declared.link.Link.{Link}
+use Rattle.sect_names.specs.{declared.lock.Lock.{Lock}, declared.link.Link.{Link}, Printing.{IsNamed, field_name}}
 use Rattle.sect_lemmas.specs.Lists.{Has}
 use Rattle.sect_types.specs.Programs.{ProgramView}
-use Rattle.sect_names.specs.Printing.{IsNamed, field_name}
 use Rattle.sect_check.specs.Names.{words_of_variable}
-use Rattle.sect_cert.specs.declared.lock.CertPath.{CertPath}
-use Rattle.sect_cert.specs.declared.lock.CertLock.{CertLock}
-use Rattle.sect_cert.specs.declared.lock.CertLock.TheVariants as named
-use Rattle.sect_cert.specs.declared.certificate.CertStep.{CertStep}
-use Rattle.sect_cert.specs.declared.certificate.CertChain.{CertChain}
+use Rattle.sect_cert.specs.{declared.lock.CertPath.{CertPath}, declared.lock.CertLock.{CertLock}}
+use Rattle.sect_cert.specs.{declared.certificate.CertStep.{CertStep}, declared.certificate.CertChain.{CertChain}}
 use Rattle.sect_cert.specs.declared.certificate.CertSection.{CertSection}
 use Rattle.sect_infer.specs.Sets.{LocksView}
+use Rattle.sect_names.specs.declared.lock.Effect.TheVariants as effect
+use Rattle.sect_names.specs.declared.lock.Right.TheVariants as right
+use Rattle.sect_names.specs.declared.lock.Lock.TheVariants as lock
+use Rattle.sect_cert.specs.declared.lock.CertLock.TheVariants as named
 
 abbrev pub path_words : TreeView → PathView → CertPath
 path_words t p = record { base = words_of_variable t (base_of p); fields = map (field_name t) (fields_of p) }

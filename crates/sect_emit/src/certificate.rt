@@ -1,13 +1,11 @@
 //! The certificate of a compiled program.
 
-ghost use Rattle.std.specs.Prelude.{◌≡◌, ◌<◌, ◌≤◌, List, Some, length, slice_get, IfOk};
+ghost use Rattle.std.specs.{Prelude.{◌≡◌, ◌<◌, ◌≤◌, List, Some, length, slice_get, IfOk}, List.{AllByRecursion}};
 ghost use Rattle.sect_lemmas.specs.Lists.{Has};
 ghost use Rattle.sect_types.specs.Sections.{SectionView, sections_of};
 ghost use Rattle.sect_graph.specs.declared.flow.Node.{Node};
-ghost use Rattle.sect_names.specs.declared.link.Link.{Link};
-ghost use Rattle.sect_names.specs.Needed.{end_of};
+ghost use Rattle.sect_names.specs.{declared.link.Link.{Link}, Needed.{end_of}};
 ghost use Rattle.sect_chains.specs.Chains.{AreChains};
-ghost use Rattle.std.specs.List.{AllByRecursion};
 ghost use Rattle.sect_cert.specs.Texts.{IsChain, AreRising, IsSection, HasText};
 ghost use Rattle.sect_infer.specs.Sets.{AreInferredAt, AreAllInferred};
 ghost use Rattle.sect_emit.specs.Words.{IsChainNamed};

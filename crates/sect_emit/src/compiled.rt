@@ -4,16 +4,13 @@ ghost use Rattle.std.specs.Prelude.{◌≡◌, ◌<◌, IfOk, List, Some, length
 ghost use Rattle.sect_lemmas.specs.Lists.{Has};
 ghost use Rattle.sect_types.specs.Sections.{SectionView, sections_of};
 ghost use Rattle.sect_graph.specs.declared.flow.Node.{Node};
-ghost use Rattle.sect_names.specs.declared.link.Link.{Link};
-ghost use Rattle.sect_names.specs.declared.lock.Lock.{Lock};
-ghost use Rattle.sect_names.specs.Needed.{end_of};
+ghost use Rattle.sect_names.specs.{declared.link.Link.{Link}, declared.lock.Lock.{Lock}, Needed.{end_of}};
 ghost use Rattle.sect_chains.specs.Chains.{AreChains};
 ghost use Rattle.sect_check.specs.Valid.{IsValid};
 ghost use Rattle.sect_infer.specs.Sets.{AreInferredAt};
-ghost use Rattle.sect_emit.specs.Compiled.{IsCompiled, AreSetsLeast};
-ghost use Rattle.sect_cert.specs.declared.certificate.Cert.{Cert};
-ghost use Rattle.sect_emit.specs.Certificates.{IsCertificateOf};
+ghost use Rattle.sect_emit.specs.{Compiled.{IsCompiled, AreSetsLeast}, Certificates.{IsCertificateOf}};
 ghost use Rattle.sect_emit.specs.Words.{IsChainNamed};
+ghost use Rattle.sect_cert.specs.declared.certificate.Cert.{Cert};
 
 use crate::certificate::{certificate_of, found};
 use crate::laws::claims::spelled_locks_are_valid;

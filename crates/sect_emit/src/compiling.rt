@@ -1,16 +1,13 @@
 //! Compilation.
 
 ghost use Rattle.std.specs.Prelude.{◌≡◌, ◌↔◌, ℕ, List, map, IfOk, IfErr, IsErrOf, OnOk, IsOkUnless};
-ghost use Rattle.sect_names.specs.declared.refusal.SourceRefusal.TheVariants.{Memory};
-ghost use Rattle.sect_names.specs.Schemes.{SchemeView};
+ghost use Rattle.sect_names.specs.{declared.refusal.SourceRefusal.TheVariants.{Memory}, Schemes.{SchemeView}};
 ghost use Rattle.sect_names.specs.Sources.{IsAccepted, IsDue};
-ghost use Rattle.sect_infer.specs.Sets.{AreAllInferred};
-ghost use Rattle.sect_infer.specs.Workers.{AreOffered, AreRefused};
+ghost use Rattle.sect_infer.specs.{Sets.{AreAllInferred}, Workers.{AreOffered, AreRefused}};
 ghost use Rattle.sect_infer.specs.declared.workers.InferFault.TheVariants.{BadWorkers};
-ghost use Rattle.sect_emit.specs.declared.fault.CompileFault.TheVariants as fault;
-ghost use Rattle.sect_emit.specs.Compiled.{IsCompiled, AreSetsLeast, IsCompiledFrom};
-ghost use Rattle.sect_emit.specs.Faults.{IsDueBy};
+ghost use Rattle.sect_emit.specs.{Compiled.{IsCompiled, AreSetsLeast, IsCompiledFrom}, Faults.{IsDueBy}};
 ghost use Rattle.sect_emit.specs.steps.Inferred.{entries_of, AreFixedParts};
+ghost use Rattle.sect_emit.specs.declared.fault.CompileFault.TheVariants as fault;
 
 use crate::compiled::Compiled;
 use crate::fault::CompileFault;

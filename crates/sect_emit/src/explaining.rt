@@ -1,17 +1,13 @@
 //! Why the sections of a compiled program take their locks, as it is printed.
 
-ghost use Rattle.std.specs.Prelude.{◌≡◌, ◌<◌, ◌++◌, List, length, map, replicate, IfOk, OnOk};
-ghost use Rattle.std.specs.Prelude.{Some, option_map, slice_get};
-ghost use Rattle.std.specs.Option.{option_copied};
-ghost use Rattle.std.specs.String.{string_bytes};
+ghost use Rattle.std.specs.Prelude.{◌≡◌, ◌<◌, ◌++◌, List, length, map, replicate, IfOk, OnOk, Some, option_map};
+ghost use Rattle.std.specs.{Prelude.{slice_get}, Option.{option_copied}, String.{string_bytes}};
 ghost use Rattle.sect_lemmas.specs.Lists.{Has};
 ghost use Rattle.sect_types.specs.Sections.{sections_of};
-ghost use Rattle.sect_names.specs.declared.link.Link.{Link};
-ghost use Rattle.sect_names.specs.Printing.{IsNamed};
+ghost use Rattle.sect_names.specs.{declared.link.Link.{Link}, Printing.{IsNamed}};
 ghost use Rattle.sect_emit.specs.Words.{IsChainNamed};
-ghost use Rattle.sect_emit.specs.Explaining.{deed_text, node_text, widest, line_end, step_line, lock_line};
-ghost use Rattle.sect_emit.specs.Explaining.{chain_lines, chains_lines};
-ghost use Rattle.sect_emit.specs.Explaining.{explained_lines, section_explained, IsChained};
+ghost use Rattle.sect_emit.specs.Explaining.{deed_text, node_text, widest, line_end, step_line, lock_line, chain_lines};
+ghost use Rattle.sect_emit.specs.Explaining.{chains_lines, explained_lines, section_explained, IsChained};
 ghost use Rattle.sect_emit.specs.Explaining.{IsExplanation};
 ghost use Rattle.sect_emit.specs.steps.Naming.{AreNodesOf};
 

@@ -1,8 +1,7 @@
 //! Why a source text isn't compiled by several workers.
 
 ghost use Rattle.std.specs.Prelude.{◌≡◌};
-ghost use Rattle.sect_emit.specs.declared.fault.CompileFault.TheVariants.{Memory};
-ghost use Rattle.sect_emit.specs.Faults.{of_workers, of_source};
+ghost use Rattle.sect_emit.specs.{declared.fault.CompileFault.TheVariants.{Memory}, Faults.{of_workers, of_source}};
 
 use sect_infer::InferFault;
 use sect_names::SourceRefusal;

@@ -2,12 +2,12 @@
 
 ghost use Rattle.std.specs.Prelude.{◌≡◌, IfOk, OnOk};
 ghost use Rattle.sect_lemmas.specs.Lists.{Has};
-ghost use Rattle.sect_modes.specs.declared.key.Key.TheVariants as key;
 ghost use Rattle.sect_modes.specs.Mode.{intention_of};
 ghost use Rattle.sect_names.specs.declared.lock.Lock.{Lock};
-ghost use Rattle.sect_emit.specs.Plan.{grip as grip_of, with_grip, IsFixedPart};
-ghost use Rattle.sect_emit.specs.Plan.{class_mode as mode_of_class, intended as mode_intended};
+ghost use Rattle.sect_emit.specs.Plan.{grip as grip_of, with_grip, IsFixedPart, class_mode as mode_of_class};
+ghost use Rattle.sect_emit.specs.Plan.{intended as mode_intended};
 ghost use Rattle.sect_emit.specs.steps.Wishes.{HasWishes, IsClassedLock};
+ghost use Rattle.sect_modes.specs.declared.key.Key.TheVariants as key;
 
 use crate::plan::Grip;
 use sect_modes::{Key, Mode, intention, is_below, is_same, join};

@@ -1,10 +1,8 @@
 //! The graphs of a compiled program, and what their nodes do.
 
-ghost use Rattle.std.specs.Prelude.{◌≡◌, ◌<◌, ◌++◌, length, OnOk};
-ghost use Rattle.std.specs.String.{string_bytes};
+ghost use Rattle.std.specs.{Prelude.{◌≡◌, ◌<◌, ◌++◌, length, OnOk}, String.{string_bytes}};
 ghost use Rattle.sect_graph.specs.Layout.{flow_nodes};
-ghost use Rattle.sect_emit.specs.Compiled.{program_of};
-ghost use Rattle.sect_emit.specs.Graphed.{IsThere, graphed_nodes, graphed_deed, text_at};
+ghost use Rattle.sect_emit.specs.{Compiled.{program_of}, Graphed.{IsThere, graphed_nodes, graphed_deed, text_at}};
 ghost use Rattle.sect_emit.specs.declared.graphs.GraphOf.TheVariants.{Thread};
 
 use crate::compiled::Compiled;

@@ -5,9 +5,7 @@ ghost use Rattle.std.specs.Prelude.{◌≡◌, ◌↔◌, ◌<◌, ◌≤◌, �
 ghost use Rattle.sect_types.specs.Sections.{sections_of};
 ghost use Rattle.sect_graph.specs.Layout.{flow_nodes};
 ghost use Rattle.sect_infer.specs.Sets.{AreNeeded};
-ghost use Rattle.sect_names.specs.declared.lock.Lock.{Lock};
-ghost use Rattle.sect_names.specs.Chains.{link, IsGeneratedAt};
-ghost use Rattle.sect_names.specs.Needed.{end_of};
+ghost use Rattle.sect_names.specs.{declared.lock.Lock.{Lock}, Chains.{link, IsGeneratedAt}, Needed.{end_of}};
 ghost use Rattle.sect_names.specs.Printing.{IsNamed, AreNamed};
 ghost use Rattle.sect_emit.specs.Explaining.{section_at};
 

@@ -1,10 +1,8 @@
 //! A compiled program as it is printed.
 
-ghost use Rattle.std.specs.Prelude.{◌≡◌, ◌<◌, ◌++◌, Some, length, slice_get, IfOk, OnOk};
-ghost use Rattle.std.specs.List.{flat_map};
+ghost use Rattle.std.specs.{Prelude.{◌≡◌, ◌<◌, ◌++◌, Some, length, slice_get, IfOk, OnOk}, List.{flat_map}};
 ghost use Rattle.std.specs.String.{string_bytes};
-ghost use Rattle.sect_types.specs.Statements.{TextView};
-ghost use Rattle.sect_types.specs.Sections.{SectionView, sections_of};
+ghost use Rattle.sect_types.specs.{Statements.{TextView}, Sections.{SectionView, sections_of}};
 ghost use Rattle.sect_graph.specs.declared.flow.Node.{Node};
 ghost use Rattle.sect_names.specs.Printing.{IsNamed, AreNamed};
 ghost use Rattle.sect_emit.specs.Labels.{thread_name};

@@ -1,12 +1,10 @@
 //! What is told of a section of a compiled program: its thread, what its nodes do, and why it takes its locks.
 
-ghost use Rattle.std.specs.Prelude.{◌≡◌, ◌<◌, ◌++◌, List, length, IfOk, OnOk};
-ghost use Rattle.std.specs.String.{string_bytes};
+ghost use Rattle.std.specs.{Prelude.{◌≡◌, ◌<◌, ◌++◌, List, length, IfOk, OnOk}, String.{string_bytes}};
 ghost use Rattle.sect_lemmas.specs.Lists.{Has};
 ghost use Rattle.sect_types.specs.Sections.{sections_of};
 ghost use Rattle.sect_names.specs.declared.link.Link.{Link};
-ghost use Rattle.sect_emit.specs.Words.{IsChainNamed};
-ghost use Rattle.sect_emit.specs.Explaining.{IsChained, section_at, section_deed};
+ghost use Rattle.sect_emit.specs.{Words.{IsChainNamed}, Explaining.{IsChained, section_at, section_deed}};
 
 use crate::compiled::Compiled;
 use crate::explaining::put_deed;

@@ -1,13 +1,11 @@
 //! Statements and tests as they are printed.
 
-ghost use Rattle.std.specs.Prelude.{◌≡◌, ◌<◌, ◌++◌, length, codes, OnOk};
-ghost use Rattle.std.specs.String.{string_bytes};
-ghost use Rattle.sect_names.specs.Locks.{IsField};
-ghost use Rattle.sect_names.specs.Printing.{variable_text};
-ghost use Rattle.sect_points.specs.declared.holders.Variable.TheVariants as variable;
-ghost use Rattle.sect_emit.specs.Labels.{record_name, operator_text, value_text, access_text};
-ghost use Rattle.sect_emit.specs.Labels.{target_text, action_text, condition_text, label_text};
+ghost use Rattle.std.specs.{Prelude.{◌≡◌, ◌<◌, ◌++◌, length, codes, OnOk}, String.{string_bytes}};
+ghost use Rattle.sect_names.specs.{Locks.{IsField}, Printing.{variable_text}};
+ghost use Rattle.sect_emit.specs.Labels.{record_name, operator_text, value_text, access_text, target_text, action_text};
+ghost use Rattle.sect_emit.specs.Labels.{condition_text, label_text};
 ghost use Rattle.sect_emit.specs.steps.Naming.{IsLocalOf, IsValueOf, IsBaseOf, IsActionOf, IsConditionOf, IsLabelOf};
+ghost use Rattle.sect_points.specs.declared.holders.Variable.TheVariants as variable;
 
 use sect_front::Operator;
 use sect_names::field_name;

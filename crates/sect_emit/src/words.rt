@@ -1,18 +1,14 @@
 //! Locks and chains by the names that stand in a program's text.
 
 ghost use Rattle.std.specs.Prelude.{◌≡◌, ◌≢◌, ◌≤◌, ◌<◌, ◌+◌, ◌-◌, List, [], ◌∷◌, ◌++◌, map, take, length, Some};
-ghost use Rattle.std.specs.Prelude.{slice_get, IfOk, IfSome, OnOk, IsTrue};
+ghost use Rattle.std.specs.{Prelude.{slice_get, IfOk, IfSome, OnOk, IsTrue}, List.{AllByRecursion}, Map.Iter.{deref}};
 ghost use Rattle.sect_cert.specs.declared.certificate.CertStep.{CertStep};
-ghost use Rattle.std.specs.List.{AllByRecursion};
-ghost use Rattle.std.specs.Map.Iter.{deref};
-ghost use Rattle.sect_lemmas.specs.Lists.{Has};
 ghost use Rattle.sect_cert.specs.Texts.{IsBase, IsPath, IsLock, IsStep, IsChain};
-ghost use Rattle.sect_names.specs.declared.link.Link.{Link};
-ghost use Rattle.sect_names.specs.declared.lock.Lock.{Lock};
-ghost use Rattle.sect_front.specs.TreeView.{TreeView};
-ghost use Rattle.sect_names.specs.Locks.{IsVariable, IsPathOf};
-ghost use Rattle.sect_check.specs.Names.{words_of_variable};
+ghost use Rattle.sect_lemmas.specs.Lists.{Has};
+ghost use Rattle.sect_names.specs.{declared.link.Link.{Link}, declared.lock.Lock.{Lock}, Locks.{IsVariable, IsPathOf}};
 ghost use Rattle.sect_names.specs.Printing.{IsNamed, AreNamed};
+ghost use Rattle.sect_front.specs.TreeView.{TreeView};
+ghost use Rattle.sect_check.specs.Names.{words_of_variable};
 ghost use Rattle.sect_emit.specs.Words.{path_words, lock_words, list_words, step_words, chain_words, chains_words};
 ghost use Rattle.sect_emit.specs.Words.{IsChainNamed};
 ghost use Rattle.sect_emit.specs.steps.Spelled.{IsLastNamed};

@@ -1,8 +1,6 @@
 -- Lemmas on bodies.
 use Rattle.std.proofs.Common.{◌≡◌, List, [], ◌∷◌, ◌++◌, refl, ap}
-use Rattle.sect_front.specs.Syntax.{Then}
-use Rattle.sect_front.specs.Trees.{statement_of, block_of, append}
-use Rattle.sect_front.specs.declared.tree.Statement.{Statement}
+use Rattle.sect_front.specs.{Syntax.{Then}, Trees.{statement_of, block_of, append}, declared.tree.Statement.{Statement}}
 
 pub body_of_push : (ss : List Statement) (s : Statement)
     → block_of (ss ++ s ∷ []) ≡ append (block_of ss) (statement_of s)

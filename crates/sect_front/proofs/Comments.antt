@@ -1,7 +1,6 @@
 -- What follows a comment: all behind its first line feed.
-use Rattle.std.proofs.Common.{◌≡◌, ℕ, zero, suc, ◌<◌, true, false, not, List, [], ◌∷◌, length, drop}
-use Rattle.std.proofs.Common.{◌==◌, refl, sym, ap, ◌∙◌, arith}
-use Rattle.std.proofs.lemmas.Bool.{false_from_ne_true}
+use Rattle.std.proofs.Common.{◌≡◌, ℕ, zero, suc, ◌<◌, true, false, not, List, [], ◌∷◌, length, drop, ◌==◌, refl, sym}
+use Rattle.std.proofs.{Common.{ap, ◌∙◌, arith}, lemmas.Bool.{false_from_ne_true}}
 use Rattle.memchr.specs.Find.{is_byte, Passes, Nowhere}
 use Rattle.sect_front.specs.Gaps.{skip, line_feed}
 

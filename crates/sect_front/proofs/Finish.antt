@@ -1,65 +1,51 @@
 -- Whatever has been read can be finished.
 use Rattle.std.proofs.Common.{◌≡◌, ℕ, List, [], ◌∷◌, ◌++◌, Some, refl, sym, ◌∙◌, ap, subst, IfSome}
 use Rattle.sect_front.specs.Syntax.{StatementView, BlockView, Primitive, If, IfElse, While, Atomic, Call, End}
-use Rattle.sect_front.specs.TreeView.{TreeView}
-use Rattle.sect_front.specs.Trees.{append}
-use Rattle.sect_front.specs.Grammar.{kind_token}
-use Rattle.sect_front.specs.Tokens.{locking_tokens, test_tokens, statement_tokens, block_tokens}
-use Rattle.sect_front.specs.Tokens.{declarations_tokens, record_tokens, global_tokens, procedure_tokens}
-use Rattle.sect_front.specs.Tokens.{thread_tokens, source_tokens}
+use Rattle.sect_front.specs.{TreeView.{TreeView}, Trees.{append}, Grammar.{kind_token}}
+use Rattle.sect_front.specs.Tokens.{locking_tokens, test_tokens, statement_tokens, block_tokens, declarations_tokens}
+use Rattle.sect_front.specs.Tokens.{record_tokens, global_tokens, procedure_tokens, thread_tokens, source_tokens}
+use Rattle.sect_front.specs.{declared.token.Token.{Token}, declared.tree.Operand.{Operand}, declared.tree.Test.{Test}}
+use Rattle.sect_front.specs.{declared.tree.Comparison.{Comparison}, declared.tree.Declaration.{Declaration}}
+use Rattle.sect_front.specs.{declared.partial.Branch.{Branch}, declared.partial.PartialAssign.{PartialAssign}}
+use Rattle.sect_front.specs.declared.partial.PartialStore.{PartialStore}
+use Rattle.sect_front.specs.{declared.partial.PartialBranch.{PartialBranch}, declared.partial.PartialHead.{PartialHead}}
+use Rattle.sect_front.specs.{declared.partial.PartialCall.{PartialCall}, declared.within.OpenBlock.{OpenBlock}}
+use Rattle.sect_front.specs.{declared.within.Partial.{Partial}, declared.reader.RecordStage.{RecordStage}}
+use Rattle.sect_front.specs.{declared.reader.GlobalStage.{GlobalStage}, declared.reader.ProcedureStage.{ProcedureStage}}
+use Rattle.sect_front.specs.{declared.reader.ThreadStage.{ThreadStage}, declared.reader.Owner.{Owner}}
+use Rattle.sect_front.specs.{declared.reader.BodyStage.{BodyStage}, declared.reader.Outside.{Outside}}
+use Rattle.sect_front.specs.declared.reader.Stage.{Stage}
 use Rattle.sect_front.specs.steps.ReaderView.{ReaderView, reading, empty}
 use Rattle.sect_front.specs.steps.Read.{after, with_record, with_global, with_procedure, with_thread}
-use Rattle.sect_front.specs.declared.token.Token.{Token}
+use Rattle.sect_front.proofs.Keeps.{line_tokens, call_stage_tokens, place_tokens, frames_tokens, outside_tokens}
+use Rattle.sect_front.proofs.Keeps.{stage_tokens, part_outside, record_stage_tokens, global_stage_tokens}
+use Rattle.sect_front.proofs.Keeps.{procedure_stage_tokens, thread_stage_tokens, body_stage_tokens, body_tokens_append}
+use Rattle.sect_front.proofs.Keeps.{after_law, operands_append, declarations_append, parameters_append, hints_append}
+use Rattle.sect_front.proofs.Keeps.{parametered, behind, owner_tokens, opened, headed, one_record, one_global}
+use Rattle.sect_front.proofs.Keeps.{one_procedure, one_thread, Fits, part_with, owner_in, part_in, IsOrdered, IsKept}
 use Rattle.sect_front.specs.declared.tree.Locking.TheVariants as locking
 use Rattle.sect_front.specs.declared.token.Token.TheVariants as token
-use Rattle.sect_front.specs.declared.tree.Operand.{Operand}
 use Rattle.sect_front.specs.declared.tree.Operand.TheVariants as operand
 use Rattle.sect_front.specs.declared.tree.Primitive.TheVariants as primitive
-use Rattle.sect_front.specs.declared.tree.Test.{Test}
-use Rattle.sect_front.specs.declared.tree.Comparison.{Comparison}
 use Rattle.sect_front.specs.declared.tree.Comparison.TheVariants as comparison
-use Rattle.sect_front.specs.declared.tree.Declaration.{Declaration}
-use Rattle.sect_front.specs.declared.partial.Branch.{Branch}
 use Rattle.sect_front.specs.declared.partial.Branch.TheVariants as branch
-use Rattle.sect_front.specs.declared.partial.PartialAssign.{PartialAssign}
 use Rattle.sect_front.specs.declared.partial.PartialAssign.TheVariants as assign
-use Rattle.sect_front.specs.declared.partial.PartialStore.{PartialStore}
 use Rattle.sect_front.specs.declared.partial.PartialStore.TheVariants as store
-use Rattle.sect_front.specs.declared.partial.PartialBranch.{PartialBranch}
 use Rattle.sect_front.specs.declared.partial.PartialBranch.TheVariants as head
-use Rattle.sect_front.specs.declared.partial.PartialHead.{PartialHead}
 use Rattle.sect_front.specs.declared.partial.PartialHead.TheVariants as line
-use Rattle.sect_front.specs.declared.partial.PartialCall.{PartialCall}
 use Rattle.sect_front.specs.declared.partial.PartialCall.TheVariants as call
 use Rattle.sect_front.specs.declared.tree.Kind.TheVariants as kind
-use Rattle.sect_front.specs.declared.within.OpenBlock.{OpenBlock}
 use Rattle.sect_front.specs.declared.within.OpenBlock.TheVariants as open_block
-use Rattle.sect_front.specs.declared.within.Partial.{Partial}
 use Rattle.sect_front.specs.declared.within.Partial.TheVariants as place
 use Rattle.sect_front.specs.declared.reader.Part.TheVariants as part
-use Rattle.sect_front.specs.declared.reader.RecordStage.{RecordStage}
 use Rattle.sect_front.specs.declared.reader.RecordStage.TheVariants as in_record
-use Rattle.sect_front.specs.declared.reader.GlobalStage.{GlobalStage}
 use Rattle.sect_front.specs.declared.reader.GlobalStage.TheVariants as in_global
-use Rattle.sect_front.specs.declared.reader.ProcedureStage.{ProcedureStage}
 use Rattle.sect_front.specs.declared.reader.ProcedureStage.TheVariants as in_procedure
-use Rattle.sect_front.specs.declared.reader.ThreadStage.{ThreadStage}
 use Rattle.sect_front.specs.declared.reader.ThreadStage.TheVariants as in_thread
-use Rattle.sect_front.specs.declared.reader.Owner.{Owner}
 use Rattle.sect_front.specs.declared.reader.Owner.TheVariants as owner
-use Rattle.sect_front.specs.declared.reader.BodyStage.{BodyStage}
 use Rattle.sect_front.specs.declared.reader.BodyStage.TheVariants as in_body
-use Rattle.sect_front.specs.declared.reader.Outside.{Outside}
 use Rattle.sect_front.specs.declared.reader.Outside.TheVariants as outside
-use Rattle.sect_front.specs.declared.reader.Stage.{Stage}
 use Rattle.sect_front.specs.declared.reader.Stage.TheVariants as stage
-use Rattle.sect_front.proofs.Keeps.{line_tokens, call_stage_tokens, place_tokens, frames_tokens, outside_tokens}
-use Rattle.sect_front.proofs.Keeps.{stage_tokens, part_outside}
-use Rattle.sect_front.proofs.Keeps.{record_stage_tokens, global_stage_tokens, procedure_stage_tokens}
-use Rattle.sect_front.proofs.Keeps.{thread_stage_tokens, body_stage_tokens, body_tokens_append, after_law}
-use Rattle.sect_front.proofs.Keeps.{operands_append, declarations_append, parameters_append, hints_append, parametered}
-use Rattle.sect_front.proofs.Keeps.{behind, owner_tokens, opened, headed, one_record, one_global, one_procedure}
-use Rattle.sect_front.proofs.Keeps.{one_thread, Fits, part_with, owner_in, part_in, IsOrdered, IsKept}
 
 -- a statement that what has been read of it can become, by these tokens
 record StatementEnd (kept : List Token → List Token) : Type 0 where

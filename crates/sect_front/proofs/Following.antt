@@ -1,46 +1,37 @@
 -- Which kinds may follow the tokens that have been read.
-use Rattle.std.proofs.Common.{◌≡◌, ◌≢◌, ℕ, ◌+◌, ◌-◌, ◌<◌, ◌≤◌, Bool, true, false, List, [], ◌∷◌, ◌++◌, Option, Some, None}
-use Rattle.std.proofs.Common.{option_and_then, length, take, drop, refl, sym, ◌∙◌, ap, subst, arith, length-drop}
-use Rattle.std.proofs.Common.{append-nil, suc}
-use Rattle.std.proofs.lemmas.List.Elements.{filter-append}
-use Rattle.std.proofs.lemmas.Bool.Decides.{nat_tests}
+use Rattle.std.proofs.Common.{◌≡◌, ◌≢◌, ℕ, ◌+◌, ◌-◌, ◌<◌, ◌≤◌, Bool, true, false, List, [], ◌∷◌, ◌++◌, Option, Some}
+use Rattle.std.proofs.Common.{None, option_and_then, length, take, drop, refl, sym, ◌∙◌, ap, subst, arith, length-drop}
+use Rattle.std.proofs.{Common.{append-nil, suc}, lemmas.List.Elements.{filter-append}, lemmas.Bool.Decides.{nat_tests}}
 use Rattle.std.proofs.Math.Seq.{take-suc}
-use Rattle.std.specs.Prelude.{⊤, get_or, is_some, filter, nat_lt, take_while, cond, codes}
-use Rattle.std.specs.List.{prefix_len}
-use Rattle.sect_front.specs.TreeView.{TreeView}
-use Rattle.sect_front.specs.Syntax.{BlockView, StatementView, End}
-use Rattle.sect_front.specs.Gaps.{after_gap}
-use Rattle.sect_front.specs.Lexing.{Reaches}
-use Rattle.sect_front.specs.TokenAt.{TokenAt}
-use Rattle.sect_front.specs.Faults.{tokens_in, IsViable}
+use Rattle.std.specs.{Prelude.{⊤, get_or, is_some, filter, nat_lt, take_while, cond, codes}, List.{prefix_len}}
+use Rattle.sect_front.specs.{TreeView.{TreeView}, Syntax.{BlockView, StatementView, End}, Gaps.{after_gap}}
+use Rattle.sect_front.specs.{Lexing.{Reaches}, TokenAt.{TokenAt}, Faults.{tokens_in, IsViable}}
 use Rattle.sect_front.specs.Expected.{kind_of, all_kinds, MayFollow, AreExpected, AreExpectedAt, tokens_before}
-use Rattle.sect_front.specs.Trees.{append}
+use Rattle.sect_front.specs.{Trees.{append}, Samples.{sample_of}, declared.token.Token.{Token}}
+use Rattle.sect_front.specs.{declared.token_kind.TokenKind.{TokenKind}, declared.tree.Declaration.{Declaration}}
+use Rattle.sect_front.specs.{declared.partial.Move.{Move}, declared.partial.PartialHead.{PartialHead}}
+use Rattle.sect_front.specs.{declared.partial.PartialCall.{PartialCall}, declared.within.OpenBlock.{OpenBlock}}
+use Rattle.sect_front.specs.{declared.within.Partial.{Partial}, declared.reader.Owner.{Owner}}
+use Rattle.sect_front.specs.{declared.reader.Outside.{Outside}, declared.reader.Stage.{Stage}}
 use Rattle.sect_front.specs.steps.Advance.{advance_of}
-use Rattle.sect_front.specs.Samples.{sample_of}
-use Rattle.sect_front.specs.steps.Step.{Next, Stays, Ends, Stuck, start_step, after_then, call_step}
-use Rattle.sect_front.specs.steps.Step.{moved_if, step_at, step_of}
-use Rattle.sect_front.specs.steps.ReaderView.{ReaderView}
+use Rattle.sect_front.specs.steps.Step.{Next, Stays, Ends, Stuck, start_step, after_then, call_step, moved_if, step_at}
+use Rattle.sect_front.specs.steps.{Step.{step_of}, ReaderView.{ReaderView}}
 use Rattle.sect_front.specs.steps.Read.{read_one, read_at, read_outside, after, end_step, goes_on, fresh, body_step}
 use Rattle.sect_front.specs.steps.Taking.{is_taken, is_kind_taken}
-use Rattle.sect_front.specs.declared.token.Token.{Token}
+use Rattle.sect_front.proofs.{Finish.{start}, Lexemes.{lexeme_only, pair}, Texts.{ReadHere}}
+use Rattle.sect_front.proofs.Verdict.{viable, after_one, not_viable}
+use Rattle.sect_front.proofs.shared.Lexings.{gap_fits}
+use Rattle.sect_lemmas.proofs.Options.{some_injective}
 use Rattle.sect_front.specs.declared.token.Token.TheVariants as token
-use Rattle.sect_front.specs.declared.token_kind.TokenKind.{TokenKind}
 use Rattle.sect_front.specs.declared.token_kind.TokenKind.TheVariants as of_token
 use Rattle.sect_front.specs.declared.tree.Kind.TheVariants as kind
-use Rattle.sect_front.specs.declared.tree.Declaration.{Declaration}
-use Rattle.sect_front.specs.declared.partial.Move.{Move}
 use Rattle.sect_front.specs.declared.partial.Move.TheVariants as move
-use Rattle.sect_front.specs.declared.partial.PartialHead.{PartialHead}
 use Rattle.sect_front.specs.declared.partial.PartialHead.TheVariants as line
 use Rattle.sect_front.specs.declared.partial.PartialAssign.TheVariants as assign
 use Rattle.sect_front.specs.declared.partial.PartialStore.TheVariants as store
 use Rattle.sect_front.specs.declared.partial.PartialBranch.TheVariants as head
-use Rattle.sect_front.specs.declared.partial.PartialCall.{PartialCall}
 use Rattle.sect_front.specs.declared.partial.PartialCall.TheVariants as call
-use Rattle.sect_front.specs.declared.within.OpenBlock.{OpenBlock}
-use Rattle.sect_front.specs.declared.within.Partial.{Partial}
 use Rattle.sect_front.specs.declared.within.Partial.TheVariants as place
-use Rattle.sect_front.specs.declared.reader.Owner.{Owner}
 use Rattle.sect_front.specs.declared.reader.Owner.TheVariants as owner
 use Rattle.sect_front.specs.declared.reader.BodyStage.TheVariants as in_body
 use Rattle.sect_front.specs.declared.reader.Part.TheVariants as part
@@ -48,16 +39,8 @@ use Rattle.sect_front.specs.declared.reader.RecordStage.TheVariants as in_record
 use Rattle.sect_front.specs.declared.reader.GlobalStage.TheVariants as in_global
 use Rattle.sect_front.specs.declared.reader.ProcedureStage.TheVariants as in_procedure
 use Rattle.sect_front.specs.declared.reader.ThreadStage.TheVariants as in_thread
-use Rattle.sect_front.specs.declared.reader.Outside.{Outside}
 use Rattle.sect_front.specs.declared.reader.Outside.TheVariants as outside
-use Rattle.sect_front.specs.declared.reader.Stage.{Stage}
 use Rattle.sect_front.specs.declared.reader.Stage.TheVariants as stage
-use Rattle.sect_front.proofs.Finish.{start}
-use Rattle.sect_front.proofs.Lexemes.{lexeme_only, pair}
-use Rattle.sect_front.proofs.Texts.{ReadHere}
-use Rattle.sect_front.proofs.Verdict.{viable, after_one, not_viable}
-use Rattle.sect_front.proofs.shared.Lexings.{gap_fits}
-use Rattle.sect_lemmas.proofs.Options.{some_injective}
 
 ends : (s : TreeView) (o : Owner) (ls : List Declaration) (b : BlockView) → is_some (end_step s o ls b) ≡ true
 ends s (owner.Procedure n ps) ls b = refl

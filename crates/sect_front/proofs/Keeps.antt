@@ -2,72 +2,56 @@
 use Rattle.std.proofs.Common.{◌≡◌, ℕ, option_and_then, List, [], ◌∷◌, ◌++◌, Option, Some, None, refl, sym, ◌∙◌, ap}
 use Rattle.std.proofs.Common.{IfSome, subst}
 use Rattle.sect_front.specs.Syntax.{StatementView, BlockView, Primitive, If, IfElse, While, Atomic, Call, End, Then}
-use Rattle.sect_front.specs.TreeView.{TreeView}
-use Rattle.sect_front.specs.Trees.{append}
+use Rattle.sect_front.specs.{TreeView.{TreeView}, Trees.{append}}
 use Rattle.sect_front.specs.Grammar.{operand_token, operator_token, comparison_token, kind_token}
 use Rattle.sect_front.specs.Tokens.{locking_tokens, primitive_tokens, test_tokens, more_operands, operands_tokens}
-use Rattle.sect_front.specs.Tokens.{statement_tokens, block_tokens, declarations_tokens, hints_tokens}
-use Rattle.sect_front.specs.Tokens.{record_tokens, global_tokens, more_parameters, parameters_tokens}
-use Rattle.sect_front.specs.Tokens.{procedure_tokens, thread_tokens, records_tokens, globals_tokens}
-use Rattle.sect_front.specs.Tokens.{procedures_tokens, threads_tokens, source_tokens}
+use Rattle.sect_front.specs.Tokens.{statement_tokens, block_tokens, declarations_tokens, hints_tokens, record_tokens}
+use Rattle.sect_front.specs.Tokens.{global_tokens, more_parameters, parameters_tokens, procedure_tokens, thread_tokens}
+use Rattle.sect_front.specs.Tokens.{records_tokens, globals_tokens, procedures_tokens, threads_tokens, source_tokens}
+use Rattle.sect_front.specs.{declared.token.Token.{Token}, declared.tree.Operand.{Operand}, declared.tree.Test.{Test}}
+use Rattle.sect_front.specs.{declared.tree.Kind.{Kind}, declared.tree.Declaration.{Declaration}}
+use Rattle.sect_front.specs.{declared.tree.Record.{Record}, declared.tree.GlobalObject.{GlobalObject}}
+use Rattle.sect_front.specs.{declared.tree.Procedure.{Procedure}, declared.tree.Thread.{Thread}}
+use Rattle.sect_front.specs.{declared.partial.Branch.{Branch}, declared.partial.PartialAssign.{PartialAssign}}
+use Rattle.sect_front.specs.declared.partial.PartialStore.{PartialStore}
+use Rattle.sect_front.specs.{declared.partial.PartialBranch.{PartialBranch}, declared.partial.PartialHead.{PartialHead}}
+use Rattle.sect_front.specs.{declared.partial.PartialCall.{PartialCall}, declared.partial.Move.{Move}}
+use Rattle.sect_front.specs.{declared.within.OpenBlock.{OpenBlock}, declared.within.Partial.{Partial}}
+use Rattle.sect_front.specs.{declared.reader.Part.{Part}, declared.reader.RecordStage.{RecordStage}}
+use Rattle.sect_front.specs.{declared.reader.GlobalStage.{GlobalStage}, declared.reader.ProcedureStage.{ProcedureStage}}
+use Rattle.sect_front.specs.{declared.reader.ThreadStage.{ThreadStage}, declared.reader.Owner.{Owner}}
+use Rattle.sect_front.specs.{declared.reader.BodyStage.{BodyStage}, declared.reader.Outside.{Outside}}
+use Rattle.sect_front.specs.declared.reader.Stage.{Stage}
 use Rattle.sect_front.specs.steps.Advance.{advance_of, assign_step, store_step, branch_step, operand_of, operator_of}
 use Rattle.sect_front.specs.steps.Advance.{comparison_of, goes_to, first_step, ends_with, opens}
 use Rattle.sect_front.specs.steps.Step.{Next, Stays, Ends, Stuck, step_of, step_at, start_step, close_step}
-use Rattle.sect_front.specs.steps.Step.{argument_step, call_step, moved, moved_if}
-use Rattle.sect_front.specs.steps.ReaderView.{ReaderView}
+use Rattle.sect_front.specs.steps.{Step.{argument_step, call_step, moved, moved_if}, ReaderView.{ReaderView}}
 use Rattle.sect_front.specs.steps.Read.{read_one, read_at, read_outside, begin_step, record_step, global_step}
-use Rattle.sect_front.specs.steps.Read.{parameter_step}
-use Rattle.sect_front.specs.steps.Read.{procedure_step, thread_step, body_step, after_kind_step, end_step, goes_on}
-use Rattle.sect_front.specs.steps.Read.{after, begun, fresh, with_record, with_global, with_procedure, with_thread}
-use Rattle.sect_front.specs.declared.token.Token.{Token}
+use Rattle.sect_front.specs.steps.Read.{parameter_step, procedure_step, thread_step, body_step, after_kind_step}
+use Rattle.sect_front.specs.steps.Read.{end_step, goes_on, after, begun, fresh, with_record, with_global}
+use Rattle.sect_front.specs.steps.Read.{with_procedure, with_thread}
 use Rattle.sect_front.specs.declared.token.Token.TheVariants as token
-use Rattle.sect_front.specs.declared.tree.Operand.{Operand}
 use Rattle.sect_front.specs.declared.tree.Operand.TheVariants as operand
 use Rattle.sect_front.specs.declared.tree.Primitive as leaf
 use Rattle.sect_front.specs.declared.tree.Primitive.TheVariants as primitive
-use Rattle.sect_front.specs.declared.tree.Test.{Test}
-use Rattle.sect_front.specs.declared.tree.Kind.{Kind}
 use Rattle.sect_front.specs.declared.tree.Kind.TheVariants as kind
-use Rattle.sect_front.specs.declared.tree.Declaration.{Declaration}
-use Rattle.sect_front.specs.declared.tree.Record.{Record}
-use Rattle.sect_front.specs.declared.tree.GlobalObject.{GlobalObject}
-use Rattle.sect_front.specs.declared.tree.Procedure.{Procedure}
-use Rattle.sect_front.specs.declared.tree.Thread.{Thread}
-use Rattle.sect_front.specs.declared.partial.Branch.{Branch}
 use Rattle.sect_front.specs.declared.partial.Branch.TheVariants as branch
-use Rattle.sect_front.specs.declared.partial.PartialAssign.{PartialAssign}
 use Rattle.sect_front.specs.declared.partial.PartialAssign.TheVariants as assign
-use Rattle.sect_front.specs.declared.partial.PartialStore.{PartialStore}
 use Rattle.sect_front.specs.declared.partial.PartialStore.TheVariants as store
-use Rattle.sect_front.specs.declared.partial.PartialBranch.{PartialBranch}
 use Rattle.sect_front.specs.declared.partial.PartialBranch.TheVariants as head
-use Rattle.sect_front.specs.declared.partial.PartialHead.{PartialHead}
 use Rattle.sect_front.specs.declared.partial.PartialHead.TheVariants as line
-use Rattle.sect_front.specs.declared.partial.PartialCall.{PartialCall}
 use Rattle.sect_front.specs.declared.partial.PartialCall.TheVariants as call
-use Rattle.sect_front.specs.declared.partial.Move.{Move}
 use Rattle.sect_front.specs.declared.partial.Move.TheVariants as move
-use Rattle.sect_front.specs.declared.within.OpenBlock.{OpenBlock}
 use Rattle.sect_front.specs.declared.within.OpenBlock.TheVariants as open_block
-use Rattle.sect_front.specs.declared.within.Partial.{Partial}
 use Rattle.sect_front.specs.declared.within.Partial.TheVariants as place
-use Rattle.sect_front.specs.declared.reader.Part.{Part}
 use Rattle.sect_front.specs.declared.reader.Part.TheVariants as part_of
-use Rattle.sect_front.specs.declared.reader.RecordStage.{RecordStage}
 use Rattle.sect_front.specs.declared.reader.RecordStage.TheVariants as in_record
-use Rattle.sect_front.specs.declared.reader.GlobalStage.{GlobalStage}
 use Rattle.sect_front.specs.declared.reader.GlobalStage.TheVariants as in_global
-use Rattle.sect_front.specs.declared.reader.ProcedureStage.{ProcedureStage}
 use Rattle.sect_front.specs.declared.reader.ProcedureStage.TheVariants as in_procedure
-use Rattle.sect_front.specs.declared.reader.ThreadStage.{ThreadStage}
 use Rattle.sect_front.specs.declared.reader.ThreadStage.TheVariants as in_thread
-use Rattle.sect_front.specs.declared.reader.Owner.{Owner}
 use Rattle.sect_front.specs.declared.reader.Owner.TheVariants as owner
-use Rattle.sect_front.specs.declared.reader.BodyStage.{BodyStage}
 use Rattle.sect_front.specs.declared.reader.BodyStage.TheVariants as in_body
-use Rattle.sect_front.specs.declared.reader.Outside.{Outside}
 use Rattle.sect_front.specs.declared.reader.Outside.TheVariants as outside
-use Rattle.sect_front.specs.declared.reader.Stage.{Stage}
 use Rattle.sect_front.specs.declared.reader.Stage.TheVariants as stage
 
 abbrev pub branch_token : Branch → Token

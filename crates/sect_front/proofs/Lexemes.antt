@@ -1,27 +1,19 @@
 -- Which token stands at the front of a text.
-use Rattle.std.proofs.Common.{◌≡◌, ℕ, zero, suc, ◌+◌, ◌-◌, ◌*◌, ◌<◌, ◌≤◌, Bool, true, false, not, ◌||◌, ◌&&◌, cond}
-use Rattle.std.proofs.Common.{eqb, nat_lt, List, [], ◌∷◌, Option, Some, None, length, take, drop, refl, sym, ◌∙◌, ap}
-use Rattle.std.proofs.Common.{subst, arith, IfSome}
-use Rattle.std.specs.List.{list_all, take_while, prefix_len}
-use Rattle.std.specs.Str.{bytes_eq}
-use Rattle.std.proofs.lemmas.Bool.{eqb-true, and_parts, not-true}
-use Rattle.std.proofs.lemmas.List.Folds.{length-prefix_len}
-use Rattle.std.proofs.lemmas.List.Sums.{prefix_len-le-length}
-use Rattle.sect_front.specs.Words.{is_letter, is_digit, is_name_byte}
-use Rattle.sect_front.specs.Gaps.{begins_with}
+use Rattle.std.proofs.Common.{◌≡◌, ℕ, zero, suc, ◌+◌, ◌-◌, ◌*◌, ◌<◌, ◌≤◌, Bool, true, false, not, ◌||◌, ◌&&◌, cond, eqb}
+use Rattle.std.proofs.Common.{nat_lt, List, [], ◌∷◌, Option, Some, None, length, take, drop, refl, sym, ◌∙◌, ap, subst}
+use Rattle.std.proofs.{Common.{arith, IfSome}, lemmas.Bool.{eqb-true, and_parts, not-true}}
+use Rattle.std.proofs.{lemmas.List.Folds.{length-prefix_len}, lemmas.List.Sums.{prefix_len-le-length}}
+use Rattle.std.specs.{List.{list_all, take_while, prefix_len}, Str.{bytes_eq}}
+use Rattle.sect_front.specs.{Words.{is_letter, is_digit, is_name_byte}, Gaps.{begins_with}}
+use Rattle.sect_front.specs.{Lexing.{stands, IsFirst, IsBad}, declared.token.Token.{Token}, Limits.{most_name_bytes}}
 use Rattle.sect_front.specs.steps.Recognition.{keyword_of, keyword_table, token_beside, or_name, word_token}
-use Rattle.sect_front.specs.steps.Recognition.{decimal_from, number_of, as_number, single_sign, double_sign}
-use Rattle.sect_front.specs.steps.Recognition.{sign_token, spelled}
+use Rattle.sect_front.specs.steps.Recognition.{decimal_from, number_of, as_number, single_sign, double_sign, sign_token}
+use Rattle.sect_front.specs.steps.Recognition.{spelled}
 use Rattle.sect_front.specs.steps.Lexeme.{with_length, longest, sign_at, lexeme_of, begins_name}
-use Rattle.sect_front.specs.Lexing.{stands, IsFirst, IsBad}
-use Rattle.sect_front.specs.declared.token.Token.{Token}
+use Rattle.sect_front.proofs.{Spellings.{spelling_back, spelled_proper}, Choices.{chosen, refused, if_some, if_some_so}}
+use Rattle.sect_lemmas.proofs.{Booleans.{neither, or_right}, Options.{some_injective, none_or_some}}
 use Rattle.sect_front.specs.declared.tree.Comparison.TheVariants as comparison
 use Rattle.sect_front.specs.declared.token.Token.TheVariants as token
-use Rattle.sect_front.proofs.Spellings.{spelling_back, spelled_proper}
-use Rattle.sect_front.proofs.Choices.{chosen, refused, if_some, if_some_so}
-use Rattle.sect_lemmas.proofs.Booleans.{neither, or_right}
-use Rattle.sect_lemmas.proofs.Options.{some_injective, none_or_some}
-use Rattle.sect_front.specs.Limits.{most_name_bytes}
 
 -- the token is recognised at the front, in the first n bytes
 pub record IsFront (t : Token) (n : ℕ) (bytes : List ℕ) : Type 0 where

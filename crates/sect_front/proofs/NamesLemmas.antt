@@ -1,23 +1,15 @@
 -- Lemmas on names.
 use Rattle.std.proofs.Common.{◌≡◌, ℕ, suc, ◌+◌, ◌<◌, ◌≤◌, get_or, eqb, Bool, true, false, not, ◌||◌, ◌&&◌, cond, List}
 use Rattle.std.proofs.Common.{[], ◌∷◌, ◌++◌, map, Option, Some, None, length, replicate, refl, sym, ◌∙◌, ap, arith}
-use Rattle.std.proofs.Common.{length-append, length-drop, true≢false}
-use Rattle.std.proofs.Math.Seq.{take-append_seam}
-use Rattle.std.proofs.lemmas.Bool.{leb-true, le-leb, eq-eqb, and_parts, not-true}
-use Rattle.std.proofs.lemmas.Bool.Decides.{nat_tests}
-use Rattle.std.proofs.lemmas.List.Folds.{length-prefix_len, list_all_at}
-use Rattle.std.proofs.Math.Dec.{leb}
-use Rattle.std.proofs.Math.Bool.{and-false}
-use Rattle.std.specs.Cmp.{unsigned_Decides}
-use Rattle.std.specs.List.{list_all, list_any, take_while, prefix_len, filter}
-use Rattle.sect_front.specs.declared.token.Token.{Token}
-use Rattle.sect_front.specs.declared.token.Token.TheVariants as token
-use Rattle.std.specs.Str.{bytes_eq}
+use Rattle.std.proofs.{Common.{length-append, length-drop, true≢false}, Math.Seq.{take-append_seam}}
+use Rattle.std.proofs.{lemmas.Bool.{leb-true, le-leb, eq-eqb, and_parts, not-true}, lemmas.Bool.Decides.{nat_tests}}
+use Rattle.std.proofs.{lemmas.List.Folds.{length-prefix_len, list_all_at}, Math.Dec.{leb}, Math.Bool.{and-false}}
+use Rattle.std.specs.{Cmp.{unsigned_Decides}, List.{list_all, list_any, take_while, prefix_len, filter}, Str.{bytes_eq}}
 use Rattle.std.specs.Prelude.{is_some, is_none, nat_eq, codes}
-use Rattle.sect_front.specs.Names.{IsPadded, zeros_from}
-use Rattle.sect_front.specs.Words.{is_name, is_letter, is_name_byte, is_keyword, begins}
+use Rattle.sect_front.specs.{declared.token.Token.{Token}, Names.{IsPadded, zeros_from}}
+use Rattle.sect_front.specs.{Words.{is_name, is_letter, is_name_byte, is_keyword, begins}, Limits.{most_name_bytes}}
 use Rattle.sect_front.specs.steps.Recognition.{keyword_of, keyword_table, keywords_of, token_beside}
-use Rattle.sect_front.specs.Limits.{most_name_bytes}
+use Rattle.sect_front.specs.declared.token.Token.TheVariants as token
 
 -- what a name is
 pub record IsNamed (bytes : List ℕ) : Type 0 where

@@ -1,20 +1,13 @@
 -- Which braces are open behind the tokens that have been read.
-use Rattle.std.proofs.Common.{◌≡◌, ℕ, ◌-◌, ◌<◌, List, [], ◌∷◌, ◌++◌, Some, length, drop, refl, sym, ◌∙◌, ap, subst, arith}
-use Rattle.std.proofs.lemmas.List.Elements.{All-nil, All-get_or}
-use Rattle.std.proofs.lemmas.List.Sums.{fold-append}
-use Rattle.std.specs.Prelude.{slice_get, IfSome}
+use Rattle.std.proofs.Common.{◌≡◌, ℕ, ◌-◌, ◌<◌, List, [], ◌∷◌, ◌++◌, Some, length, drop, refl, sym, ◌∙◌, ap, subst}
+use Rattle.std.proofs.{Common.{arith}, lemmas.List.Elements.{All-nil, All-get_or}, lemmas.List.Sums.{fold-append}}
 use Rattle.std.proofs.lemmas.Option.{slice_get-get_or}
-use Rattle.sect_front.specs.TokenAt.{TokenAt}
-use Rattle.sect_front.specs.Gaps.{after_gap}
-use Rattle.sect_front.specs.Lexing.{Spells}
-use Rattle.sect_front.specs.FaultPlaces.{open_behind, open_braces}
-use Rattle.sect_front.specs.declared.token.Token.{Token}
-use Rattle.sect_front.specs.steps.Below.{AreBelow}
-use Rattle.sect_front.specs.steps.Lexeme.{lexeme_of}
-use Rattle.sect_front.specs.steps.Verdicts.{Reached}
-use Rattle.sect_front.proofs.Reach.{reached_none, reached_more, lexed}
+use Rattle.std.specs.Prelude.{slice_get, IfSome}
+use Rattle.sect_front.specs.{TokenAt.{TokenAt}, Gaps.{after_gap}, Lexing.{Spells}}
+use Rattle.sect_front.specs.{FaultPlaces.{open_behind, open_braces}, declared.token.Token.{Token}}
+use Rattle.sect_front.specs.steps.{Below.{AreBelow}, Lexeme.{lexeme_of}, Verdicts.{Reached}}
+use Rattle.sect_front.proofs.{Reach.{reached_none, reached_more, lexed}, Texts.{token_here, nothing_left}}
 use Rattle.sect_front.proofs.shared.Lexings.{one_lexing}
-use Rattle.sect_front.proofs.Texts.{token_here, nothing_left}
 
 -- so far the text has been read, and these braces are open
 pub record OpenHere (bytes here braces : List ℕ) : Type 0 where

@@ -1,50 +1,38 @@
 -- The tokens of each tree are taken, one after another, and lead to that tree.
 use Rattle.std.proofs.Common.{◌≡◌, ℕ, List, [], ◌∷◌, ◌++◌, Some, refl, sym, ◌∙◌, ap, append_assoc, append-nil}
 use Rattle.sect_front.specs.Syntax.{StatementView, BlockView, Primitive, If, IfElse, While, Atomic, Call, End, Then}
-use Rattle.sect_front.specs.TreeView.{TreeView}
-use Rattle.sect_front.specs.Trees.{append}
-use Rattle.sect_front.specs.Grammar.{operand_token, comparison_token, kind_token}
+use Rattle.sect_front.specs.{TreeView.{TreeView}, Trees.{append}, Grammar.{operand_token, comparison_token, kind_token}}
 use Rattle.sect_front.specs.Tokens.{primitive_tokens, test_tokens, more_operands, call_tokens, statement_tokens}
-use Rattle.sect_front.specs.Tokens.{block_tokens, declarations_tokens, hints_tokens, record_tokens}
-use Rattle.sect_front.specs.Tokens.{more_parameters, parameters_tokens, procedure_tokens, thread_tokens}
-use Rattle.sect_front.specs.Tokens.{records_tokens, globals_tokens, procedures_tokens, threads_tokens}
-use Rattle.sect_front.specs.Tokens.{source_tokens}
-use Rattle.sect_front.specs.steps.Advance.{operand_of, comparison_of}
-use Rattle.sect_front.specs.steps.ReaderView.{ReaderView, reading, among}
+use Rattle.sect_front.specs.Tokens.{block_tokens, declarations_tokens, hints_tokens, record_tokens, more_parameters}
+use Rattle.sect_front.specs.Tokens.{parameters_tokens, procedure_tokens, thread_tokens, records_tokens, globals_tokens}
+use Rattle.sect_front.specs.{Tokens.{procedures_tokens, threads_tokens, source_tokens}, declared.token.Token.{Token}}
+use Rattle.sect_front.specs.{declared.tree.Operand.{Operand}, declared.tree.Test.{Test}}
+use Rattle.sect_front.specs.{declared.tree.Comparison.{Comparison}, declared.tree.Operator.{Operator}}
+use Rattle.sect_front.specs.{declared.tree.Kind.{Kind}, declared.tree.Declaration.{Declaration}}
+use Rattle.sect_front.specs.{declared.tree.Record.{Record}, declared.tree.GlobalObject.{GlobalObject}}
+use Rattle.sect_front.specs.{declared.tree.Procedure.{Procedure}, declared.tree.Thread.{Thread}}
+use Rattle.sect_front.specs.{declared.within.OpenBlock.{OpenBlock}, declared.within.Partial.{Partial}}
+use Rattle.sect_front.specs.{declared.reader.Part.{Part}, declared.reader.Owner.{Owner}}
+use Rattle.sect_front.specs.steps.{Advance.{operand_of, comparison_of}, ReaderView.{ReaderView, reading, among}}
 use Rattle.sect_front.specs.steps.Read.{after}
-use Rattle.sect_front.specs.declared.token.Token.{Token}
+use Rattle.sect_front.proofs.Finish.{start}
 use Rattle.sect_front.specs.declared.tree.Locking.TheVariants as locking
 use Rattle.sect_front.specs.declared.token.Token.TheVariants as token
-use Rattle.sect_front.specs.declared.tree.Operand.{Operand}
 use Rattle.sect_front.specs.declared.tree.Operand.TheVariants as operand
 use Rattle.sect_front.specs.declared.tree.Primitive as leaf
 use Rattle.sect_front.specs.declared.tree.Primitive.TheVariants as primitive
-use Rattle.sect_front.specs.declared.tree.Test.{Test}
-use Rattle.sect_front.specs.declared.tree.Comparison.{Comparison}
-use Rattle.sect_front.specs.declared.tree.Operator.{Operator}
 use Rattle.sect_front.specs.declared.tree.Operator.TheVariants as operator
-use Rattle.sect_front.specs.declared.tree.Kind.{Kind}
 use Rattle.sect_front.specs.declared.tree.Kind.TheVariants as kind
-use Rattle.sect_front.specs.declared.tree.Declaration.{Declaration}
-use Rattle.sect_front.specs.declared.tree.Record.{Record}
-use Rattle.sect_front.specs.declared.tree.GlobalObject.{GlobalObject}
-use Rattle.sect_front.specs.declared.tree.Procedure.{Procedure}
-use Rattle.sect_front.specs.declared.tree.Thread.{Thread}
 use Rattle.sect_front.specs.declared.partial.PartialCall.TheVariants as call
-use Rattle.sect_front.specs.declared.within.OpenBlock.{OpenBlock}
 use Rattle.sect_front.specs.declared.within.OpenBlock.TheVariants as open_block
-use Rattle.sect_front.specs.declared.within.Partial.{Partial}
 use Rattle.sect_front.specs.declared.within.Partial.TheVariants as place
-use Rattle.sect_front.specs.declared.reader.Part.{Part}
 use Rattle.sect_front.specs.declared.reader.Part.TheVariants as part
 use Rattle.sect_front.specs.declared.reader.RecordStage.TheVariants as in_record
 use Rattle.sect_front.specs.declared.reader.ProcedureStage.TheVariants as in_procedure
 use Rattle.sect_front.specs.declared.reader.ThreadStage.TheVariants as in_thread
-use Rattle.sect_front.specs.declared.reader.Owner.{Owner}
 use Rattle.sect_front.specs.declared.reader.Owner.TheVariants as owner
 use Rattle.sect_front.specs.declared.reader.BodyStage.TheVariants as in_body
 use Rattle.sect_front.specs.declared.reader.Outside.TheVariants as outside
-use Rattle.sect_front.proofs.Finish.{start}
 
 operand_back : (v : Operand) → operand_of (operand_token v) ≡ Some v
 operand_back (operand.Number n) = refl

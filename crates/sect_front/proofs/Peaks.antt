@@ -3,32 +3,26 @@ use Rattle.std.proofs.Common.{◌≡◌, ℕ, ◌+◌, ◌-◌, ◌≤◌, List,
 use Rattle.std.proofs.lemmas.List.{take-append-drop}
 use Rattle.sect_front.specs.Limits.{most_depth}
 use Rattle.sect_front.specs.Syntax.{StatementView, BlockView, Primitive, If, IfElse, While, Atomic, Call, End, Then}
-use Rattle.sect_front.specs.TreeView.{TreeView}
-use Rattle.sect_front.specs.Grammar.{operand_token, operator_token, kind_token, tokens_of}
-use Rattle.sect_front.specs.Tokens.{primitive_tokens, test_tokens, more_operands, operands_tokens}
-use Rattle.sect_front.specs.Tokens.{statement_tokens, block_tokens, declarations_tokens, hints_tokens}
-use Rattle.sect_front.specs.Tokens.{record_tokens, more_parameters, parameters_tokens, records_tokens}
-use Rattle.sect_front.specs.Tokens.{globals_tokens, procedures_tokens, threads_tokens}
+use Rattle.sect_front.specs.{TreeView.{TreeView}, Grammar.{operand_token, operator_token, kind_token, tokens_of}}
+use Rattle.sect_front.specs.Tokens.{primitive_tokens, test_tokens, more_operands, operands_tokens, statement_tokens}
+use Rattle.sect_front.specs.Tokens.{block_tokens, declarations_tokens, hints_tokens, record_tokens, more_parameters}
+use Rattle.sect_front.specs.Tokens.{parameters_tokens, records_tokens, globals_tokens, procedures_tokens}
+use Rattle.sect_front.specs.Tokens.{threads_tokens}
 use Rattle.sect_front.specs.Depth.{statement_depth, block_depth, procedures_depth, threads_depth, depth}
-use Rattle.sect_front.specs.Braces.{brace, open_after, IsShallow}
-use Rattle.sect_front.specs.declared.token.Token.{Token}
+use Rattle.sect_front.specs.{Braces.{brace, open_after, IsShallow}, declared.token.Token.{Token}}
+use Rattle.sect_front.specs.{declared.tree.Operand.{Operand}, declared.tree.Operator.{Operator}}
+use Rattle.sect_front.specs.{declared.tree.Test.{Test}, declared.tree.Declaration.{Declaration}}
+use Rattle.sect_front.specs.{declared.tree.Record.{Record}, declared.tree.GlobalObject.{GlobalObject}}
+use Rattle.sect_front.specs.{declared.tree.Procedure.{Procedure}, declared.tree.Thread.{Thread}}
+use Rattle.sect_front.specs.declared.tree.Kind.{Kind}
+use Rattle.sect_front.proofs.shared.Listed.{tokens_same}
 use Rattle.sect_front.specs.declared.tree.Locking.TheVariants as locking
 use Rattle.sect_front.specs.declared.token.Token.TheVariants as token
-use Rattle.sect_front.specs.declared.tree.Operand.{Operand}
 use Rattle.sect_front.specs.declared.tree.Operand.TheVariants as operand
-use Rattle.sect_front.specs.declared.tree.Operator.{Operator}
 use Rattle.sect_front.specs.declared.tree.Operator.TheVariants as operator
 use Rattle.sect_front.specs.declared.tree.Primitive as leaf
 use Rattle.sect_front.specs.declared.tree.Primitive.TheVariants as primitive
-use Rattle.sect_front.specs.declared.tree.Test.{Test}
-use Rattle.sect_front.specs.declared.tree.Declaration.{Declaration}
-use Rattle.sect_front.specs.declared.tree.Record.{Record}
-use Rattle.sect_front.specs.declared.tree.GlobalObject.{GlobalObject}
-use Rattle.sect_front.specs.declared.tree.Procedure.{Procedure}
-use Rattle.sect_front.specs.declared.tree.Thread.{Thread}
-use Rattle.sect_front.specs.declared.tree.Kind.{Kind}
 use Rattle.sect_front.specs.declared.tree.Kind.TheVariants as kind
-use Rattle.sect_front.proofs.shared.Listed.{tokens_same}
 
 -- the most braces that are open with a token and after it
 abbrev pub peak_with : Token → ℕ → (ℕ → ℕ) → ℕ

@@ -1,33 +1,20 @@
 -- What is printed spells the tokens of the tree.
 use Rattle.std.proofs.Common.{◌≡◌, ℕ, ◌-◌, ◌<◌, ◌≤◌, Bool, true, false, eqb, nat_lt, List, [], ◌∷◌, ◌++◌, length, drop}
 use Rattle.std.proofs.Common.{refl, sym, ◌∙◌, ap, subst, arith, append_assoc, length-append}
-use Rattle.std.specs.List.{list_all, flat_map}
-use Rattle.std.specs.Fmt.{decimal}
-use Rattle.std.proofs.Math.Seq.{take-append_seam}
-use Rattle.std.proofs.lemmas.Bool.Decides.{nat_tests}
-use Rattle.sect_front.specs.Limits.{most_bytes, most_depth}
-use Rattle.sect_front.specs.Words.{is_letter, is_digit, begins}
-use Rattle.sect_front.specs.Gaps.{is_blank, after_gap}
-use Rattle.sect_front.specs.TreeView.{TreeView}
-use Rattle.sect_front.specs.Depth.{depth}
+use Rattle.std.proofs.{Math.Seq.{take-append_seam}, lemmas.Bool.Decides.{nat_tests}, lemmas.Bool.{and_parts}}
+use Rattle.std.specs.{List.{list_all, flat_map}, Fmt.{decimal}}
+use Rattle.sect_front.specs.{Limits.{most_bytes, most_depth}, Words.{is_letter, is_digit, begins}}
+use Rattle.sect_front.specs.{Gaps.{is_blank, after_gap}, TreeView.{TreeView}, Depth.{depth}}
 use Rattle.sect_front.specs.Grammar.{in_braces, in_parens, separated, parameter_list, declaration_list, hint_list}
 use Rattle.sect_front.specs.Grammar.{record_list, global_list, procedure_list, thread_list, statements_list, tokens_of}
-use Rattle.sect_front.specs.Spelling.{spelling_of, is_proper}
-use Rattle.sect_front.specs.Lexing.{stands, IsFirst, Reaches}
-use Rattle.sect_front.specs.Faults.{tokens_in}
-use Rattle.sect_front.specs.Front.{IsSpelled}
-use Rattle.sect_front.specs.Layout.{separator, layout_of, IsTextOf}
+use Rattle.sect_front.specs.{Spelling.{spelling_of, is_proper}, Lexing.{stands, IsFirst, Reaches}, Faults.{tokens_in}}
+use Rattle.sect_front.specs.{Front.{IsSpelled}, Layout.{separator, layout_of, IsTextOf}, declared.token.Token.{Token}}
+use Rattle.sect_front.specs.{TokenAt.{TokenAt}, declared.tree.Record.{Record}, declared.tree.Procedure.{Procedure}}
+use Rattle.sect_front.specs.declared.tree.Thread.{Thread}
 use Rattle.sect_front.specs.steps.Spread.{spread}
-use Rattle.sect_front.specs.declared.token.Token.{Token}
+use Rattle.sect_front.proofs.{NamesLemmas.{named}, Numbers.{decimal_digits, decimal_some}}
 use Rattle.sect_front.specs.declared.tree.Comparison.TheVariants as comparison
 use Rattle.sect_front.specs.declared.token.Token.TheVariants as token
-use Rattle.sect_front.specs.TokenAt.{TokenAt}
-use Rattle.sect_front.specs.declared.tree.Record.{Record}
-use Rattle.sect_front.specs.declared.tree.Procedure.{Procedure}
-use Rattle.sect_front.specs.declared.tree.Thread.{Thread}
-use Rattle.sect_front.proofs.NamesLemmas.{named}
-use Rattle.sect_front.proofs.Numbers.{decimal_digits, decimal_some}
-use Rattle.std.proofs.lemmas.Bool.{and_parts}
 
 -- a spelling begins with a byte that is no blank and no slash
 record IsSolid (bytes : List ℕ) : Type 0 where

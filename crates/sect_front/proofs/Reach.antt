@@ -1,15 +1,11 @@
 -- How the tokens of a text follow one another.
-use Rattle.std.proofs.Common.{◌≡◌, ◌≢◌, ℕ, ◌+◌, List, [], ◌∷◌, ◌++◌, Some, None, length, drop}
-use Rattle.std.proofs.Common.{refl, sym, ◌∙◌, ap, subst, arith, length-drop}
-use Rattle.sect_front.specs.Gaps.{after_gap}
-use Rattle.sect_front.specs.steps.Lexeme.{lexeme_of}
-use Rattle.sect_front.specs.Lexing.{IsFirst, IsBad, Reaches, Spells, IsBadAt}
-use Rattle.sect_front.specs.steps.Verdicts.{Reached}
-use Rattle.sect_front.specs.TokenAt.{TokenAt}
-use Rattle.sect_front.proofs.Lexemes.{lexeme_first, lexeme_bad}
-use Rattle.sect_front.proofs.shared.Lexings.{gap_fits}
-use Rattle.sect_front.proofs.shared.Rests.{rest_all, rest_more, rest_gap}
+use Rattle.std.proofs.Common.{◌≡◌, ◌≢◌, ℕ, ◌+◌, List, [], ◌∷◌, ◌++◌, Some, None, length, drop, refl, sym, ◌∙◌, ap}
+use Rattle.std.proofs.Common.{subst, arith, length-drop}
+use Rattle.sect_front.specs.{Gaps.{after_gap}, Lexing.{IsFirst, IsBad, Reaches, Spells, IsBadAt}, TokenAt.{TokenAt}}
 use Rattle.sect_front.specs.LongGaps.{IsRestOf}
+use Rattle.sect_front.specs.steps.{Lexeme.{lexeme_of}, Verdicts.{Reached}}
+use Rattle.sect_front.proofs.Lexemes.{lexeme_first, lexeme_bad}
+use Rattle.sect_front.proofs.shared.{Lexings.{gap_fits}, Rests.{rest_all, rest_more, rest_gap}}
 
 pub reached_none : (bytes : List ℕ) → Reached bytes [] (after_gap bytes)
 reached_none bytes = record { rest = bytes; reaches = refl; gap = refl; fits = gap_fits bytes }

@@ -2,19 +2,12 @@
 use Rattle.std.proofs.Common.{◌≡◌, ◌∙◌, ◌<◌, ◌+◌, ◌∷◌, [], ℕ, zero, suc, List, length, take, get_or, refl, sym, ap}
 use Rattle.std.proofs.Common.{arith, rules}
 use native.Mathlib.Numerals.{unary_clauses}
-use Rattle.std.proofs.Math.Seq.{take-suc}
-use Rattle.std.specs.Bool.{Decides}
-use Rattle.std.specs.Cmp.{unsigned_Decides}
-use Rattle.std.proofs.lemmas.Slice.Eq.{slice_eq-Decides}
-use Rattle.std.specs.Cmp.Lexicographic.{pointwise}
-use Rattle.std.specs.Prelude.{nat_eq}
-use Rattle.sect_front.specs.Syntax.{StatementView, BlockView, End, Then}
-use Rattle.sect_front.specs.Trees.{statement_of, block_of, append}
+use Rattle.std.proofs.{Math.Seq.{take-suc}, lemmas.Slice.Eq.{slice_eq-Decides}}
+use Rattle.std.specs.{Bool.{Decides}, Cmp.{unsigned_Decides}, Cmp.Lexicographic.{pointwise}, Prelude.{nat_eq}}
+use Rattle.sect_front.specs.{Syntax.{StatementView, BlockView, End, Then}, Trees.{statement_of, block_of, append}}
+use Rattle.sect_front.specs.{declared.tree.Statement.{Statement}, declared.tree.Operand.{Operand}}
+use Rattle.sect_front.specs.{declared.tree.Declaration.{Declaration}, declared.tree.GlobalObject.{GlobalObject}}
 use Rattle.sect_front.proofs.Bodies.{body_of_push}
-use Rattle.sect_front.specs.declared.tree.Statement.{Statement}
-use Rattle.sect_front.specs.declared.tree.Operand.{Operand}
-use Rattle.sect_front.specs.declared.tree.Declaration.{Declaration}
-use Rattle.sect_front.specs.declared.tree.GlobalObject.{GlobalObject}
 use Rattle.sect_front.specs.contracts.tree.OperandPartialEq.TheImpl as operand
 use Rattle.sect_front.specs.contracts.tree.DeclarationPartialEq.TheImpl as declaration
 use Rattle.sect_front.specs.contracts.tree.GlobalObjectPartialEq.TheImpl as global

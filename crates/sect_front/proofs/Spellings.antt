@@ -1,26 +1,19 @@
 -- The tokens that are recognised are those that the bytes spell.
 use Rattle.std.proofs.Common.{◌≡◌, ℕ, ◌<◌, Bool, true, false, ◌&&◌, cond, eqb, nat_lt, List, [], ◌∷◌, Option, Some}
-use Rattle.std.proofs.Common.{None, length, refl, sym, ◌∙◌, ap, subst, arith, not}
-use Rattle.std.specs.Prelude.{is_some, is_none}
-use Rattle.std.specs.List.{list_all}
-use Rattle.std.specs.Str.{bytes_eq}
-use Rattle.std.specs.Fmt.{decimal}
-use Rattle.std.specs.Cmp.Lexicographic.{same_text}
-use Rattle.std.proofs.lemmas.Bool.{eqb-true, and_parts}
+use Rattle.std.proofs.{Common.{None, length, refl, sym, ◌∙◌, ap, subst, arith, not}, lemmas.Bool.{eqb-true, and_parts}}
 use Rattle.std.proofs.lemmas.Bool.Decides.{nat_tests}
-use Rattle.sect_front.specs.Words.{is_letter, is_digit, is_name_byte, is_name, begins}
-use Rattle.sect_front.specs.NameTokens.{is_name_token}
-use Rattle.sect_front.specs.Spelling.{spelling_of, is_proper, IsSpelling}
+use Rattle.std.specs.{Prelude.{is_some, is_none}, List.{list_all}, Str.{bytes_eq}, Fmt.{decimal}}
+use Rattle.std.specs.Cmp.Lexicographic.{same_text}
+use Rattle.sect_front.specs.{Words.{is_letter, is_digit, is_name_byte, is_name, begins}, NameTokens.{is_name_token}}
+use Rattle.sect_front.specs.{Spelling.{spelling_of, is_proper, IsSpelling}, declared.token.Token.{Token}}
+use Rattle.sect_front.specs.Limits.{most_name_bytes}
 use Rattle.sect_front.specs.steps.Recognition.{keyword_of, keyword_table, token_beside, or_name, word_token, number_of}
 use Rattle.sect_front.specs.steps.Recognition.{as_number, single_sign, double_sign, sign_token, spelled}
-use Rattle.sect_front.specs.declared.token.Token.{Token}
-use Rattle.sect_front.specs.declared.tree.Comparison.TheVariants as comparison
-use Rattle.sect_front.specs.declared.token.Token.TheVariants as token
-use Rattle.sect_front.proofs.Choices.{chosen, if_some_so}
-use Rattle.sect_front.proofs.NamesLemmas.{named, is_named, keyword_known, keyword_free}
+use Rattle.sect_front.proofs.{Choices.{chosen, if_some_so}, NamesLemmas.{named, is_named, keyword_known, keyword_free}}
 use Rattle.sect_front.proofs.Numbers.{number_decimal, number_back, decimal_digits, decimal_some}
 use Rattle.sect_lemmas.proofs.Options.{some_injective, none_or_some}
-use Rattle.sect_front.specs.Limits.{most_name_bytes}
+use Rattle.sect_front.specs.declared.tree.Comparison.TheVariants as comparison
+use Rattle.sect_front.specs.declared.token.Token.TheVariants as token
 
 -- what is known of a number that is below another, and the other way round
 below : (a b : ℕ) → a < b → nat_lt a b ≡ true

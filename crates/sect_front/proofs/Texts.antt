@@ -1,28 +1,17 @@
 -- How far a text has been read, and what its end or a fault says of it.
-use Rattle.std.proofs.Common.{◌≡◌, ℕ, suc, ◌+◌, ◌-◌, ◌<◌, ◌≤◌, List, [], ◌∷◌, ◌++◌, Option, Some, None}
-use Rattle.std.proofs.Common.{length, take, drop, refl, sym, ◌∙◌, ap, subst, arith, append_assoc, append-nil}
-use Rattle.std.proofs.Common.{length-drop}
+use Rattle.std.proofs.Common.{◌≡◌, ℕ, suc, ◌+◌, ◌-◌, ◌<◌, ◌≤◌, List, [], ◌∷◌, ◌++◌, Option, Some, None, length, take}
+use Rattle.std.proofs.Common.{drop, refl, sym, ◌∙◌, ap, subst, arith, append_assoc, append-nil, length-drop}
 use Rattle.std.proofs.lemmas.List.{length-take-le}
-use Rattle.std.specs.List.{slice_get}
-use Rattle.std.specs.Option.{ok_or}
-use Rattle.sect_front.specs.TreeView.{TreeView}
-use Rattle.sect_front.specs.TokenAt.{TokenAt}
-use Rattle.sect_front.specs.Braces.{brace}
-use Rattle.sect_front.specs.Gaps.{after_gap}
-use Rattle.sect_front.specs.steps.Lexeme.{lexeme_of}
-use Rattle.sect_front.specs.Lexing.{Spells}
-use Rattle.sect_front.specs.Spelling.{spelling_of}
-use Rattle.sect_front.specs.FaultPlaces.{span_from, token_span}
-use Rattle.sect_front.specs.Faults.{tokens_in, IsUnexpectedAt, IsTooDeepAt}
-use Rattle.sect_front.specs.steps.ReaderView.{ReaderView}
-use Rattle.sect_front.specs.steps.Read.{read_one, finish_of}
+use Rattle.std.specs.{List.{slice_get}, Option.{ok_or}}
+use Rattle.sect_front.specs.{TreeView.{TreeView}, TokenAt.{TokenAt}, Braces.{brace}, Gaps.{after_gap}, Lexing.{Spells}}
+use Rattle.sect_front.specs.{Spelling.{spelling_of}, FaultPlaces.{span_from, token_span}}
+use Rattle.sect_front.specs.{Faults.{tokens_in, IsUnexpectedAt, IsTooDeepAt}, declared.token.Token.{Token}}
+use Rattle.sect_front.specs.steps.{Lexeme.{lexeme_of}, ReaderView.{ReaderView}, Read.{read_one, finish_of}}
 use Rattle.sect_front.specs.steps.Verdicts.{Reached, SpellingAt, JudgesText}
-use Rattle.sect_front.specs.declared.token.Token.{Token}
-use Rattle.sect_front.specs.declared.reading.ReadFault.TheVariants as fault
-use Rattle.sect_front.proofs.Reach.{reached_more}
-use Rattle.sect_front.proofs.shared.Lexings.{gap_fits}
-use Rattle.sect_front.proofs.Lexemes.{lexeme_first}
+use Rattle.sect_front.proofs.{Reach.{reached_more}, Lexemes.{lexeme_first}}
 use Rattle.sect_front.proofs.Verdict.{ReadsTo, reads_more, unexpected, too_deep, finished, unfinished}
+use Rattle.sect_front.proofs.shared.Lexings.{gap_fits}
+use Rattle.sect_front.specs.declared.reading.ReadFault.TheVariants as fault
 
 -- so far the text has been read
 pub record ReadHere (bytes here : List ℕ) (r : ReaderView) (k : ℕ) : Type 0 where

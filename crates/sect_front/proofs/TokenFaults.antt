@@ -1,7 +1,6 @@
 -- Why tokens are those of no tree.
 use Rattle.std.specs.Prelude.{ℕ, List, Result, Ok, Err}
-use Rattle.sect_front.specs.TreeView.{TreeView}
-use Rattle.sect_front.specs.Faults.{IsTree, IsUnexpectedAt, IsTooDeepAt, IsUnfinished}
+use Rattle.sect_front.specs.{TreeView.{TreeView}, Faults.{IsTree, IsUnexpectedAt, IsTooDeepAt, IsUnfinished}}
 use Rattle.sect_front.specs.declared.token.Token.{Token}
 
 -- two have the number of a token

@@ -1,29 +1,22 @@
 -- What the end of a reading says of its tokens.
 use Rattle.std.proofs.Common.{◌≡◌, ℕ, ◌+◌, ◌<◌, ◌≤◌, List, [], ◌∷◌, ◌++◌, Option, Some, None, Result, Ok, Err}
 use Rattle.std.proofs.Common.{option_and_then, length, take, drop, refl, sym, ◌∙◌, ap, subst, arith, append_assoc}
-use Rattle.std.proofs.Common.{append-nil}
-use Rattle.std.proofs.lemmas.List.{take-append-drop}
-use Rattle.sect_front.specs.Limits.{most_depth}
-use Rattle.sect_front.specs.TreeView.{TreeView}
-use Rattle.sect_front.specs.Grammar.{tokens_of}
-use Rattle.sect_front.specs.Tokens.{source_tokens}
+use Rattle.std.proofs.{Common.{append-nil}, lemmas.List.{take-append-drop}}
+use Rattle.sect_front.specs.{Limits.{most_depth}, TreeView.{TreeView}, Grammar.{tokens_of}, Tokens.{source_tokens}}
 use Rattle.sect_front.specs.Braces.{brace, open_after}
+use Rattle.sect_front.specs.Faults.{IsViable, IsTree, IsUnexpectedAt, IsTooDeepAt, IsUnfinished}
+use Rattle.sect_front.specs.{declared.token.Token.{Token}, declared.reader.Stage.{Stage}}
 use Rattle.sect_front.specs.steps.ReaderView.{ReaderView, reading, empty}
 use Rattle.sect_front.specs.steps.Read.{read_one, after, finish_of, finish_at}
-use Rattle.sect_front.specs.Faults.{IsViable, IsTree, IsUnexpectedAt, IsTooDeepAt, IsUnfinished}
-use Rattle.sect_front.specs.declared.token.Token.{Token}
+use Rattle.sect_front.proofs.{TokenFaults.{TokenFault, JudgesTokens}, Keeps.{reading_tokens}}
+use Rattle.sect_front.proofs.{Finish.{start, finishes, kept_from}, Passes.{source_passes, last_part}}
+use Rattle.sect_front.proofs.Peaks.{peak, peak_from, peak_append, peak_cons, depth_peak, shallow_from}
+use Rattle.sect_front.proofs.shared.Listed.{tokens_same}
+use Rattle.sect_lemmas.proofs.Options.{some_injective, none_or_some}
 use Rattle.sect_front.specs.declared.token.Token.TheVariants as token
 use Rattle.sect_front.specs.declared.reader.Outside.TheVariants as outside
-use Rattle.sect_front.specs.declared.reader.Stage.{Stage}
 use Rattle.sect_front.specs.declared.reader.Stage.TheVariants as stage
-use Rattle.sect_front.proofs.TokenFaults.{TokenFault, JudgesTokens}
 use Rattle.sect_front.proofs.TokenFaults as fault
-use Rattle.sect_front.proofs.Keeps.{reading_tokens}
-use Rattle.sect_front.proofs.Finish.{start, finishes, kept_from}
-use Rattle.sect_front.proofs.Passes.{source_passes, last_part}
-use Rattle.sect_front.proofs.shared.Listed.{tokens_same}
-use Rattle.sect_front.proofs.Peaks.{peak, peak_from, peak_append, peak_cons, depth_peak, shallow_from}
-use Rattle.sect_lemmas.proofs.Options.{some_injective, none_or_some}
 
 -- the tokens of a tree lead to it
 tree_passes : (tree : TreeView) → after start (tokens_of tree) ≡ Some (reading tree (outside.Between (last_part tree)))

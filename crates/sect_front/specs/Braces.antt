@@ -1,7 +1,6 @@
 -- How many braces are open in a list of tokens.
 use Rattle.std.specs.Prelude.{ℕ, ◌+◌, ◌-◌, ◌≤◌, List, [], ◌∷◌, take, length}
-use Rattle.sect_front.specs.Limits.{most_depth}
-use Rattle.sect_front.specs.declared.token.Token.{Token}
+use Rattle.sect_front.specs.{Limits.{most_depth}, declared.token.Token.{Token}}
 use Rattle.sect_front.specs.declared.token.Token.TheVariants as token
 
 -- the braces that are open after a token

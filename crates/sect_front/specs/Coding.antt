@@ -1,15 +1,12 @@
 -- Statements as trees of numbers, by which a proof tells them apart: the checker wants it of a type that contracts see
 -- as such data.
-use Rattle.std.specs.Prelude.{◌≡◌, ℕ, List, refl}
+use Rattle.std.specs.{Prelude.{◌≡◌, ℕ, List, refl}, Coded.{Coded, coded_ℕ, coded_list}}
 use Rattle.std.proofs.Common.{ap, arith}
-use Rattle.std.specs.Coded.{Coded, coded_ℕ, coded_list}
 use base.Stored.{Gv, gnil, gnum, gcons}
 use Rattle.sect_front.specs.Syntax.{StatementView, BlockView, Primitive, If, IfElse, While, Atomic, Call, End, Then}
-use Rattle.sect_front.specs.declared.tree.Operand.{Operand}
-use Rattle.sect_front.specs.contracts.tree.Operand.{the_row as operand_row}
+use Rattle.sect_front.specs.{declared.tree.Operand.{Operand}, contracts.tree.Operand.{the_row as operand_row}}
 use Rattle.sect_front.specs.contracts.tree.Primitive.{the_row as primitive_row}
-use Rattle.sect_front.specs.contracts.tree.Test.{the_row as test_row}
-use Rattle.sect_front.specs.contracts.tree.Locking.{the_row as locking_row}
+use Rattle.sect_front.specs.{contracts.tree.Test.{the_row as test_row}, contracts.tree.Locking.{the_row as locking_row}}
 
 -- the same of a name and of operands
 name_code : Coded (List ℕ)

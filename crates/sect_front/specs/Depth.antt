@@ -1,9 +1,7 @@
 -- How deep blocks stand in one another.
 use Rattle.std.specs.Prelude.{ℕ, ◌+◌, List, [], ◌∷◌, max}
 use Rattle.sect_front.specs.Syntax.{StatementView, BlockView, Primitive, If, IfElse, While, Atomic, Call, End, Then}
-use Rattle.sect_front.specs.TreeView.{TreeView}
-use Rattle.sect_front.specs.declared.tree.Procedure.{Procedure}
-use Rattle.sect_front.specs.declared.tree.Thread.{Thread}
+use Rattle.sect_front.specs.{TreeView.{TreeView}, declared.tree.Procedure.{Procedure}, declared.tree.Thread.{Thread}}
 
 abbrev mutual
   -- the most blocks of a statement that stand in one another

@@ -1,12 +1,9 @@
 -- Which kinds of tokens may follow others.
 use Rattle.std.specs.Prelude.{◌≡◌, ◌↔◌, ℕ, Bool, true, List, [], ◌∷◌, ◌++◌, filter, nat_lt, take_while}
-use Rattle.sect_front.specs.TokenAt.{TokenAt}
-use Rattle.sect_front.specs.Lexing.{Spells}
-use Rattle.sect_front.specs.Faults.{tokens_in, IsViable}
-use Rattle.sect_front.specs.declared.token.Token.{Token}
+use Rattle.sect_front.specs.{TokenAt.{TokenAt}, Lexing.{Spells}, Faults.{tokens_in, IsViable}}
+use Rattle.sect_front.specs.{declared.token.Token.{Token}, declared.token_kind.TokenKind.{TokenKind}}
 use Rattle.sect_front.specs.declared.token.Token.TheVariants as token
 use Rattle.sect_front.specs.declared.tree.Comparison.TheVariants as comparison
-use Rattle.sect_front.specs.declared.token_kind.TokenKind.{TokenKind}
 use Rattle.sect_front.specs.declared.token_kind.TokenKind.TheVariants as kind
 
 -- all names are of one kind, and so are all integers

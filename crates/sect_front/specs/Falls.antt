@@ -3,9 +3,8 @@ use Rattle.std.specs.Prelude.{◌≤◌, List, [], ◌∷◌}
 use Rattle.std.proofs.Common.{arith}
 use denote.Param.Weighed.{most}
 use Rattle.sect_front.specs.Trees.{statement_of, statement_size, block_of, block_size}
-use Rattle.sect_front.specs.declared.tree.Statement.{Statement}
+use Rattle.sect_front.specs.{declared.tree.Statement.{Statement}, declared.tree.Block.TheDeep.{deep-Statement}}
 use Rattle.sect_front.specs.declared.tree.Statement.TheVariants as code
-use Rattle.sect_front.specs.declared.tree.Block.TheDeep.{deep-Statement}
 
 statement_falls : (s : Statement) → deep-Statement s ≤ statement_size (statement_of s)
 statement_falls (code.Primitive p) = omega arith

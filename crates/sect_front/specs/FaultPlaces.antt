@@ -1,18 +1,11 @@
 -- Where a fault stands.
-use Rattle.std.specs.Prelude.{◌≡◌, ◌≤◌, ℕ, ◌+◌, ◌-◌, List, [], ◌∷◌, ◌++◌, Some, ⊤, length, take, drop}
-use Rattle.std.specs.Prelude.{take_while, fold, slice_get}
-use Rattle.sect_front.specs.Words.{is_name_byte}
-use Rattle.sect_front.specs.Spelling.{spelling_of}
-use Rattle.sect_front.specs.Lexing.{Spells, IsBadAt}
-use Rattle.sect_front.specs.Faults.{tokens_in, IsUnexpectedAt, IsTooDeepAt}
-use Rattle.sect_front.specs.Front.{line_of}
-use Rattle.sect_front.specs.Expected.{AreExpectedAt}
-use Rattle.sect_front.specs.TokenAt.{TokenAt}
-use Rattle.sect_front.specs.declared.span.Span.{Span}
-use Rattle.sect_front.specs.declared.token.Token.{Token}
+use Rattle.std.specs.Prelude.{◌≡◌, ◌≤◌, ℕ, ◌+◌, ◌-◌, List, [], ◌∷◌, ◌++◌, Some, ⊤, length, take, drop, take_while, fold}
+use Rattle.std.specs.Prelude.{slice_get}
+use Rattle.sect_front.specs.{Words.{is_name_byte}, Spelling.{spelling_of}, Lexing.{Spells, IsBadAt}}
+use Rattle.sect_front.specs.{Faults.{tokens_in, IsUnexpectedAt, IsTooDeepAt}, Front.{line_of}, Expected.{AreExpectedAt}}
+use Rattle.sect_front.specs.{TokenAt.{TokenAt}, declared.span.Span.{Span}, declared.token.Token.{Token}}
+use Rattle.sect_front.specs.{declared.token_kind.TokenKind.{TokenKind}, declared.parsing.FrontFault.{FrontFault}}
 use Rattle.sect_front.specs.declared.token.Token.TheVariants as token
-use Rattle.sect_front.specs.declared.token_kind.TokenKind.{TokenKind}
-use Rattle.sect_front.specs.declared.parsing.FrontFault.{FrontFault}
 use Rattle.sect_front.specs.declared.parsing.FrontFault.TheVariants as fault
 
 -- so many bytes from a place on

@@ -1,12 +1,7 @@
 -- Where tokens stop to be those of a tree.
 use Rattle.std.specs.Prelude.{◌≡◌, ◌≢◌, ℕ, ◌+◌, ◌<◌, ◌≤◌, List, ◌++◌, take, length, map}
-use Rattle.sect_front.specs.Limits.{most_depth}
-use Rattle.sect_front.specs.Grammar.{tokens_of}
-use Rattle.sect_front.specs.TreeView.{TreeView}
-use Rattle.sect_front.specs.Depth.{depth}
-use Rattle.sect_front.specs.Braces.{open_after, IsShallow}
-use Rattle.sect_front.specs.declared.token.Token.{Token}
-use Rattle.sect_front.specs.TokenAt.{TokenAt}
+use Rattle.sect_front.specs.{Limits.{most_depth}, Grammar.{tokens_of}, TreeView.{TreeView}, Depth.{depth}}
+use Rattle.sect_front.specs.{Braces.{open_after, IsShallow}, declared.token.Token.{Token}, TokenAt.{TokenAt}}
 
 -- the tokens without their places
 abbrev pub tokens_in : List TokenAt → List Token

@@ -1,13 +1,9 @@
 -- What a source text is, and where it stops to be one.
 use Rattle.std.specs.Prelude.{◌≡◌, ℕ, ◌+◌, ◌-◌, ◌<◌, ◌≤◌, ◌==◌, Bool, true, false, List, Result, Ok, Err, ⊤, length}
 use Rattle.std.specs.Prelude.{take, drop, count_by, slice_get, Some}
-use Rattle.sect_front.specs.Limits.{most_bytes}
-use Rattle.sect_front.specs.Words.{is_letter, is_digit, begins}
-use Rattle.sect_front.specs.Gaps.{line_feed}
-use Rattle.sect_front.specs.Lexing.{Spells, IsBadAt}
-use Rattle.sect_front.specs.TreeView.{TreeView}
-use Rattle.sect_front.specs.Faults.{tokens_in, IsTree, IsUnexpectedAt, IsTooDeepAt, IsUnfinished}
-use Rattle.sect_front.specs.TokenAt.{TokenAt}
+use Rattle.sect_front.specs.{Limits.{most_bytes}, Words.{is_letter, is_digit, begins}, Gaps.{line_feed}}
+use Rattle.sect_front.specs.{Lexing.{Spells, IsBadAt}, TreeView.{TreeView}}
+use Rattle.sect_front.specs.{Faults.{tokens_in, IsTree, IsUnexpectedAt, IsTooDeepAt, IsUnfinished}, TokenAt.{TokenAt}}
 use Rattle.sect_front.specs.declared.parsing.FrontFault.{FrontFault}
 use Rattle.sect_front.specs.declared.parsing.FrontFault.TheVariants as fault
 

@@ -1,27 +1,19 @@
 -- The tokens of a tree, rule by rule as the grammar has them.
-use Rattle.std.specs.Prelude.{List, [], ◌∷◌, ◌++◌, ℕ}
-use Rattle.std.specs.List.{flat_map}
+use Rattle.std.specs.{Prelude.{List, [], ◌∷◌, ◌++◌, ℕ}, List.{flat_map}}
 use Rattle.sect_front.specs.Syntax.{StatementView, BlockView, Primitive, If, IfElse, While, Atomic, Call, End, Then}
-use Rattle.sect_front.specs.TreeView.{TreeView}
-use Rattle.sect_front.specs.declared.token.Token.{Token}
+use Rattle.sect_front.specs.{TreeView.{TreeView}, declared.token.Token.{Token}, declared.tree.Operand.{Operand}}
+use Rattle.sect_front.specs.{declared.tree.Comparison.{Comparison}, declared.tree.Operator.{Operator}}
+use Rattle.sect_front.specs.{declared.tree.Test.{Test}, declared.tree.Locking.{Locking}, declared.tree.Kind.{Kind}}
+use Rattle.sect_front.specs.{declared.tree.Declaration.{Declaration}, declared.tree.Record.{Record}}
+use Rattle.sect_front.specs.{declared.tree.GlobalObject.{GlobalObject}, declared.tree.Procedure.{Procedure}}
+use Rattle.sect_front.specs.declared.tree.Thread.{Thread}
 use Rattle.sect_front.specs.declared.token.Token.TheVariants as token
-use Rattle.sect_front.specs.declared.tree.Operand.{Operand}
 use Rattle.sect_front.specs.declared.tree.Operand.TheVariants as operand
 use Rattle.sect_front.specs.declared.tree.Primitive as leaf
 use Rattle.sect_front.specs.declared.tree.Primitive.TheVariants as primitive
-use Rattle.sect_front.specs.declared.tree.Comparison.{Comparison}
-use Rattle.sect_front.specs.declared.tree.Operator.{Operator}
 use Rattle.sect_front.specs.declared.tree.Operator.TheVariants as operator
-use Rattle.sect_front.specs.declared.tree.Test.{Test}
-use Rattle.sect_front.specs.declared.tree.Locking.{Locking}
 use Rattle.sect_front.specs.declared.tree.Locking.TheVariants as locking
-use Rattle.sect_front.specs.declared.tree.Kind.{Kind}
 use Rattle.sect_front.specs.declared.tree.Kind.TheVariants as kind
-use Rattle.sect_front.specs.declared.tree.Declaration.{Declaration}
-use Rattle.sect_front.specs.declared.tree.Record.{Record}
-use Rattle.sect_front.specs.declared.tree.GlobalObject.{GlobalObject}
-use Rattle.sect_front.specs.declared.tree.Procedure.{Procedure}
-use Rattle.sect_front.specs.declared.tree.Thread.{Thread}
 
 -- operand = integer | "null" | name
 abbrev pub operand_token : Operand → Token

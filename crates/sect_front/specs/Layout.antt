@@ -1,14 +1,8 @@
 -- How the tokens of a tree are printed.
 use Rattle.std.specs.Prelude.{◌≡◌, ℕ, List, [], ◌∷◌, ◌++◌}
-use Rattle.sect_front.specs.TreeView.{TreeView}
-use Rattle.sect_front.specs.Gaps.{line_feed}
-use Rattle.sect_front.specs.Grammar.{tokens_of}
-use Rattle.sect_front.specs.Spelling.{spelling_of}
-use Rattle.sect_front.specs.Lexing.{Spells}
-use Rattle.sect_front.specs.Faults.{tokens_in}
-use Rattle.sect_front.specs.declared.token.Token.{Token}
+use Rattle.sect_front.specs.{TreeView.{TreeView}, Gaps.{line_feed}, Grammar.{tokens_of}, Spelling.{spelling_of}}
+use Rattle.sect_front.specs.{Lexing.{Spells}, Faults.{tokens_in}, declared.token.Token.{Token}, TokenAt.{TokenAt}}
 use Rattle.sect_front.specs.declared.token.Token.TheVariants as token
-use Rattle.sect_front.specs.TokenAt.{TokenAt}
 
 -- what stands between a token and the next: a line feed after `;`, `{` and `}`, and else a blank
 abbrev pub separator : Token → ℕ

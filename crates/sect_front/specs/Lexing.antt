@@ -1,12 +1,9 @@
 -- The tokens that a text spells, and the first place at which none stands.
 use Rattle.std.specs.Prelude.{◌≡◌, ◌≢◌, ℕ, ◌+◌, ◌<◌, ◌≤◌, Bool, true, not, List, [], ◌∷◌, length, take, drop}
-use Rattle.sect_front.specs.Words.{is_name_byte, begins}
-use Rattle.sect_front.specs.Gaps.{equals_sign, begins_with, after_gap}
-use Rattle.sect_front.specs.Spelling.{IsSpelling}
+use Rattle.sect_front.specs.{Words.{is_name_byte, begins}, Gaps.{equals_sign, begins_with, after_gap}}
+use Rattle.sect_front.specs.{Spelling.{IsSpelling}, declared.token.Token.{Token}, TokenAt.{TokenAt}}
 use Rattle.sect_front.specs.declared.tree.Comparison.TheVariants as comparison
-use Rattle.sect_front.specs.declared.token.Token.{Token}
 use Rattle.sect_front.specs.declared.token.Token.TheVariants as token
-use Rattle.sect_front.specs.TokenAt.{TokenAt}
 
 -- whether a token may stand directly before these bytes: `=` and `<` not before `=`, and a name, a keyword or an
 -- integer not before a byte of names

@@ -1,7 +1,6 @@
 -- Gaps of a text that are passed at once.
 use Rattle.std.specs.Prelude.{◌≡◌, ◌≤◌, ℕ, List, All, length, drop}
-use Rattle.sect_front.specs.Gaps.{after_gap}
-use Rattle.sect_front.specs.declared.span.Span.{Span}
+use Rattle.sect_front.specs.{Gaps.{after_gap}, declared.span.Span.{Span}}
 
 -- these are the text's last bytes
 abbrev pub IsRestOf : List ℕ → List ℕ → Type 0

@@ -1,9 +1,8 @@
 -- A token of each kind, and how it is spelled.
 use Rattle.std.specs.Prelude.{ℕ, List, codes}
-use Rattle.sect_front.specs.Spelling.{fixed_of}
-use Rattle.sect_front.specs.declared.token.Token.{Token}
-use Rattle.sect_front.specs.declared.token.Token.TheVariants as token
+use Rattle.sect_front.specs.{Spelling.{fixed_of}, declared.token.Token.{Token}}
 use Rattle.sect_front.specs.declared.token_kind.TokenKind.{TokenKind}
+use Rattle.sect_front.specs.declared.token.Token.TheVariants as token
 use Rattle.sect_front.specs.declared.token_kind.TokenKind.TheVariants as kind
 
 abbrev pub sample_of : TokenKind → Token

@@ -1,10 +1,7 @@
 -- How each token is spelled.
-use Rattle.std.specs.Prelude.{◌≡◌, ℕ, Bool, true, nat_lt, List, [], codes}
-use Rattle.std.specs.Fmt.{decimal}
-use Rattle.sect_front.specs.Words.{is_name}
-use Rattle.sect_front.specs.declared.tree.Comparison.{Comparison}
+use Rattle.std.specs.{Prelude.{◌≡◌, ℕ, Bool, true, nat_lt, List, [], codes}, Fmt.{decimal}}
+use Rattle.sect_front.specs.{Words.{is_name}, declared.tree.Comparison.{Comparison}, declared.token.Token.{Token}}
 use Rattle.sect_front.specs.declared.tree.Comparison.TheVariants as comparison
-use Rattle.sect_front.specs.declared.token.Token.{Token}
 use Rattle.sect_front.specs.declared.token.Token.TheVariants as token
 
 abbrev pub comparison_spelling : Comparison → List ℕ

@@ -1,10 +1,9 @@
 -- Statements as plain data: what is written, and not where it lies in memory. `Tree`, `Block` and all that is said of
 -- them in contracts go by these.
 use Rattle.std.specs.Prelude.{ℕ, List}
-use Rattle.sect_front.specs.declared.tree.Primitive as leaf
-use Rattle.sect_front.specs.declared.tree.Operand.{Operand}
-use Rattle.sect_front.specs.declared.tree.Test.{Test}
+use Rattle.sect_front.specs.{declared.tree.Operand.{Operand}, declared.tree.Test.{Test}}
 use Rattle.sect_front.specs.declared.tree.Locking.{Locking}
+use Rattle.sect_front.specs.declared.tree.Primitive as leaf
 
 mutual
   -- a statement

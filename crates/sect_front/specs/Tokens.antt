@@ -1,21 +1,15 @@
 -- The tokens of a part of a tree, before those of what follows it.
 use Rattle.std.specs.Prelude.{List, [], ◌∷◌, ℕ}
 use Rattle.sect_front.specs.Syntax.{StatementView, BlockView, Primitive, If, IfElse, While, Atomic, Call, End, Then}
-use Rattle.sect_front.specs.TreeView.{TreeView}
-use Rattle.sect_front.specs.Grammar.{operand_token, operator_token, comparison_token, kind_token}
-use Rattle.sect_front.specs.declared.token.Token.{Token}
+use Rattle.sect_front.specs.{TreeView.{TreeView}, Grammar.{operand_token, operator_token, comparison_token, kind_token}}
+use Rattle.sect_front.specs.{declared.token.Token.{Token}, declared.tree.Operand.{Operand}, declared.tree.Test.{Test}}
+use Rattle.sect_front.specs.{declared.tree.Locking.{Locking}, declared.tree.Declaration.{Declaration}}
+use Rattle.sect_front.specs.{declared.tree.Record.{Record}, declared.tree.GlobalObject.{GlobalObject}}
+use Rattle.sect_front.specs.{declared.tree.Procedure.{Procedure}, declared.tree.Thread.{Thread}}
 use Rattle.sect_front.specs.declared.token.Token.TheVariants as token
-use Rattle.sect_front.specs.declared.tree.Operand.{Operand}
 use Rattle.sect_front.specs.declared.tree.Primitive as leaf
 use Rattle.sect_front.specs.declared.tree.Primitive.TheVariants as primitive
-use Rattle.sect_front.specs.declared.tree.Test.{Test}
-use Rattle.sect_front.specs.declared.tree.Locking.{Locking}
 use Rattle.sect_front.specs.declared.tree.Locking.TheVariants as locking
-use Rattle.sect_front.specs.declared.tree.Declaration.{Declaration}
-use Rattle.sect_front.specs.declared.tree.Record.{Record}
-use Rattle.sect_front.specs.declared.tree.GlobalObject.{GlobalObject}
-use Rattle.sect_front.specs.declared.tree.Procedure.{Procedure}
-use Rattle.sect_front.specs.declared.tree.Thread.{Thread}
 
 abbrev pub primitive_tokens : leaf.Primitive → List Token → List Token
 primitive_tokens (primitive.Assign x v) w = token.Name x ∷ token.Equal ∷ operand_token v ∷ token.Semicolon ∷ w

@@ -1,7 +1,6 @@
 -- Names and keywords, byte by byte.
 use Rattle.std.specs.Prelude.{ℕ, Bool, false, not, ◌||◌, ◌&&◌, ◌==◌, nat_le, List, [], ◌∷◌, length, codes}
-use Rattle.std.specs.List.{list_all, list_any}
-use Rattle.std.specs.Str.{bytes_eq}
+use Rattle.std.specs.{List.{list_all, list_any}, Str.{bytes_eq}}
 use Rattle.sect_front.specs.Limits.{most_name_bytes}
 
 -- a to z, A to Z or `_`

@@ -1,17 +1,13 @@
 //! Which tokens may follow those that have been read.
 
 ghost use Rattle.std.specs.Prelude.{◌≡◌, ℕ, List, IfOk, filter, is_some};
-ghost use Rattle.sect_front.specs.TreeView.{TreeView};
-ghost use Rattle.sect_front.specs.Syntax.{BlockView, StatementView};
-ghost use Rattle.sect_front.specs.declared.within.OpenBlock.{OpenBlock};
-ghost use Rattle.sect_front.specs.declared.within.Partial.{Partial};
-ghost use Rattle.sect_front.specs.declared.reader.Owner.{Owner};
-ghost use Rattle.sect_front.specs.declared.tree.Declaration.{Declaration};
+ghost use Rattle.sect_front.specs.{TreeView.{TreeView}, Syntax.{BlockView, StatementView}};
+ghost use Rattle.sect_front.specs.{declared.within.OpenBlock.{OpenBlock}, declared.within.Partial.{Partial}};
+ghost use Rattle.sect_front.specs.{declared.reader.Owner.{Owner}, declared.tree.Declaration.{Declaration}};
 ghost use Rattle.sect_front.specs.Expected.{all_kinds as all_kinds_by};
 ghost use Rattle.sect_front.specs.steps.Step.{start_step, after_then, call_step, step_of};
 ghost use Rattle.sect_front.specs.steps.Read.{begin_step, record_step, global_step, procedure_step, thread_step};
-ghost use Rattle.sect_front.specs.steps.Read.{body_step, read_outside, read_one};
-ghost use Rattle.sect_front.specs.steps.Taking.{is_taken, is_kind_taken};
+ghost use Rattle.sect_front.specs.steps.{Read.{body_step, read_outside, read_one}, Taking.{is_taken, is_kind_taken}};
 
 use crate::partial::{PartialCall, advance};
 use crate::reader::{

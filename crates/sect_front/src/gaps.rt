@@ -1,8 +1,7 @@
 //! Long gaps of a text, which are passed at once where the text is read again.
 
 ghost use Rattle.std.specs.Prelude.{◌≡◌, [], IfOk};
-ghost use Rattle.sect_front.specs.Gaps.{after_gap as gap_of};
-ghost use Rattle.sect_front.specs.LongGaps.{IsRestOf, AreGaps};
+ghost use Rattle.sect_front.specs.{Gaps.{after_gap as gap_of}, LongGaps.{IsRestOf, AreGaps}};
 
 use crate::lexer::{after_gap, is_tight};
 use crate::span::Span;

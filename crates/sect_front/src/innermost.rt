@@ -1,9 +1,7 @@
 //! The innermost brace that is open at the end of a text.
 
 ghost use Rattle.std.specs.Prelude.{◌≡◌, ◌<◌, ◌-◌, ℕ, List, IfOk, IfSome, OnOk, length, slice_get};
-ghost use Rattle.sect_front.specs.Lexing.{Spells};
-ghost use Rattle.sect_front.specs.TokenAt.{TokenAt};
-ghost use Rattle.sect_front.specs.FaultPlaces.{open_behind, open_braces};
+ghost use Rattle.sect_front.specs.{Lexing.{Spells}, TokenAt.{TokenAt}, FaultPlaces.{open_behind, open_braces}};
 ghost use Rattle.sect_front.specs.LongGaps.{AreGaps};
 ghost use Rattle.sect_front.specs.steps.Below.{AreBelow};
 

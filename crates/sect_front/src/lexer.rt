@@ -4,12 +4,10 @@ ghost use Rattle.std.specs.Prelude.{◌≡◌, ◌<◌, ◌≤◌, ◌^◌, ℕ,
 ghost use Rattle.std.specs.List.{list_all};
 ghost use Rattle.sect_front.specs.Words.{is_name_byte as name_byte, begins, is_letter as letter_of};
 ghost use Rattle.sect_front.specs.Gaps.{is_blank as blank_of, begins_with as begins_so, after_gap as gap_of, skip};
-ghost use Rattle.sect_front.specs.Lexing.{IsFirst};
-ghost use Rattle.sect_front.specs.declared.token.Token.{Token as AToken};
+ghost use Rattle.sect_front.specs.{Lexing.{IsFirst}, declared.token.Token.{Token as AToken}, Limits.{most_name_bytes}};
 ghost use Rattle.sect_front.specs.steps.Recognition.{word_token as word_of, number_of, decimal_from, spelled};
 ghost use Rattle.sect_front.specs.steps.Recognition.{single_sign, double_sign};
 ghost use Rattle.sect_front.specs.steps.Lexeme.{sign_at, with_length, lexeme_of, begins_name};
-ghost use Rattle.sect_front.specs.Limits.{most_name_bytes};
 
 use crate::limits::MOST_NAME_BYTES;
 use crate::literal::Literal;

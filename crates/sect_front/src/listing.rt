@@ -1,15 +1,12 @@
 //! The tokens of a tree.
 
 ghost use Rattle.std.specs.Prelude.{◌≡◌, ◌∷◌, ◌++◌, OnOk, IfOk};
-ghost use Rattle.sect_front.specs.Grammar.{tokens_of as grammar_tokens, operand_token, operator_token};
-ghost use Rattle.sect_front.specs.Grammar.{kind_token};
+ghost use Rattle.sect_front.specs.Grammar.{tokens_of as grammar_tokens, operand_token, operator_token, kind_token};
 ghost use Rattle.sect_front.specs.Tokens.{primitive_tokens, test_tokens, locking_tokens, statement_tokens};
 ghost use Rattle.sect_front.specs.Tokens.{block_tokens, declarations_tokens, hints_tokens, record_tokens};
-ghost use Rattle.sect_front.specs.Tokens.{global_tokens, thread_tokens, records_tokens, globals_tokens};
-ghost use Rattle.sect_front.specs.Tokens.{threads_tokens, operands_tokens, more_operands, call_tokens};
-ghost use Rattle.sect_front.specs.Tokens.{parameters_tokens, more_parameters, procedure_tokens};
-ghost use Rattle.sect_front.specs.Tokens.{procedures_tokens};
-ghost use Rattle.sect_front.specs.Trees.{statement_of};
+ghost use Rattle.sect_front.specs.Tokens.{global_tokens, thread_tokens, records_tokens, globals_tokens, threads_tokens};
+ghost use Rattle.sect_front.specs.Tokens.{operands_tokens, more_operands, call_tokens, parameters_tokens};
+ghost use Rattle.sect_front.specs.{Tokens.{more_parameters, procedure_tokens, procedures_tokens}, Trees.{statement_of}};
 ghost use Rattle.sect_front.specs.steps.Writes.{Writes};
 
 use crate::items::Items;

@@ -1,8 +1,7 @@
 //! Names.
 
 ghost use Rattle.std.specs.Prelude.{◌≡◌, ◌++◌, ◌∷◌, [], OnOk, OnErr, nat_eq, true, Some};
-ghost use Rattle.std.specs.Cmp.Lexicographic.{pointwise};
-ghost use Rattle.std.specs.Cmp.Rules.{comparing, hashing};
+ghost use Rattle.std.specs.{Cmp.Lexicographic.{pointwise}, Cmp.Rules.{comparing, hashing}};
 ghost use Rattle.std.proofs.Common.{rules};
 ghost use Rattle.sect_front.specs.Words.{is_name};
 

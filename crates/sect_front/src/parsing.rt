@@ -6,11 +6,8 @@
 
 ghost use Rattle.std.specs.Prelude.{◌≡◌, ◌≢◌, ◌≤◌, [], IfOk, IfErr, length};
 ghost use Rattle.sect_front.specs.Front.{IsSpelled, IsFault, Judges, Gives, Refuses, line_of as line};
-ghost use Rattle.sect_front.specs.FaultPlaces.{IsFaultSpan, IsWithin, AreKindsFor, word_span};
-ghost use Rattle.sect_front.specs.Lexing.{IsBadAt};
-ghost use Rattle.sect_front.specs.TreeView.{TreeView};
-ghost use Rattle.sect_front.specs.Limits.{most_bytes};
-ghost use Rattle.sect_front.specs.LongGaps.{AreGaps};
+ghost use Rattle.sect_front.specs.{FaultPlaces.{IsFaultSpan, IsWithin, AreKindsFor, word_span}, Lexing.{IsBadAt}};
+ghost use Rattle.sect_front.specs.{TreeView.{TreeView}, Limits.{most_bytes}, LongGaps.{AreGaps}};
 
 use crate::limits::MOST_BYTES;
 use crate::reading::{ReadFault, read};

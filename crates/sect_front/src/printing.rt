@@ -1,14 +1,11 @@
 //! A tree as text.
 
-ghost use Rattle.std.specs.Prelude.{◌≡◌, ◌++◌, ◌≤◌, ◌<◌, ◌^◌, true, OnOk, IfOk, length};
-ghost use Rattle.std.specs.Fmt.{decimal};
+ghost use Rattle.std.specs.{Prelude.{◌≡◌, ◌++◌, ◌≤◌, ◌<◌, ◌^◌, true, OnOk, IfOk, length}, Fmt.{decimal}};
+ghost use Rattle.std.specs.List.{list_all};
 ghost use Rattle.sect_front.specs.Spelling.{spelling_of, fixed_of, is_proper};
 ghost use Rattle.sect_front.specs.Layout.{separator as separator_of, layout_of, IsTextOf};
-ghost use Rattle.sect_front.specs.Grammar.{tokens_of as grammar_tokens};
-ghost use Rattle.sect_front.specs.Front.{IsSpelled};
-ghost use Rattle.sect_front.specs.Limits.{most_bytes};
+ghost use Rattle.sect_front.specs.{Grammar.{tokens_of as grammar_tokens}, Front.{IsSpelled}, Limits.{most_bytes}};
 ghost use Rattle.sect_front.specs.steps.Spread.{spread};
-ghost use Rattle.std.specs.List.{list_all};
 
 use crate::listing::tokens_of;
 use crate::literal::Literal;

@@ -1,19 +1,14 @@
 //! The tree that a text spells.
 
 ghost use Rattle.std.specs.Prelude.{◌≡◌, ◌<◌, ◌≤◌, ◌++◌, length, List, Err, OnOk, IfErr, MatchOption};
-ghost use Rattle.sect_front.specs.Braces.{brace};
-ghost use Rattle.sect_front.specs.TokenAt.{TokenAt};
-ghost use Rattle.sect_front.specs.Lexing.{Spells, IsBadAt};
+ghost use Rattle.std.specs.Option.{ForSome, ok_or};
+ghost use Rattle.sect_front.specs.{Braces.{brace}, TokenAt.{TokenAt}, Lexing.{Spells, IsBadAt}};
+ghost use Rattle.sect_front.specs.{declared.reading.ReadFault.TheVariants.{Unfinished}, Depth.{depth}};
+ghost use Rattle.sect_front.specs.{Limits.{most_depth}, LongGaps.{AreGaps}};
 ghost use Rattle.sect_front.specs.steps.Verdicts.{Reached, JudgesText, IsAnswerOf, IsReadFault};
-ghost use Rattle.sect_front.specs.steps.ReaderView.{reading, empty};
-ghost use Rattle.sect_front.specs.steps.Read.{finish_of};
+ghost use Rattle.sect_front.specs.steps.{ReaderView.{reading, empty}, Read.{finish_of}};
 ghost use Rattle.sect_front.specs.declared.reader.Outside.TheVariants as Outside;
 ghost use Rattle.sect_front.specs.declared.reader.Part.TheVariants as Part;
-ghost use Rattle.sect_front.specs.declared.reading.ReadFault.TheVariants.{Unfinished};
-ghost use Rattle.sect_front.specs.Depth.{depth};
-ghost use Rattle.std.specs.Option.{ForSome, ok_or};
-ghost use Rattle.sect_front.specs.Limits.{most_depth};
-ghost use Rattle.sect_front.specs.LongGaps.{AreGaps};
 
 use crate::expecting::kinds_taken;
 use crate::gaps::pass_gap;

@@ -1,8 +1,7 @@
 //! Kinds of tokens.
 
 ghost use Rattle.std.specs.Prelude.{◌≡◌, List};
-ghost use Rattle.sect_front.specs.Expected.{all_kinds as all_kinds_by};
-ghost use Rattle.sect_front.specs.Samples.{sample_of, kind_spelling};
+ghost use Rattle.sect_front.specs.{Expected.{all_kinds as all_kinds_by}, Samples.{sample_of, kind_spelling}};
 
 use crate::literal::Literal;
 use crate::name::Name;

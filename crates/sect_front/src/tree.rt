@@ -1,8 +1,7 @@
 //! The tree of a source text: what it declares and what its procedures and threads do.
 
 ghost use Rattle.std.specs.Prelude.{◌≡◌, OnOk, OnErr};
-ghost use Rattle.sect_front.specs.Syntax.{End};
-ghost use Rattle.sect_front.specs.Limits.{most_depth};
+ghost use Rattle.sect_front.specs.{Syntax.{End}, Limits.{most_depth}};
 
 use crate::items::Items;
 use crate::literal::Literal;

@@ -1,13 +1,9 @@
 //! Names, keywords and the bytes that they are made of.
 
-ghost use Rattle.std.specs.Prelude.{◌≡◌, ◌<◌, ◌&&◌, length, take_while};
-ghost use Rattle.std.specs.List.{list_all};
-ghost use Rattle.std.specs.Str.{bytes_eq};
+ghost use Rattle.std.specs.{Prelude.{◌≡◌, ◌<◌, ◌&&◌, length, take_while}, List.{list_all}, Str.{bytes_eq}};
 ghost use Rattle.sect_front.specs.Words.{is_letter as letter_of, is_digit as digit_of, is_name_byte as name_byte};
-ghost use Rattle.sect_front.specs.Words.{is_name as name_of, begins};
-ghost use Rattle.sect_front.specs.NameTokens.{is_name_token};
-ghost use Rattle.sect_front.specs.Spelling.{IsSpelling};
-ghost use Rattle.sect_front.specs.declared.token.Token.{Token as AToken};
+ghost use Rattle.sect_front.specs.{Words.{is_name as name_of, begins}, NameTokens.{is_name_token}};
+ghost use Rattle.sect_front.specs.{Spelling.{IsSpelling}, declared.token.Token.{Token as AToken}};
 ghost use Rattle.sect_front.specs.steps.Recognition.{keyword_of, keywords_of, token_beside};
 
 use crate::limits::MOST_NAME_BYTES;

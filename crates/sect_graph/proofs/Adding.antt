@@ -1,9 +1,7 @@
 -- Lists of lists to which elements are added.
 use Rattle.std.proofs.Common.{◌≡◌, ◌↔◌, ◌⊎◌, ℕ, ◌<◌, List, [], ◌∷◌, ◌++◌, set, length, get_or, inl, inr, sym, ap, ◌∙◌}
-use Rattle.std.proofs.Common.{subst}
+use Rattle.std.proofs.{Common.{subst}, lemmas.Bool.{cases_eq}, lemmas.List.{get_or-set_same, get_or-set_other}}
 use Rattle.std.specs.Prelude.{slice_index_or}
-use Rattle.std.proofs.lemmas.Bool.{cases_eq}
-use Rattle.std.proofs.lemmas.List.{get_or-set_same, get_or-set_other}
 use Rattle.sect_lemmas.specs.Lists.{Has}
 use Rattle.sect_lemmas.proofs.Membership.{Has-cases, Has-left, Has-right}
 use Rattle.sect_graph.specs.Predecessors.{IsAdded}

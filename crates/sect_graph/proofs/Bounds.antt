@@ -1,17 +1,13 @@
 -- Control goes on to a node or to the exit.
 use Rattle.std.proofs.Common.{◌≡◌, ℕ, ◌+◌, ◌≤◌, List, ◌++◌, length, Some, ap, ◌∙◌, subst, arith}
-use Rattle.std.specs.Prelude.{slice_get}
-use Rattle.std.specs.List.{All}
 use Rattle.std.proofs.lemmas.List.Elements.{All-nil, All-cons, All-append, All-same, All-get_or}
 use Rattle.std.proofs.lemmas.Option.{slice_get_within, get_or_from_slice_get}
+use Rattle.std.specs.{Prelude.{slice_get}, List.{All}}
 use Rattle.sect_types.specs.declared.expansion.action.Label.{Label}
 use Rattle.sect_types.specs.declared.expansion.action.Label.TheVariants.{Act, Test, Section as WholeSection}
-use Rattle.sect_types.specs.Statements.{TextView, Stop, Do, Choose, Loop, Section}
-use Rattle.sect_types.specs.Traces.{node_count}
-use Rattle.sect_graph.specs.declared.flow.Node.{Node}
-use Rattle.sect_graph.specs.declared.flow.Successors.TheVariants.{Next, Branch}
-use Rattle.sect_graph.specs.Layout.{entry_of, nodes_of, flow_nodes}
-use Rattle.sect_graph.specs.Paths.{node, LeadsTo}
+use Rattle.sect_types.specs.{Statements.{TextView, Stop, Do, Choose, Loop, Section}, Traces.{node_count}}
+use Rattle.sect_graph.specs.{declared.flow.Node.{Node}, declared.flow.Successors.TheVariants.{Next, Branch}}
+use Rattle.sect_graph.specs.{Layout.{entry_of, nodes_of, flow_nodes}, Paths.{node, LeadsTo}}
 use Rattle.sect_graph.proofs.Paths.{length-nodes_of}
 
 -- control goes on from the node to nothing above most

@@ -3,17 +3,13 @@ use Rattle.std.proofs.Common.{◌≡◌, ℕ, ◌+◌, List, [], ◌∷◌, ◌+
 use Rattle.std.proofs.Common.{length-append, length-drop, length, get_or, drop, arith}
 use Rattle.std.proofs.lemmas.List.{at_drop_more, at_drop_all, append-nil}
 use Rattle.sect_types.specs.declared.expansion.action.Label.TheVariants.{Test}
-use Rattle.sect_types.specs.declared.expansion.action.Condition.{Condition}
-use Rattle.sect_types.specs.declared.expansion.text.Step.{Step}
-use Rattle.sect_types.specs.declared.expansion.text.Step.TheVariants as step
-use Rattle.sect_types.specs.Statements.{TextView, Stop, Choose, Loop}
-use Rattle.sect_types.specs.Texts.{step_then, statements_of}
+use Rattle.sect_types.specs.{declared.expansion.action.Condition.{Condition}, declared.expansion.text.Step.{Step}}
+use Rattle.sect_types.specs.{Statements.{TextView, Stop, Choose, Loop}, Texts.{step_then, statements_of}}
 use Rattle.sect_types.specs.Traces.{node_count}
-use Rattle.sect_graph.specs.declared.flow.Node.{Node}
-use Rattle.sect_graph.specs.declared.flow.Successors.TheVariants.{Branch}
-use Rattle.sect_graph.specs.Layout.{entry_of, nodes_of}
-use Rattle.sect_graph.specs.Paths.{node}
+use Rattle.sect_graph.specs.{declared.flow.Node.{Node}, declared.flow.Successors.TheVariants.{Branch}}
+use Rattle.sect_graph.specs.{Layout.{entry_of, nodes_of}, Paths.{node}}
 use Rattle.sect_graph.proofs.Paths.{length-nodes_of}
+use Rattle.sect_types.specs.declared.expansion.text.Step.TheVariants as step
 
 -- a statement's nodes, in front of any text
 pub count_front : (s : Step) (rest : TextView)

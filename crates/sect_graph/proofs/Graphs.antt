@@ -1,24 +1,18 @@
 -- The graphs of a program are those of its texts.
 use Rattle.std.proofs.Common.{◌≡◌, ℕ, zero, suc, ◌+◌, ◌<◌, ◌≤◌, List, [], ◌∷◌, ◌++◌, map, drop, length, get_or, refl}
 use Rattle.std.proofs.Common.{sym, ap, ◌∙◌, subst, arith, Some, append_assoc}
-use Rattle.std.specs.Prelude.{slice_get}
 use Rattle.std.proofs.lemmas.List.{append-nil, map-append, length-map, drop_all}
 use Rattle.std.proofs.lemmas.Option.{slice_get_within, get_or_from_slice_get}
+use Rattle.std.specs.Prelude.{slice_get}
 use Rattle.sect_lemmas.proofs.Elements.{drop_next}
-use Rattle.sect_types.specs.Programs.{total_statements}
-use Rattle.sect_types.specs.Texts.{step_then, statements_of}
+use Rattle.sect_types.specs.{Programs.{total_statements}, Texts.{step_then, statements_of}}
 use Rattle.sect_types.specs.declared.expansion.text.Step.{Step}
-use Rattle.sect_types.specs.declared.expansion.text.Step.TheVariants as step
 use Rattle.sect_types.specs.Statements.{TextView, Stop, Do, Choose, Loop, Section, section_bodies, statement_count}
-use Rattle.sect_types.specs.Sections.{SectionView, sections_of, sections_from}
-use Rattle.sect_types.specs.Traces.{node_count}
-use Rattle.sect_graph.specs.declared.flow.Node.{Node}
-use Rattle.sect_graph.specs.Layout.{flow_nodes}
-use Rattle.sect_graph.specs.Graphs.{IsGraphOf, GraphView, AreGraphs}
-use Rattle.sect_graph.proofs.Paths.{length-nodes_of, paths_from_zero, is_connected}
-use Rattle.sect_graph.proofs.Bounds.{leads_within}
-use Rattle.sect_graph.proofs.Rests.{paths_are_rests}
-use Rattle.sect_graph.proofs.Running.{runs_rests}
+use Rattle.sect_types.specs.{Sections.{SectionView, sections_of, sections_from}, Traces.{node_count}}
+use Rattle.sect_graph.specs.{declared.flow.Node.{Node}, Layout.{flow_nodes}, Graphs.{IsGraphOf, GraphView, AreGraphs}}
+use Rattle.sect_graph.proofs.{Paths.{length-nodes_of, paths_from_zero, is_connected}, Bounds.{leads_within}}
+use Rattle.sect_graph.proofs.{Rests.{paths_are_rests}, Running.{runs_rests}}
+use Rattle.sect_types.specs.declared.expansion.text.Step.TheVariants as step
 
 pub is_graph : (text : TextView) (g : List Node) → g ≡ flow_nodes text → IsGraphOf text g
 is_graph text g is = record {

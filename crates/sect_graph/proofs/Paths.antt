@@ -1,20 +1,15 @@
 -- The paths of the graph are the traces of the text, and each node is on one.
-use Rattle.std.proofs.Common.{◌≡◌, ℕ, zero, suc, ◌+◌, ◌<◌, ◌≤◌, ◌⊎◌, ◌↔◌, List, [], ◌∷◌, ◌++◌, length, Some, None}
-use Rattle.std.proofs.Common.{refl, sym, ap, ◌∙◌, subst, inl, inr, arith, append_assoc, length-append}
+use Rattle.std.proofs.Common.{◌≡◌, ℕ, zero, suc, ◌+◌, ◌<◌, ◌≤◌, ◌⊎◌, ◌↔◌, List, [], ◌∷◌, ◌++◌, length, Some, None, refl}
+use Rattle.std.proofs.Common.{sym, ap, ◌∙◌, subst, inl, inr, arith, append_assoc, length-append}
+use Rattle.std.proofs.{Math.Seq.{get_or-append_seam}, lemmas.List.{append-nil}}
+use Rattle.std.proofs.{lemmas.Option.{slice_get-get_or, slice_get_past}, lemmas.Bool.{cases_lt, cases_eq}}
 use Rattle.std.specs.Prelude.{slice_get}
-use Rattle.std.proofs.Math.Seq.{get_or-append_seam}
-use Rattle.std.proofs.lemmas.List.{append-nil}
-use Rattle.std.proofs.lemmas.Option.{slice_get-get_or, slice_get_past}
-use Rattle.sect_types.specs.declared.expansion.action.Condition.{Condition}
-use Rattle.sect_types.specs.declared.expansion.action.Label.{Label}
+use Rattle.sect_types.specs.{declared.expansion.action.Condition.{Condition}, declared.expansion.action.Label.{Label}}
 use Rattle.sect_types.specs.declared.expansion.action.Label.TheVariants.{Act, Test, Section as WholeSection}
-use Rattle.sect_graph.specs.declared.flow.Node.{Node}
-use Rattle.sect_graph.specs.declared.flow.Successors.TheVariants.{Next, Branch}
 use Rattle.sect_types.specs.Statements.{TextView, Stop, Do, Choose, Loop, Section}
 use Rattle.sect_types.specs.Traces.{Visit, visit, IsTrace, Rounds, node_count}
-use Rattle.sect_graph.specs.Layout.{entry_of, nodes_of}
-use Rattle.sect_graph.specs.Paths.{node, LeadsTo, IsPath, PathsAreTraces, IsConnected}
-use Rattle.std.proofs.lemmas.Bool.{cases_lt, cases_eq}
+use Rattle.sect_graph.specs.{declared.flow.Node.{Node}, declared.flow.Successors.TheVariants.{Next, Branch}}
+use Rattle.sect_graph.specs.{Layout.{entry_of, nodes_of}, Paths.{node, LeadsTo, IsPath, PathsAreTraces, IsConnected}}
 use Rattle.sect_graph.proofs.shared.Paths.{path_join}
 
 -- the nodes stand in the graph from this place on

@@ -1,18 +1,13 @@
 -- Lists of predecessors.
-use Rattle.std.proofs.Common.{◌≡◌, ◌↔◌, ◌⊎◌, ℕ, ◌+◌, ◌<◌, ◌≤◌, List, [], ◌∷◌, ◌++◌, length, inl, inr, sym, ◌∙◌}
-use Rattle.std.proofs.Common.{subst, arith, Some, get_or, set}
+use Rattle.std.proofs.Common.{◌≡◌, ◌↔◌, ◌⊎◌, ℕ, ◌+◌, ◌<◌, ◌≤◌, List, [], ◌∷◌, ◌++◌, length, inl, inr, sym, ◌∙◌, subst}
+use Rattle.std.proofs.{Common.{arith, Some, get_or, set}, lemmas.Bool.{cases_lt, cases_eq}}
+use Rattle.std.proofs.{lemmas.List.{get_or-set_same, get_or-set_other}, lemmas.Option.{slice_get_within}}
 use Rattle.std.specs.Prelude.{slice_index_or, slice_get, slice_set, option_map}
-use Rattle.std.proofs.lemmas.Bool.{cases_lt, cases_eq}
-use Rattle.std.proofs.lemmas.List.{get_or-set_same, get_or-set_other}
-use Rattle.std.proofs.lemmas.Option.{slice_get_within}
 use Rattle.sect_lemmas.specs.Lists.{Has}
-use Rattle.sect_graph.specs.declared.flow.Node.{Node}
-use Rattle.sect_graph.specs.declared.flow.Successors.{Successors}
+use Rattle.sect_graph.specs.{declared.flow.Node.{Node}, declared.flow.Successors.{Successors}}
 use Rattle.sect_graph.specs.Paths.{LeadsTo, IsSuccessor}
-use Rattle.sect_graph.specs.Predecessors.{IsAdded}
-use Rattle.sect_graph.specs.Predecessors.{StaysWithin, IsAscending, AreAllBefore}
-use Rattle.sect_lemmas.proofs.Membership.{Has-cases, Has-slice_get}
-use Rattle.sect_lemmas.proofs.Places.{told_at, pushed_at}
+use Rattle.sect_graph.specs.Predecessors.{IsAdded, StaysWithin, IsAscending, AreAllBefore}
+use Rattle.sect_lemmas.proofs.{Membership.{Has-cases, Has-slice_get}, Places.{told_at, pushed_at}}
 
 -- each number is below those that follow it, and all are below this one
 pub record IsRising (j : ℕ) (ns : List ℕ) : Type 0 where

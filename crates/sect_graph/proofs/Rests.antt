@@ -1,10 +1,8 @@
 -- The paths from a node to the exit are the rests of traces that begin there.
 use Rattle.std.proofs.Common.{◌≡◌, ℕ, ◌≤◌, List, [], ◌∷◌, ◌++◌, length, refl, sym, ap, ◌∙◌, subst, inl, inr, arith}
 use Rattle.std.proofs.lemmas.Bool.{cases_lt}
-use Rattle.sect_types.specs.Statements.{TextView}
-use Rattle.sect_types.specs.Traces.{Visit, node_count}
-use Rattle.sect_graph.specs.declared.flow.Node.{Node}
-use Rattle.sect_graph.specs.Layout.{nodes_of}
+use Rattle.sect_types.specs.{Statements.{TextView}, Traces.{Visit, node_count}}
+use Rattle.sect_graph.specs.{declared.flow.Node.{Node}, Layout.{nodes_of}}
 use Rattle.sect_graph.specs.Paths.{IsPath, BeginsAt, PathsAreRests, PathsAreTraces}
 use Rattle.sect_graph.proofs.shared.Paths.{path_join}
 use Rattle.sect_graph.proofs.Paths.{paths_from_zero, is_connected, leads_over}

@@ -1,16 +1,12 @@
 -- Each node does the first step of what is still to run there.
 use Rattle.std.proofs.Common.{◌≡◌, ℕ, zero, suc, ◌+◌, ◌-◌, ◌<◌, ◌≤◌, List, [], ◌++◌, Some, None, refl, sym, ap, ◌∙◌}
-use Rattle.std.proofs.Common.{subst, inl, inr, arith, length, true, false, nat_lt}
+use Rattle.std.proofs.{Common.{subst, inl, inr, arith, length, true, false, nat_lt}, lemmas.Bool.{cases_lt}}
+use Rattle.std.proofs.{lemmas.Option.{slice_get_past}, lemmas.Bool.Decides.{nat_tests}}
 use Rattle.std.specs.Prelude.{slice_get}
-use Rattle.std.proofs.lemmas.Bool.{cases_lt}
-use Rattle.std.proofs.lemmas.Option.{slice_get_past}
-use Rattle.std.proofs.lemmas.Bool.Decides.{nat_tests}
 use Rattle.sect_types.specs.declared.expansion.action.Condition.{Condition}
-use Rattle.sect_types.specs.Statements.{TextView, Stop, Do, Choose, Loop, Section, joined}
-use Rattle.sect_types.specs.Traces.{node_count}
+use Rattle.sect_types.specs.{Statements.{TextView, Stop, Do, Choose, Loop, Section, joined}, Traces.{node_count}}
 use Rattle.sect_types.proofs.shared.Joining.{joined_stop}
-use Rattle.sect_graph.specs.declared.flow.Node.{Node}
-use Rattle.sect_graph.specs.Layout.{entry_of, nodes_of}
+use Rattle.sect_graph.specs.{declared.flow.Node.{Node}, Layout.{entry_of, nodes_of}}
 use Rattle.sect_graph.specs.Rests.{rest_before, rest_at, Begins, RunsRests}
 use Rattle.sect_graph.proofs.Paths.{HasAt, has_front, has_all, behind, length-nodes_of}
 

@@ -1,12 +1,8 @@
 -- The control-flow graphs of a program.
 use Rattle.std.specs.Prelude.{◌≡◌, ℕ, ◌≤◌, List, Some, slice_get, length}
-use Rattle.sect_types.specs.Statements.{TextView}
-use Rattle.sect_types.specs.Sections.{SectionView, sections_of}
-use Rattle.sect_types.specs.Traces.{node_count}
-use Rattle.sect_graph.specs.declared.flow.Node.{Node}
-use Rattle.sect_graph.specs.Paths.{LeadsTo, PathsAreTraces, PathsAreRests, IsConnected}
-use Rattle.sect_graph.specs.Rests.{RunsRests}
-use Rattle.sect_graph.specs.Layout.{flow_nodes}
+use Rattle.sect_types.specs.{Statements.{TextView}, Sections.{SectionView, sections_of}, Traces.{node_count}}
+use Rattle.sect_graph.specs.{declared.flow.Node.{Node}, Paths.{LeadsTo, PathsAreTraces, PathsAreRests, IsConnected}}
+use Rattle.sect_graph.specs.{Rests.{RunsRests}, Layout.{flow_nodes}}
 
 -- the nodes are the graph of the text: they lie in text order, its paths are the traces, each node runs the first step
 -- of what is left there, and control goes on to a node or to the exit

@@ -1,10 +1,8 @@
 -- The paths of a control-flow graph.
 use Rattle.std.specs.Prelude.{◌≡◌, ℕ, ◌<◌, ◌≤◌, List, [], ◌∷◌, ◌++◌, ◌⊎◌, Some, slice_get, length, ◌↔◌}
-use Rattle.sect_types.specs.declared.expansion.action.Label.{Label}
-use Rattle.sect_types.specs.Statements.{TextView}
+use Rattle.sect_types.specs.{declared.expansion.action.Label.{Label}, Statements.{TextView}}
 use Rattle.sect_types.specs.Traces.{Visit, visit, IsTrace}
-use Rattle.sect_graph.specs.declared.flow.Node.{Node}
-use Rattle.sect_graph.specs.declared.flow.Successors.{Successors}
+use Rattle.sect_graph.specs.{declared.flow.Node.{Node}, declared.flow.Successors.{Successors}}
 use Rattle.sect_graph.specs.declared.flow.Successors.TheVariants.{Next, Branch}
 
 abbrev pub node : Label → Successors → Node

@@ -1,8 +1,7 @@
 -- The nodes from which control may go on to a node.
 use Rattle.std.specs.Prelude.{◌≡◌, ◌↔◌, ◌⊎◌, ◌<◌, ◌≤◌, ◌+◌, ℕ, List, [], Some, length, slice_get, slice_index_or}
 use Rattle.sect_lemmas.specs.Lists.{Has}
-use Rattle.sect_graph.specs.declared.flow.Node.{Node}
-use Rattle.sect_graph.specs.Paths.{LeadsTo}
+use Rattle.sect_graph.specs.{declared.flow.Node.{Node}, Paths.{LeadsTo}}
 
 -- control goes on from a node to a node or to the exit
 abbrev pub StaysWithin : List Node → Type 0

@@ -1,12 +1,9 @@
 //! Nodes, one after another in text order.
 
-ghost use Rattle.sect_types.specs.declared.declarations.limits.TheConstants.{MOST_STATEMENTS};
+ghost use Rattle.sect_types.specs.{declared.declarations.limits.TheConstants.{MOST_STATEMENTS}, Statements.{Stop}};
+ghost use Rattle.sect_types.specs.{Texts.{step_then}, Traces.{node_count}};
 ghost use Rattle.std.specs.Prelude.{◌≡◌, ◌+◌, ◌≤◌, ◌++◌, ◌∷◌, [], length, OnOk};
-ghost use Rattle.sect_types.specs.Statements.{Stop};
-ghost use Rattle.sect_types.specs.Texts.{step_then};
-ghost use Rattle.sect_types.specs.Traces.{node_count};
-ghost use Rattle.sect_graph.specs.Layout.{entry_of, nodes_of};
-ghost use Rattle.sect_graph.specs.Paths.{node};
+ghost use Rattle.sect_graph.specs.{Layout.{entry_of, nodes_of}, Paths.{node}};
 
 use crate::flow::{Node, Successors};
 use sect_types::{Label, Step, Text};

@@ -1,10 +1,8 @@
 //! The control-flow graph of one text.
 
 ghost use Rattle.std.specs.Prelude.{◌≡◌, ◌<◌, ◌≤◌, length, slice_get, Some, IfOk, option_map};
-ghost use Rattle.sect_types.specs.Traces.{node_count};
-ghost use Rattle.sect_types.specs.declared.declarations.limits.TheConstants.{MOST_STATEMENTS};
-ghost use Rattle.sect_graph.specs.Graphs.{IsGraphOf};
-ghost use Rattle.sect_graph.specs.Layout.{flow_nodes};
+ghost use Rattle.sect_types.specs.{Traces.{node_count}, declared.declarations.limits.TheConstants.{MOST_STATEMENTS}};
+ghost use Rattle.sect_graph.specs.{Graphs.{IsGraphOf}, Layout.{flow_nodes}};
 
 use crate::emit::{emit_text, text_count};
 use sect_types::{Label, Text};

@@ -1,11 +1,9 @@
 //! The control-flow graphs of a program.
 
 ghost use Rattle.sect_types.specs.declared.declarations.limits.TheConstants.{MOST_STATEMENTS};
+ghost use Rattle.sect_types.specs.{Statements.{Stop, section_bodies, statement_count}, Texts.{step_then}};
 ghost use Rattle.std.specs.Prelude.{◌≡◌, ◌<◌, ◌≤◌, ◌++◌, length, map, slice_get, Some, IfOk, OnOk};
-ghost use Rattle.sect_types.specs.Statements.{Stop, section_bodies, statement_count};
-ghost use Rattle.sect_types.specs.Texts.{step_then};
-ghost use Rattle.sect_graph.specs.Layout.{flow_nodes};
-ghost use Rattle.sect_graph.specs.Graphs.{AreGraphs};
+ghost use Rattle.sect_graph.specs.{Layout.{flow_nodes}, Graphs.{AreGraphs}};
 
 use crate::flow::{Flow, flow_of};
 use sect_types::{Program, Step, Text};

@@ -1,12 +1,10 @@
 -- A program has one first fault.
 use Rattle.std.proofs.Common.{◌≡◌, ℕ, Result, Ok, Err, IsOkUnless, refl, inl, inr, sym, ap, ◌∙◌, subst, arith, rules}
 use Rattle.sect_types.specs.Programs.{ProgramView}
-use Rattle.sect_hints.specs.declared.fault.Rule.{Rule}
-use Rattle.sect_hints.specs.declared.fault.Rule.TheVariants as rule
-use Rattle.sect_hints.specs.declared.fault.HintFault.{HintFault}
+use Rattle.sect_hints.specs.{declared.fault.Rule.{Rule}, declared.fault.HintFault.{HintFault}}
 use Rattle.sect_hints.specs.declared.fault.HintFault.TheVariants.{Memory, NoSuchGlobal, GuardIsGuarded, HintTwice}
-use Rattle.sect_hints.specs.Hints.{ObeysHints, IsFirstFault, rank}
-use Rattle.sect_hints.specs.Faults.{hint_fault, Judges, Refuses}
+use Rattle.sect_hints.specs.{Hints.{ObeysHints, IsFirstFault, rank}, Faults.{hint_fault, Judges, Refuses}}
+use Rattle.sect_hints.specs.declared.fault.Rule.TheVariants as rule
 
 same_rank : (q s : Rule) → rank q ≡ rank s → q ≡ s
 same_rank rule.HintTwice rule.HintTwice e = refl

@@ -1,13 +1,10 @@
 -- The globals of a typed program have different names.
 use Rattle.std.proofs.Common.{◌≡◌, ℕ, false, List, [], ◌∷◌, ◌++◌, ◌+◌, ◌<◌, Some, take, length, get_or, slice_get}
-use Rattle.std.proofs.Common.{if◌then◌else◌, sym, ap, ◌∙◌}
-use Rattle.std.proofs.lemmas.List.{map-append, take-map, take_more}
+use Rattle.std.proofs.{Common.{if◌then◌else◌, sym, ap, ◌∙◌}, lemmas.List.{map-append, take-map, take_more}}
 use Rattle.std.proofs.lemmas.Option.{slice_get-map, slice_get-get_or}
 use Rattle.std.specs.Option.{option_map}
-use Rattle.sect_front.specs.declared.tree.GlobalObject.{GlobalObject}
-use Rattle.sect_front.specs.TreeView.{TreeView}
-use Rattle.sect_types.specs.Sight.{has_name, same_name, names_of_globals}
-use Rattle.sect_types.specs.First.{IsTyped}
+use Rattle.sect_front.specs.{declared.tree.GlobalObject.{GlobalObject}, TreeView.{TreeView}}
+use Rattle.sect_types.specs.{Sight.{has_name, same_name, names_of_globals}, First.{IsTyped}}
 use Rattle.sect_types.proofs.shared.Repeating.{globals_apart}
 use Rattle.indexmap.specs.IndexSet.{insert_key}
 use Rattle.sect_hints.specs.Names.{AreDifferent}

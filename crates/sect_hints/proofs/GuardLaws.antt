@@ -2,8 +2,7 @@
 use Rattle.std.proofs.Common.{◌≡◌, ℕ, zero, suc, ◌+◌, ◌<◌, ◌≤◌, List, [], ◌∷◌, ◌++◌, Option, Some, None, Ok, Err}
 use Rattle.std.proofs.Common.{length, map, get_or, refl, inl, inr, sym, ap, ◌∙◌, subst, arith}
 use Rattle.std.proofs.lemmas.List.{length-append, get_or_append_left, get_or_push, get_or_past}
-use Rattle.std.proofs.lemmas.Option.{slice_get_within}
-use Rattle.std.proofs.lemmas.Bool.{cases_lt}
+use Rattle.std.proofs.{lemmas.Option.{slice_get_within}, lemmas.Bool.{cases_lt}}
 use Rattle.std.specs.Prelude.{slice_index_or}
 use Rattle.sect_front.specs.declared.tree.Record.{Record}
 use Rattle.sect_types.specs.Programs.{ProgramView, IsOfTree}
@@ -11,9 +10,7 @@ use Rattle.sect_hints.specs.declared.fault.Rule.{Rule}
 use Rattle.sect_hints.specs.declared.fault.Rule.TheVariants.{HintTwice, NoSuchGlobal, GuardIsGuarded}
 use Rattle.sect_hints.specs.declared.fault.HintFault.{HintFault}
 use Rattle.sect_hints.specs.Hints.{hints_of, global_of, IsBroken, ObeysHints, IsFirstFault, IsGuardOf, AreGuards}
-use Rattle.sect_hints.specs.Hints.{AreUnguarded}
-use Rattle.sect_hints.specs.Faults.{hint_fault, Judges}
-use Rattle.sect_hints.specs.Verdicts.{IsFirstBroken, Finds}
+use Rattle.sect_hints.specs.{Hints.{AreUnguarded}, Faults.{hint_fault, Judges}, Verdicts.{IsFirstBroken, Finds}}
 use Rattle.sect_hints.proofs.HintLaws.{records_counted, hints_at, unbroken}
 
 -- the first i records break no rule, and the list has their guards

@@ -1,21 +1,17 @@
 -- What the hints of one record tell.
 use Rattle.std.proofs.Common.{◌≡◌, ℕ, zero, suc, ◌<◌, ◌≤◌, ◌==◌, true, false, List, [], ◌∷◌, Option, Some, None, Ok}
 use Rattle.std.proofs.Common.{length, map, get_or, slice_get, refl, inl, inr, sym, ap, ◌∙◌, subst, arith}
-use Rattle.std.proofs.lemmas.List.{length-map}
-use Rattle.std.proofs.lemmas.List.Quantifiers.{position-Some}
-use Rattle.std.proofs.lemmas.Option.{slice_get-get_or}
-use Rattle.std.proofs.lemmas.Bool.Decides.{nat_tests}
+use Rattle.std.proofs.{lemmas.List.{length-map}, lemmas.List.Quantifiers.{position-Some}}
+use Rattle.std.proofs.{lemmas.Option.{slice_get-get_or}, lemmas.Bool.Decides.{nat_tests}}
 use Rattle.std.specs.Prelude.{slice_index_or}
-use Rattle.sect_front.specs.declared.tree.Record.{Record}
-use Rattle.sect_front.specs.declared.tree.GlobalObject.{GlobalObject}
+use Rattle.sect_front.specs.{declared.tree.Record.{Record}, declared.tree.GlobalObject.{GlobalObject}}
 use Rattle.sect_types.specs.Environments.{record_number, types_of}
 use Rattle.sect_types.specs.Sight.{same_name, names_of_globals, names_of_records}
-use Rattle.sect_lemmas.specs.Lists.{Has}
 use Rattle.sect_types.specs.Programs.{ProgramView, IsOfTree, AreRecordsThere}
+use Rattle.sect_lemmas.specs.Lists.{Has}
 use Rattle.sect_hints.specs.declared.fault.Rule.{Rule}
 use Rattle.sect_hints.specs.declared.fault.Rule.TheVariants.{HintTwice, NoSuchGlobal, GuardIsGuarded}
-use Rattle.sect_hints.specs.Hints.{hints_of, global_of, IsBrokenBy, rank}
-use Rattle.sect_hints.specs.Verdicts.{IsFree, IsFirstBroken, Finds}
+use Rattle.sect_hints.specs.{Hints.{hints_of, global_of, IsBrokenBy, rank}, Verdicts.{IsFree, IsFirstBroken, Finds}}
 
 -- there are as many records and globals by number as in the tree
 pub records_counted : (p : ProgramView) → IsOfTree p → length p.records ≡ length p.source.records

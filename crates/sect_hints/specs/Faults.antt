@@ -1,11 +1,10 @@
 -- The refusals.
 use Rattle.std.specs.Prelude.{◌≡◌, ◌⊎◌, ℕ, Result, Ok, Err, ⊤}
 use Rattle.sect_types.specs.Programs.{ProgramView}
-use Rattle.sect_hints.specs.declared.fault.Rule.{Rule}
-use Rattle.sect_hints.specs.declared.fault.Rule.TheVariants as rule
-use Rattle.sect_hints.specs.declared.fault.HintFault.{HintFault}
+use Rattle.sect_hints.specs.{declared.fault.Rule.{Rule}, declared.fault.HintFault.{HintFault}}
 use Rattle.sect_hints.specs.declared.fault.HintFault.TheVariants.{Memory, NoSuchGlobal, GuardIsGuarded, HintTwice}
 use Rattle.sect_hints.specs.Hints.{ObeysHints, IsFirstFault}
+use Rattle.sect_hints.specs.declared.fault.Rule.TheVariants as rule
 
 -- the refusal of a record that breaks the rule
 abbrev pub hint_fault : Rule → ℕ → HintFault

@@ -1,8 +1,7 @@
 -- What a look at the hints of one record finds.
 use Rattle.std.specs.Prelude.{◌≡◌, ◌≤◌, ℕ, List, [], ◌∷◌, Option, Some, None, Result, Ok, Err, slice_get}
 use Rattle.sect_types.specs.Programs.{ProgramView}
-use Rattle.sect_hints.specs.declared.fault.Rule.{Rule}
-use Rattle.sect_hints.specs.Hints.{hints_of, global_of, IsBrokenBy, rank}
+use Rattle.sect_hints.specs.{declared.fault.Rule.{Rule}, Hints.{hints_of, global_of, IsBrokenBy, rank}}
 
 -- global g has this name, and its record carries no hint
 pub record IsFree (p : ProgramView) (name : List ℕ) (g : ℕ) : Type 0 where

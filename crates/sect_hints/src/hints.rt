@@ -2,11 +2,9 @@
 
 ghost use Rattle.std.specs.Prelude.{◌≡◌, ◌<◌, ℕ, IfOk, IsOkUnless};
 ghost use Rattle.sect_types.specs.Sight.{names_of_globals};
-ghost use Rattle.sect_hints.specs.declared.fault.Rule.{Rule};
-ghost use Rattle.sect_hints.specs.declared.fault.HintFault.TheVariants.{Memory};
+ghost use Rattle.sect_hints.specs.{declared.fault.Rule.{Rule}, declared.fault.HintFault.TheVariants.{Memory}};
 ghost use Rattle.sect_hints.specs.Hints.{ObeysHints, IsFirstFault, AreGuards, AreUnguarded};
-ghost use Rattle.sect_hints.specs.Faults.{hint_fault, Judges, Refuses};
-ghost use Rattle.sect_hints.specs.Verdicts.{FindsNamed, Finds};
+ghost use Rattle.sect_hints.specs.{Faults.{hint_fault, Judges, Refuses}, Verdicts.{FindsNamed, Finds}};
 
 use crate::fault::{HintFault, Rule};
 use crate::globals::names_of;

@@ -1,9 +1,7 @@
 -- Lists in which no two elements are one.
 use Rattle.std.proofs.Common.{◌≡◌, ◌↔◌, ◌⊎◌, inl, inr, ℕ, List, [], ◌∷◌, ◌++◌, Bool, true, false, refl, sym, ap, ◌∙◌}
-use Rattle.std.proofs.Common.{subst, true≢false}
-use Rattle.std.specs.Prelude.{cond, if◌then◌else◌}
-use Rattle.std.specs.List.{filter}
-use Rattle.std.proofs.lemmas.List.{append-nil}
+use Rattle.std.proofs.{Common.{subst, true≢false}, lemmas.List.{append-nil}}
+use Rattle.std.specs.{Prelude.{cond, if◌then◌else◌}, List.{filter}}
 use Rattle.sect_lemmas.specs.Lists.{Has}
 use Rattle.sect_lemmas.proofs.Membership.{Has-right, Has-cases}
 use Rattle.sect_infer.specs.Numbers.{has_number, with_number, with_numbers, AreApart}

@@ -1,9 +1,7 @@
 -- Numbers that are fresh.
-use Rattle.std.proofs.Common.{◌≡◌, ℕ, ◌+◌, ◌<◌, List, [], ◌∷◌, ◌++◌, true, false, not, length, get_or, take, sym}
-use Rattle.std.proofs.Common.{ap, ◌∙◌}
+use Rattle.std.proofs.Common.{◌≡◌, ℕ, ◌+◌, ◌<◌, List, [], ◌∷◌, ◌++◌, true, false, not, length, get_or, take, sym, ap}
+use Rattle.std.proofs.{Common.{◌∙◌}, lemmas.List.{append-nil}, lemmas.List.Elements.{filter_more}}
 use Rattle.std.specs.Prelude.{cond}
-use Rattle.std.proofs.lemmas.List.{append-nil}
-use Rattle.std.proofs.lemmas.List.Elements.{filter_more}
 use Rattle.sect_infer.specs.Numberings.{is_under, fresh_from}
 
 module _ (above : List (List ℕ)) (found numbers : List ℕ) (i n : ℕ) (within : i < length numbers)

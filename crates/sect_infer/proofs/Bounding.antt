@@ -1,28 +1,18 @@
 -- The worklist ends, since the lists that only grow have bounded lengths.
 use Rattle.std.proofs.Common.{◌≡◌, ℕ, zero, suc, ◌+◌, ◌-◌, ◌*◌, ◌<◌, ◌≤◌, List, [], ◌∷◌, ◌++◌, Some, Bool, true, false}
 use Rattle.std.proofs.Common.{map, set, length, length-append, refl, sym, ap, ◌∙◌, subst, arith, inl, inr}
-use Rattle.std.specs.Prelude.{slice_index_or}
-use Rattle.std.specs.List.{All}
-use Rattle.std.specs.List.Sorted.{IsStrictlySortedBy}
-use Rattle.std.specs.Ordering.{nat_cmp}
-use Rattle.std.proofs.lemmas.List.{length-map}
-use Rattle.std.proofs.lemmas.Map.Views.{length-le_from_below}
-use Rattle.std.proofs.Math.Nat.{mul-le-mul_left}
+use Rattle.std.proofs.{lemmas.List.{length-map}, lemmas.Map.Views.{length-le_from_below}, Math.Nat.{mul-le-mul_left}}
+use Rattle.std.specs.{Prelude.{slice_index_or}, List.{All}, List.Sorted.{IsStrictlySortedBy}, Ordering.{nat_cmp}}
 use Rattle.sect_lemmas.specs.Lists.{Has}
 use Rattle.sect_lemmas.proofs.Membership.{Has-unmap, Has-get_or}
 use Rattle.sect_graph.specs.declared.flow.Node.{Node}
-use Rattle.sect_names.specs.declared.lock.Lock.{Lock}
-use Rattle.sect_names.specs.contracts.lock.LockEq.TheImpl.Laws.{laws-law as the_lock_laws}
+use Rattle.sect_names.specs.{declared.lock.Lock.{Lock}, contracts.lock.LockEq.TheImpl.Laws.{laws-law as the_lock_laws}}
 use Rattle.sect_names.specs.Schemes.{SchemeView}
-use Rattle.sect_names.proofs.shared.Finiteness.{all_locks, finite_locks}
-use Rattle.sect_names.proofs.shared.Telling.{lock_tells}
-use Rattle.sect_infer.specs.Numbers.{AreApart}
-use Rattle.sect_infer.specs.steps.Needs.{AreLawful}
-use Rattle.sect_infer.specs.Numberings.{NumberingView, AreNumbers, lock_at}
-use Rattle.sect_infer.specs.steps.Working.{IsVisit, IsWorking}
-use Rattle.sect_infer.proofs.shared.Apart.{apart_one, apart_short}
+use Rattle.sect_names.proofs.shared.{Finiteness.{all_locks, finite_locks}, Telling.{lock_tells}}
+use Rattle.sect_infer.specs.{Numbers.{AreApart}, Numberings.{NumberingView, AreNumbers, lock_at}}
+use Rattle.sect_infer.specs.steps.{Needs.{AreLawful}, Working.{IsVisit, IsWorking}}
+use Rattle.sect_infer.proofs.shared.{Apart.{apart_one, apart_short}, Bounding.{named}}
 use Rattle.sect_infer.proofs.Settling.{lawful_at}
-use Rattle.sect_infer.proofs.shared.Bounding.{named}
 
 -- how long the lists are together
 total : {X : Type 0} → List (List X) → ℕ

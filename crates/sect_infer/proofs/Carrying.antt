@@ -1,24 +1,17 @@
 -- Locks that are found one after another.
 use Rattle.std.proofs.Common.{◌≡◌, ◌↔◌, ◌⊎◌, inl, inr, ℕ, ◌+◌, ◌<◌, ◌≤◌, List, [], ◌++◌, Some, length, get_or, take}
-use Rattle.std.proofs.Common.{refl, sym, ap, ◌∙◌, subst, append_assoc, arith}
-use Rattle.std.specs.Prelude.{slice_get}
-use Rattle.std.proofs.lemmas.List.{append-nil, take_all}
+use Rattle.std.proofs.{Common.{refl, sym, ap, ◌∙◌, subst, append_assoc, arith}, lemmas.List.{append-nil, take_all}}
 use Rattle.std.proofs.lemmas.Option.{slice_get_within}
+use Rattle.std.specs.Prelude.{slice_get}
 use Rattle.sect_lemmas.specs.Lists.{Has}
-use Rattle.sect_lemmas.proofs.Membership.{Has-left, Has-get_or}
-use Rattle.sect_lemmas.proofs.Places.{at_of, one_at}
+use Rattle.sect_lemmas.proofs.{Membership.{Has-left, Has-get_or}, Places.{at_of, one_at}, Making.{last_of, so_far}}
 use Rattle.sect_types.specs.declared.expansion.action.Label.{Label}
-use Rattle.sect_names.specs.declared.lock.Lock.{Lock}
-use Rattle.sect_names.specs.Schemes.{SchemeView}
-use Rattle.sect_names.specs.Carrying.{CarriedBack}
-use Rattle.sect_lemmas.proofs.Making.{last_of, so_far}
+use Rattle.sect_names.specs.{declared.lock.Lock.{Lock}, Schemes.{SchemeView}, Carrying.{CarriedBack}}
 use Rattle.sect_infer.specs.Numbers.{with_number}
 use Rattle.sect_infer.specs.Numberings.{NumberingView, HasLock, AreNumbers, IsNumbered, IsFinding, Finds}
 use Rattle.sect_infer.proofs.shared.Apart.{with_has}
-use Rattle.sect_infer.proofs.Apart.{with_apart, with_behind}
-use Rattle.sect_infer.proofs.shared.Extending.{extends_none, extends_then, extends_at, extends_back}
-use Rattle.sect_infer.proofs.Extending.{extends_lock}
-use Rattle.sect_infer.proofs.shared.Extending.{extends_numbers}
+use Rattle.sect_infer.proofs.shared.Extending.{extends_none, extends_then, extends_at, extends_back, extends_numbers}
+use Rattle.sect_infer.proofs.{Apart.{with_apart, with_behind}, Extending.{extends_lock}}
 
 module _ (s : SchemeView) where
   -- nothing is found

@@ -1,20 +1,14 @@
 -- Numberings that are extended.
 use Rattle.std.proofs.Common.{◌≡◌, inl, inr, ℕ, zero, suc, ◌+◌, ◌<◌, List, [], ◌∷◌, ◌++◌, Some, Bool, true, false}
-use Rattle.std.proofs.Common.{length, refl, sym, ap, ◌∙◌, subst, length-append, arith}
-use Rattle.std.specs.Prelude.{slice_get, slice_index_or, Result, Ok, Err, IfOk, IsTrue, IsFalse, not}
-use Rattle.std.proofs.lemmas.Bool.{cases_eq}
+use Rattle.std.proofs.{Common.{length, refl, sym, ap, ◌∙◌, subst, length-append, arith}, lemmas.Bool.{cases_eq}}
 use Rattle.std.proofs.lemmas.List.{append-nil, get_or-set_same, get_or-set_other, length-set}
 use Rattle.std.proofs.lemmas.Option.{slice_get_within}
+use Rattle.std.specs.Prelude.{slice_get, slice_index_or, Result, Ok, Err, IfOk, IsTrue, IsFalse, not}
 use Rattle.sect_lemmas.specs.Lists.{Has}
-use Rattle.sect_lemmas.proofs.Places.{pushed_at}
-use Rattle.sect_lemmas.proofs.Options.{some_injective}
+use Rattle.sect_lemmas.proofs.{Places.{pushed_at}, Options.{some_injective}}
 use Rattle.sect_lemmas.proofs.Membership.{Has-left, Has-right, Has-cases, Has-slice_get}
 use Rattle.sect_points.specs.Paths.{PathView}
-use Rattle.sect_names.specs.declared.lock.Effect.TheVariants as effect
-use Rattle.sect_names.specs.declared.lock.Right.{Right}
-use Rattle.sect_names.specs.declared.lock.Lock.{Lock}
-use Rattle.sect_names.specs.declared.lock.Lock.TheVariants as lock
-use Rattle.sect_names.specs.Schemes.{SchemeView}
+use Rattle.sect_names.specs.{declared.lock.Right.{Right}, declared.lock.Lock.{Lock}, Schemes.{SchemeView}}
 use Rattle.sect_names.specs.Climbing.{IsAbove, AreCoverers}
 use Rattle.sect_names.proofs.shared.Climbing.{below_write}
 use Rattle.sect_infer.specs.Numbers.{AreApart}
@@ -23,6 +17,8 @@ use Rattle.sect_infer.specs.Numberings.{IsNumbered}
 use Rattle.sect_infer.specs.steps.Putting.{IsPut, IsTold}
 use Rattle.sect_infer.proofs.shared.Apart.{apart_push, apart_one}
 use Rattle.sect_infer.proofs.shared.Extending.{get_left, extends_none, extends_then, extends_at}
+use Rattle.sect_names.specs.declared.lock.Effect.TheVariants as effect
+use Rattle.sect_names.specs.declared.lock.Lock.TheVariants as lock
 
 -- what stands behind a list, and before that
 get_last : {X : Type 0} (xs : List X) (x d : X) (i : ℕ) → i ≡ length xs → slice_index_or (xs ++ x ∷ []) i d ≡ x

@@ -1,35 +1,23 @@
 -- The locks that are found for a section.
 use Rattle.std.proofs.Common.{◌≡◌, ◌↔◌, ℕ, zero, suc, ◌+◌, ◌<◌, ◌≤◌, map, List, [], ◌∷◌, Some, length, inl, inr, refl}
-use Rattle.std.proofs.Common.{sym, ap, ◌∙◌, subst, append-nil, arith}
+use Rattle.std.proofs.{Common.{sym, ap, ◌∙◌, subst, append-nil, arith}, lemmas.Bool.{cases_lt}}
+use Rattle.std.proofs.{lemmas.List.{length-map}, lemmas.Option.{slice_get_within, get_or_from_slice_get}}
 use Rattle.std.specs.Prelude.{slice_get, slice_index_or}
-use Rattle.std.proofs.lemmas.Bool.{cases_lt}
-use Rattle.std.proofs.lemmas.List.{length-map}
-use Rattle.std.proofs.lemmas.Option.{slice_get_within, get_or_from_slice_get}
 use Rattle.sect_lemmas.proofs.Places.{one_at}
 use Rattle.sect_lemmas.specs.Lists.{Has}
 use Rattle.sect_front.specs.declared.tree.Locking.{Locking}
-use Rattle.sect_front.specs.declared.tree.Locking.TheVariants as locking
-use Rattle.sect_types.specs.Statements.{TextView}
-use Rattle.sect_types.specs.Traces.{Visit}
-use Rattle.sect_graph.specs.declared.flow.Node.{Node}
-use Rattle.sect_graph.specs.Graphs.{IsGraphOf}
-use Rattle.sect_graph.specs.Paths.{IsPath}
-use Rattle.sect_names.specs.declared.lock.Lock.{Lock}
-use Rattle.sect_names.specs.declared.lock.Lock.TheVariants as lock
-use Rattle.sect_names.specs.Schemes.{SchemeView}
-use Rattle.sect_names.specs.Locks.{IsLockOf}
-use Rattle.sect_names.specs.Needed.{end_locks, CarriedOver, IsNeededOn, IsNeeded, IsNeededFrom}
-use Rattle.sect_names.specs.Order.{AreMaximal}
+use Rattle.sect_types.specs.{Statements.{TextView}, Traces.{Visit}}
+use Rattle.sect_graph.specs.{declared.flow.Node.{Node}, Graphs.{IsGraphOf}, Paths.{IsPath}}
+use Rattle.sect_names.specs.{declared.lock.Lock.{Lock}, Schemes.{SchemeView}, Locks.{IsLockOf}}
+use Rattle.sect_names.specs.{Needed.{end_locks, CarriedOver, IsNeededOn, IsNeeded, IsNeededFrom}, Order.{AreMaximal}}
 use Rattle.sect_names.proofs.shared.Maximals.{maximal_as, maximal_least}
-use Rattle.sect_infer.specs.steps.Needs.{need, IsDerived, AreLawful}
-use Rattle.sect_infer.specs.Numberings.{NumberingView, HasLock, AreNumbers, IsNumbering}
-use Rattle.sect_infer.specs.steps.Working.{IsSettled}
-use Rattle.sect_infer.specs.steps.Listing.{IsOrder, listed}
+use Rattle.sect_infer.specs.steps.{Needs.{need, IsDerived, AreLawful}, Working.{IsSettled}, Listing.{IsOrder, listed}}
 use Rattle.sect_infer.specs.steps.Found.{AreFound, AreAllOnAll, IsFound, IsOnAll}
+use Rattle.sect_infer.specs.Numberings.{NumberingView, HasLock, AreNumbers, IsNumbering}
 use Rattle.sect_infer.specs.Sets.{LocksView, AreNeeded, AreLocksOf}
-use Rattle.sect_infer.proofs.Settling.{derived_lock}
-use Rattle.sect_infer.proofs.Listing.{maximal_of, listed_maximal}
-use Rattle.sect_infer.proofs.Meaning.{derived_from}
+use Rattle.sect_infer.proofs.{Settling.{derived_lock}, Listing.{maximal_of, listed_maximal}, Meaning.{derived_from}}
+use Rattle.sect_front.specs.declared.tree.Locking.TheVariants as locking
+use Rattle.sect_names.specs.declared.lock.Lock.TheVariants as lock
 
 -- what a list of values stands for
 mapped_at : {X Y : Type 0} (f : X → Y) (xs : List X) (j : ℕ) (y : Y) → slice_get (map f xs) j ≡ Some y

@@ -1,32 +1,20 @@
 -- The maximal locks among those with some numbers, in canonical order.
 use Rattle.std.proofs.Common.{◌≡◌, ◌↔◌, ◌⊎◌, inl, inr, ℕ, ◌+◌, ◌<◌, List, [], ◌∷◌, ◌++◌, Some, Bool, true, false, not}
 use Rattle.std.proofs.Common.{map, take, length, get_or, sym, ap, ◌∙◌, subst, true≢false}
-use Rattle.std.specs.Prelude.{slice_get, slice_index_or, cond}
-use Rattle.std.specs.List.{filter}
-use Rattle.std.proofs.lemmas.List.{append-nil, map-append}
-use Rattle.std.proofs.lemmas.List.Elements.{filter_more}
-use Rattle.std.proofs.lemmas.Option.{slice_get_within, get_or_from_slice_get}
+use Rattle.std.proofs.{lemmas.List.{append-nil, map-append}, lemmas.List.Elements.{filter_more}}
+use Rattle.std.proofs.{lemmas.Option.{slice_get_within, get_or_from_slice_get}, lemmas.Bool.{and_parts, and_from}}
+use Rattle.std.specs.{Prelude.{slice_get, slice_index_or, cond}, List.{filter}}
 use Rattle.sect_lemmas.specs.Lists.{Has}
-use Rattle.sect_lemmas.proofs.Membership.{Has-unmap}
-use Rattle.sect_names.specs.declared.lock.Lock.{Lock}
-use Rattle.sect_names.specs.declared.lock.Lock.TheVariants as lock
-use Rattle.sect_names.specs.Schemes.{SchemeView}
-use Rattle.sect_names.specs.Locks.{Covers, IsOutdone}
+use Rattle.sect_lemmas.proofs.{Membership.{Has-unmap}, Listing.{Has-map}}
+use Rattle.sect_names.specs.{declared.lock.Lock.{Lock}, Schemes.{SchemeView}, Locks.{Covers, IsOutdone}}
 use Rattle.sect_names.specs.Order.{AreInOrder, AreMaximal}
-use Rattle.sect_names.proofs.shared.Covering.{covers_antisym, covers_trans}
-use Rattle.sect_lemmas.proofs.Listing.{Has-map}
-use Rattle.sect_names.proofs.shared.Maximals.{covered}
-use Rattle.sect_names.proofs.shared.Telling.{lock_cases}
+use Rattle.sect_names.proofs.shared.{Covering.{covers_antisym, covers_trans}, Maximals.{covered}, Telling.{lock_cases}}
 use Rattle.sect_infer.specs.Numbers.{has_number, with_numbers}
-use Rattle.sect_infer.specs.Numberings.{NumberingView, HasLock, AreNumbers, IsNumbering, is_under}
-use Rattle.sect_infer.specs.Numberings.{lock_at, IsOrderOf}
+use Rattle.sect_infer.specs.Numberings.{NumberingView, HasLock, AreNumbers, IsNumbering, is_under, lock_at, IsOrderOf}
 use Rattle.sect_infer.specs.steps.Listing.{IsOrder, is_kept, listed}
-use Rattle.sect_infer.proofs.Apart.{Has-filter, with_all_has}
-use Rattle.sect_infer.proofs.shared.Apart.{number_tells}
-use Rattle.sect_infer.proofs.Undone.{told_by}
-use Rattle.sect_infer.proofs.shared.Undone.{under_is, is_under_is}
-use Rattle.sect_infer.proofs.shared.Bounding.{named}
-use Rattle.std.proofs.lemmas.Bool.{and_parts, and_from}
+use Rattle.sect_infer.proofs.{Apart.{Has-filter, with_all_has}, Undone.{told_by}}
+use Rattle.sect_infer.proofs.shared.{Apart.{number_tells}, Undone.{under_is, is_under_is}, Bounding.{named}}
+use Rattle.sect_names.specs.declared.lock.Lock.TheVariants as lock
 
 -- the maximal locks with one property are those with another, where each that has the first has the second, and covers
 -- of the second have the first

@@ -1,14 +1,9 @@
 -- What is derived over the graph is what the traces need.
 use Rattle.std.proofs.Common.{◌≡◌, ◌↔◌, ℕ, zero, suc, ◌≤◌, List, [], ◌∷◌, ◌++◌, length, refl, sym, ap, subst}
 use Rattle.std.proofs.lemmas.Option.{slice_get_within}
-use Rattle.sect_types.specs.Statements.{TextView}
-use Rattle.sect_types.specs.Traces.{Visit, visit}
-use Rattle.sect_graph.specs.declared.flow.Node.{Node}
-use Rattle.sect_graph.specs.Paths.{IsPath, IsConnected}
-use Rattle.sect_graph.specs.Graphs.{IsGraphOf}
-use Rattle.sect_names.specs.declared.lock.Lock.{Lock}
-use Rattle.sect_names.specs.Schemes.{SchemeView}
-use Rattle.sect_names.specs.Carrying.{Generated, CarriedBack}
+use Rattle.sect_types.specs.{Statements.{TextView}, Traces.{Visit, visit}}
+use Rattle.sect_graph.specs.{declared.flow.Node.{Node}, Paths.{IsPath, IsConnected}, Graphs.{IsGraphOf}}
+use Rattle.sect_names.specs.{declared.lock.Lock.{Lock}, Schemes.{SchemeView}, Carrying.{Generated, CarriedBack}}
 use Rattle.sect_names.specs.Needed.{CarriedOver, GeneratedFirst, IsNeededOn, IsNeededFrom}
 use Rattle.sect_infer.specs.steps.Needs.{Need, need, Derived, IsDerived}
 use Rattle.sect_graph.proofs.shared.Paths.{path_begins}

@@ -1,31 +1,23 @@
 -- Numbers in the canonical order of their locks.
-use Rattle.std.proofs.Common.{◌≡◌, ℕ, ◌+◌, ◌<◌, List, [], ◌∷◌, Some, false, map, length, get_or, sym, ap}
-use Rattle.std.proofs.Common.{refl, ◌∙◌, subst, arith, true≢false, nat_eq, Less, Equal, Greater, inl, inr}
-use Rattle.std.specs.Prelude.{slice_get}
-use Rattle.std.specs.Option.{option_map}
-use Rattle.std.specs.declared.cmp.Ordering.{Ordering}
-use Rattle.std.specs.Ordering.{ordering_then, ordering_reverse, is_lt, nat_cmp}
-use Rattle.std.specs.Cmp.{unsigned_Decides}
-use Rattle.std.specs.List.Sorted.{IsPermutation, IsSorted}
-use Rattle.std.proofs.lemmas.Cmp.{nat_eq_equiv}
-use Rattle.std.proofs.lemmas.List.{length-map}
+use Rattle.std.proofs.Common.{◌≡◌, ℕ, ◌+◌, ◌<◌, List, [], ◌∷◌, Some, false, map, length, get_or, sym, ap, refl, ◌∙◌}
+use Rattle.std.proofs.Common.{subst, arith, true≢false, nat_eq, Less, Equal, Greater, inl, inr}
+use Rattle.std.proofs.{lemmas.Cmp.{nat_eq_equiv}, lemmas.List.{length-map}}
 use Rattle.std.proofs.lemmas.List.Sorted.{IsPermutation-map, IsPermutation-sym, All-permutation}
 use Rattle.std.proofs.lemmas.Map.Keys.{apart_from_distinct, IsDistinct-IsPermutation, sorted_from_all_adjacent}
 use Rattle.std.proofs.lemmas.Option.{get_or_from_slice_get, slice_get_within, slice_get-map}
+use Rattle.std.specs.{Prelude.{slice_get}, Option.{option_map}, declared.cmp.Ordering.{Ordering}}
+use Rattle.std.specs.{Ordering.{ordering_then, ordering_reverse, is_lt, nat_cmp}, Cmp.{unsigned_Decides}}
+use Rattle.std.specs.List.Sorted.{IsPermutation, IsSorted}
 use Rattle.sect_lemmas.specs.Lists.{Has}
-use Rattle.sect_lemmas.proofs.Membership.{Has-get_or, Has-slice_get}
-use Rattle.sect_lemmas.proofs.Places.{Has-index, at_of}
-use Rattle.sect_names.specs.declared.lock.Lock.{Lock}
-use Rattle.sect_names.specs.declared.lock.Lock.TheVariants as lock
-use Rattle.sect_names.specs.contracts.lock.LockOrd.TheImpl.{ghosts as the_lock_order}
-use Rattle.sect_names.specs.contracts.lock.LockOrd.TheImpl.Laws.{total-law as the_lock_total}
-use Rattle.sect_names.specs.Order.{AreInOrder}
+use Rattle.sect_lemmas.proofs.{Membership.{Has-get_or, Has-slice_get}, Places.{Has-index, at_of}}
+use Rattle.sect_names.specs.{declared.lock.Lock.{Lock}, contracts.lock.LockOrd.TheImpl.{ghosts as the_lock_order}}
+use Rattle.sect_names.specs.{contracts.lock.LockOrd.TheImpl.Laws.{total-law as the_lock_total}, Order.{AreInOrder}}
 use Rattle.sect_names.proofs.shared.Ranking.{lock_level, in_order}
-use Rattle.sect_infer.specs.Numbers.{AreApart}
-use Rattle.sect_infer.specs.Numberings.{lock_at, IsOrderOf}
+use Rattle.sect_infer.specs.{Numbers.{AreApart}, Numberings.{lock_at, IsOrderOf}}
 use Rattle.sect_infer.specs.declared.order.NumberedLock.{NumberedLock}
 use Rattle.sect_infer.specs.contracts.order.NumberedLockOrd.TheImpl.{ghosts as the_numbered_order}
 use Rattle.sect_infer.proofs.shared.Apart.{distinct, apart_one}
+use Rattle.sect_names.specs.declared.lock.Lock.TheVariants as lock
 
 -- a list in another order has the same
 pub permuted_has : {X : Type 0} (xs ys : List X) → IsPermutation xs ys → (x : X) → Has ys x → Has xs x

@@ -1,18 +1,12 @@
 -- What is known behind a node is passed on to it.
 use Rattle.std.proofs.Common.{◌≡◌, inl, inr, ℕ, ◌<◌, List, [], ◌∷◌, ◌++◌, Option, Some, None, Bool, true, false, set}
-use Rattle.std.proofs.Common.{length}
-use Rattle.std.proofs.Common.{length-set, refl, sym, ap, ◌∙◌, ◌↔◌, subst, true≢false}
+use Rattle.std.proofs.Common.{length, length-set, refl, sym, ap, ◌∙◌, ◌↔◌, subst, true≢false}
+use Rattle.std.proofs.{lemmas.List.{append-nil, set-get_or, set-set}, lemmas.Option.{slice_get_within}}
 use Rattle.std.specs.Prelude.{slice_get, slice_index_or, ◌||◌}
-use Rattle.std.proofs.lemmas.List.{append-nil, set-get_or, set-set}
-use Rattle.std.proofs.lemmas.Option.{slice_get_within}
 use Rattle.sect_lemmas.specs.Lists.{Has}
-use Rattle.sect_lemmas.proofs.Membership.{Has-left, Has-right, Has-cases}
-use Rattle.sect_lemmas.proofs.Places.{one_at}
-use Rattle.sect_graph.specs.declared.flow.Node.{Node}
-use Rattle.sect_graph.specs.Paths.{LeadsTo, IsSuccessor}
-use Rattle.sect_names.specs.declared.lock.Lock.{Lock}
-use Rattle.sect_names.specs.Schemes.{SchemeView}
-use Rattle.sect_names.specs.Locks.{Covers}
+use Rattle.sect_lemmas.proofs.{Membership.{Has-left, Has-right, Has-cases}, Places.{one_at}}
+use Rattle.sect_graph.specs.{declared.flow.Node.{Node}, Paths.{LeadsTo, IsSuccessor}}
+use Rattle.sect_names.specs.{declared.lock.Lock.{Lock}, Schemes.{SchemeView}, Locks.{Covers}}
 use Rattle.sect_names.specs.Carrying.{Generated, CarriedBack}
 use Rattle.sect_names.proofs.shared.Covering.{covers_refl}
 use Rattle.sect_infer.specs.Numbers.{has_number, AreApart}
@@ -20,12 +14,9 @@ use Rattle.sect_infer.specs.Numberings.{NumberingView, HasLock, AreNumbers, IsNu
 use Rattle.sect_infer.specs.steps.Needs.{need, IsSeed}
 use Rattle.sect_infer.specs.steps.Working.{AreLawfulAt, AreNumbered, IsPassedOn, IsToldBy, IsVisit, IsOwnPut}
 use Rattle.sect_infer.specs.steps.Working.{IsGeneratedPut}
-use Rattle.sect_infer.proofs.Apart.{apart_join}
-use Rattle.sect_infer.proofs.shared.Apart.{number_tells}
-use Rattle.sect_infer.proofs.shared.Undone.{under_is}
+use Rattle.sect_infer.proofs.{Apart.{apart_join}, Extending.{extends_lock}, Visiting.{here_is, other_is, each_is}}
+use Rattle.sect_infer.proofs.shared.{Apart.{number_tells}, Undone.{under_is}}
 use Rattle.sect_infer.proofs.shared.Extending.{extends_none, extends_back, extends_numbers}
-use Rattle.sect_infer.proofs.Extending.{extends_lock}
-use Rattle.sect_infer.proofs.Visiting.{here_is, other_is, each_is}
 
 -- one of the locks covers it then
 told_covers : (s : SchemeView) (keys : List Lock) (ns : List ℕ) (l : Lock) → IsToldBy s keys ns l

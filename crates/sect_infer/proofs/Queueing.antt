@@ -1,18 +1,11 @@
 -- Nodes that wait.
 use Rattle.std.proofs.Common.{◌≡◌, ◌↔◌, ◌⊎◌, inl, inr, ℕ, zero, suc, ◌+◌, ◌<◌, ◌≤◌, List, [], ◌∷◌, ◌++◌, length, refl}
-use Rattle.std.proofs.Common.{sym, ap, ◌∙◌, arith}
-use Rattle.std.specs.List.{range_with_len, AllByRecursion}
-use Rattle.std.specs.List.Sorted.{IsStrictlySortedBy}
-use Rattle.std.specs.Cmp.{nat_cmp_is}
-use Rattle.std.specs.declared.cmp.Ordering.TheVariants.{Less}
-use Rattle.sect_lemmas.proofs.Membership.{Has-left, Has-right, Has-cases}
-use Rattle.std.specs.BTreeSet.{insert_key}
-use Rattle.std.specs.Ordering.{nat_cmp}
-use Rattle.std.proofs.lemmas.Bool.{cases_eq}
-use Rattle.std.proofs.lemmas.List.{append-nil}
+use Rattle.std.proofs.{Common.{sym, ap, ◌∙◌, arith}, lemmas.Bool.{cases_eq}, lemmas.List.{append-nil}}
 use Rattle.std.proofs.lemmas.Map.Lookups.{exact_unsigned}
+use Rattle.std.specs.{List.{range_with_len, AllByRecursion}, List.Sorted.{IsStrictlySortedBy}, Cmp.{nat_cmp_is}}
+use Rattle.std.specs.{declared.cmp.Ordering.TheVariants.{Less}, BTreeSet.{insert_key}, Ordering.{nat_cmp}}
+use Rattle.sect_lemmas.proofs.{Membership.{Has-left, Has-right, Has-cases}, Inserting.{put_key}}
 use Rattle.sect_lemmas.specs.Lists.{Has}
-use Rattle.sect_lemmas.proofs.Inserting.{put_key}
 
 -- one node more waits
 pub put_node : (nodes : List ℕ) (n m : ℕ) → Has (insert_key nat_cmp nodes n) m ↔ (Has nodes m ⊎ (m ≡ n))

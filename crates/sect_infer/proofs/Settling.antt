@@ -1,23 +1,15 @@
 -- The worklist: what it keeps, where it ends, and that it ends.
 use Rattle.std.proofs.Common.{◌≡◌, ◌↔◌, ◌⊎◌, inl, inr, ℕ, zero, suc, ◌<◌, List, [], ◌∷◌, ◌++◌, Some, Bool, true, false}
-use Rattle.std.proofs.Common.{length, refl, sym, ap, ◌∙◌, subst, arith, true≢false}
+use Rattle.std.proofs.{Common.{length, refl, sym, ap, ◌∙◌, subst, arith, true≢false}, lemmas.Bool.{cases_eq}}
+use Rattle.std.proofs.{lemmas.List.{append-nil}, lemmas.Option.{slice_get_within}}
 use Rattle.std.specs.Prelude.{slice_get, slice_index_or}
-use Rattle.std.proofs.lemmas.Bool.{cases_eq}
-use Rattle.std.proofs.lemmas.List.{append-nil}
-use Rattle.std.proofs.lemmas.Option.{slice_get_within}
 use Rattle.sect_lemmas.specs.Lists.{Has}
-use Rattle.sect_lemmas.proofs.Membership.{Has-left, Has-right}
-use Rattle.sect_graph.specs.declared.flow.Node.{Node}
-use Rattle.sect_graph.specs.Paths.{LeadsTo}
-use Rattle.sect_names.specs.declared.lock.Lock.{Lock}
-use Rattle.sect_names.specs.Schemes.{SchemeView}
-use Rattle.sect_names.specs.Locks.{IsLockOf}
+use Rattle.sect_lemmas.proofs.{Membership.{Has-left, Has-right}, Inserting.{behind}}
+use Rattle.sect_graph.specs.{declared.flow.Node.{Node}, Paths.{LeadsTo}, Predecessors.{AreBefore}}
+use Rattle.sect_names.specs.{declared.lock.Lock.{Lock}, Schemes.{SchemeView}, Locks.{IsLockOf}}
 use Rattle.sect_names.proofs.shared.Covering.{covers_trans}
-use Rattle.sect_lemmas.proofs.Inserting.{behind}
-use Rattle.sect_infer.specs.Numbers.{AreApart}
+use Rattle.sect_infer.specs.{Numbers.{AreApart}, Numberings.{NumberingView, HasLock}}
 use Rattle.sect_infer.specs.steps.Needs.{Need, need, Derived, IsDerived, AreLawful}
-use Rattle.sect_graph.specs.Predecessors.{AreBefore}
-use Rattle.sect_infer.specs.Numberings.{NumberingView, HasLock}
 use Rattle.sect_infer.specs.steps.Working.{IsFoundAt, IsCoveredAt, IsDue, AreLawfulAt, IsVisit, IsWorking, IsBegun}
 use Rattle.sect_infer.specs.steps.Working.{IsSettled}
 use Rattle.sect_infer.proofs.Extending.{extends_lock}

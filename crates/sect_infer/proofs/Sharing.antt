@@ -1,18 +1,13 @@
 -- Locks of sections that workers have found, put in their places.
 use Rattle.std.proofs.Common.{◌≡◌, ◌⊎◌, ℕ, zero, suc, ◌+◌, ◌<◌, List, [], ◌∷◌, ◌++◌, Option, Some, length, slice_get}
 use Rattle.std.proofs.Common.{slice_set, refl, sym, ap, ◌∙◌, subst, arith, inl, inr, ◌%◌, Bool, append-nil, add-zero}
-use Rattle.std.proofs.Common.{add-one, zero-add}
-use Rattle.std.proofs.lemmas.List.{length-set, map-append}
-use Rattle.std.specs.Prelude.{◌==◌, filter}
-use Rattle.std.specs.List.{range_with_len}
-use Rattle.std.proofs.lemmas.Bool.{eq-eqb, ne_eqb}
+use Rattle.std.proofs.{Common.{add-one, zero-add}, lemmas.List.{length-set, map-append}, lemmas.Bool.{eq-eqb, ne_eqb}}
 use Rattle.std.proofs.lemmas.List.Elements.{filter-append}
+use Rattle.std.specs.{Prelude.{◌==◌, filter}, List.{range_with_len}}
 use Rattle.sect_types.specs.Sections.{sections_of}
-use Rattle.sect_lemmas.proofs.Options.{some_injective, none_or_some}
-use Rattle.sect_lemmas.proofs.Places.{pushed_at}
+use Rattle.sect_lemmas.proofs.{Options.{some_injective, none_or_some}, Places.{pushed_at}}
 use Rattle.sect_names.specs.Schemes.{SchemeView}
-use Rattle.sect_infer.specs.Sets.{LocksView, AreInferredAt}
-use Rattle.sect_infer.specs.declared.workers.SectionLocks.{SectionLocks}
+use Rattle.sect_infer.specs.{Sets.{LocksView, AreInferredAt}, declared.workers.SectionLocks.{SectionLocks}}
 use Rattle.sect_infer.specs.steps.Sharing.{AreFound, AreInPlace, dealt, sections_in}
 
 -- one more is found

@@ -1,17 +1,11 @@
 -- A node takes over what is known behind it, and more is found then.
 use Rattle.std.proofs.Common.{◌≡◌, inl, inr, ℕ, ◌<◌, List, [], ◌++◌, Some, Bool, true, false, set, length, length-set}
-use Rattle.std.proofs.Common.{refl, sym, ap, ◌∙◌, subst}
+use Rattle.std.proofs.{Common.{refl, sym, ap, ◌∙◌, subst}, lemmas.Bool.{cases_eq}, lemmas.List.{set-set}}
 use Rattle.std.specs.Prelude.{slice_get, slice_index_or}
-use Rattle.std.proofs.lemmas.Bool.{cases_eq}
-use Rattle.std.proofs.lemmas.List.{set-set}
 use Rattle.sect_lemmas.proofs.Places.{one_at}
 use Rattle.sect_graph.specs.declared.flow.Node.{Node}
-use Rattle.sect_names.specs.declared.lock.Lock.{Lock}
-use Rattle.sect_names.specs.Schemes.{SchemeView}
-use Rattle.sect_names.specs.Locks.{IsLockOf}
-use Rattle.sect_names.specs.Carrying.{CarriedBack}
-use Rattle.sect_infer.specs.Numbers.{AreApart}
-use Rattle.sect_infer.specs.Numberings.{NumberingView, HasLock, AreNumbers}
+use Rattle.sect_names.specs.{declared.lock.Lock.{Lock}, Schemes.{SchemeView}, Locks.{IsLockOf}, Carrying.{CarriedBack}}
+use Rattle.sect_infer.specs.{Numbers.{AreApart}, Numberings.{NumberingView, HasLock, AreNumbers}}
 use Rattle.sect_infer.specs.steps.Working.{AreLawfulAt, AreNumbered, IsDue, IsTakenOver, IsVisit}
 use Rattle.sect_infer.proofs.Visiting.{here_is, other_is, each_is}
 

@@ -1,32 +1,24 @@
 -- A node is gone over.
 use Rattle.std.proofs.Common.{◌≡◌, ◌↔◌, ◌⊎◌, inl, inr, ℕ, zero, suc, ◌<◌, List, [], ◌∷◌, ◌++◌, Option, Some, None, Bool}
-use Rattle.std.proofs.Common.{true, false, not, ◌-◌, length, length-set, set, take, drop, refl, sym, ap}
-use Rattle.std.proofs.Common.{length-drop, ◌∙◌, subst, arith, true≢false, ◌==◌, rules}
-use Rattle.std.specs.Prelude.{slice_get, slice_index_or}
-use Rattle.std.proofs.lemmas.Bool.{cases_eq}
+use Rattle.std.proofs.Common.{true, false, not, ◌-◌, length, length-set, set, take, drop, refl, sym, ap, length-drop}
+use Rattle.std.proofs.{Common.{◌∙◌, subst, arith, true≢false, ◌==◌, rules}, lemmas.Bool.{cases_eq}}
 use Rattle.std.proofs.lemmas.List.{get_or-set_same, get_or-set_other, take_all}
+use Rattle.std.specs.Prelude.{slice_get, slice_index_or}
 use Rattle.sect_lemmas.specs.Lists.{Has}
-use Rattle.sect_lemmas.proofs.Membership.{Has-left, Has-right, Has-cases}
-use Rattle.sect_lemmas.proofs.Places.{one_at}
-use Rattle.sect_graph.specs.declared.flow.Node.{Node}
-use Rattle.sect_graph.specs.declared.flow.Successors.TheVariants.{Next, Branch}
+use Rattle.sect_lemmas.proofs.{Membership.{Has-left, Has-right, Has-cases}, Places.{one_at}}
+use Rattle.sect_graph.specs.{declared.flow.Node.{Node}, declared.flow.Successors.TheVariants.{Next, Branch}}
 use Rattle.sect_graph.specs.Paths.{LeadsTo, IsSuccessor}
-use Rattle.sect_names.specs.declared.lock.Lock.{Lock}
-use Rattle.sect_names.specs.Schemes.{SchemeView}
-use Rattle.sect_names.specs.Locks.{IsOutdone}
+use Rattle.sect_names.specs.{declared.lock.Lock.{Lock}, Schemes.{SchemeView}, Locks.{IsOutdone}}
 use Rattle.sect_names.specs.Carrying.{Generated, CarriedBack}
 use Rattle.sect_names.proofs.shared.Maximals.{covered}
 use Rattle.sect_infer.specs.Numbers.{with_numbers, AreApart}
 use Rattle.sect_infer.specs.Numberings.{NumberingView, HasLock, AreNumbers, IsFinding, Finds, is_under, fresh_from}
-use Rattle.sect_infer.specs.steps.Needs.{need, IsSeed}
-use Rattle.sect_infer.specs.steps.Working.{IsCarried, AreNumbered, IsVisit}
+use Rattle.sect_infer.specs.steps.{Needs.{need, IsSeed}, Working.{IsCarried, AreNumbered, IsVisit}}
 use Rattle.sect_infer.proofs.Extending.{extends_lock}
-use Rattle.sect_infer.proofs.shared.Extending.{extends_back, extends_numbers}
 use Rattle.sect_infer.proofs.Apart.{with_all_has, with_all_apart, apart_join, apart_back, apart_across, apart_filter}
-use Rattle.sect_infer.proofs.Apart.{Has-filter}
-use Rattle.sect_infer.proofs.Undone.{told_by}
-use Rattle.sect_infer.proofs.shared.Undone.{under_is}
+use Rattle.sect_infer.proofs.{Apart.{Has-filter}, Undone.{told_by}}
 use Rattle.sect_infer.proofs.Carrying.{CarriedOf, finds_none, finds_as, finds_then}
+use Rattle.sect_infer.proofs.shared.{Extending.{extends_back, extends_numbers}, Undone.{under_is}}
 
 module _ (s : SchemeView) (t : ℕ) (g : List Node) (j : ℕ) (y : Node) (at : slice_get g j ≡ Some y) where
   module _ (lists : List (List ℕ)) (a : NumberingView) where

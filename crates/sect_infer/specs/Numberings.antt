@@ -1,15 +1,11 @@
 -- Locks by their numbers in a numbering.
 use Rattle.std.specs.Prelude.{◌≡◌, ◌<◌, ◌⊎◌, ℕ, Bool, not, List, [], filter, ◌++◌, Some, length, map, slice_get}
-use Rattle.std.specs.Prelude.{slice_index_or}
-use Rattle.std.specs.List.{list_any}
+use Rattle.std.specs.{Prelude.{slice_index_or}, List.{list_any}}
 use Rattle.sect_lemmas.specs.Lists.{Has}
 use Rattle.sect_points.specs.Paths.{PathView}
-use Rattle.sect_names.specs.declared.lock.Effect.TheVariants as effect
-use Rattle.sect_names.specs.declared.lock.Lock.{Lock}
-use Rattle.sect_names.specs.Schemes.{SchemeView}
-use Rattle.sect_names.specs.Climbing.{IsAbove}
-use Rattle.sect_names.specs.Order.{AreInOrder}
+use Rattle.sect_names.specs.{declared.lock.Lock.{Lock}, Schemes.{SchemeView}, Climbing.{IsAbove}, Order.{AreInOrder}}
 use Rattle.sect_infer.specs.Numbers.{has_number, AreApart}
+use Rattle.sect_names.specs.declared.lock.Effect.TheVariants as effect
 use Rattle.sect_names.specs.declared.lock.Lock.TheVariants as lock
 
 -- a lock's number is its place among the keys; for each, the numbers of those that are above it

@@ -1,14 +1,10 @@
 -- The locks of a section, and of all sections. `infer` and `infer_all` say so of what they give.
 use Rattle.std.specs.Prelude.{◌≡◌, ℕ, ◌+◌, List, [], Some, slice_get, length}
 use Rattle.sect_lemmas.specs.Lists.{Has}
-use Rattle.sect_types.specs.Statements.{TextView}
-use Rattle.sect_types.specs.Sections.{SectionView, sections_of}
+use Rattle.sect_types.specs.{Statements.{TextView}, Sections.{SectionView, sections_of}}
 use Rattle.sect_graph.specs.declared.flow.Node.{Node}
-use Rattle.sect_names.specs.declared.lock.Lock.{Lock}
-use Rattle.sect_names.specs.Schemes.{SchemeView}
-use Rattle.sect_names.specs.Locks.{IsLockOf}
-use Rattle.sect_names.specs.Needed.{IsNeeded, IsNeededFrom, IsLeast, end_of}
-use Rattle.sect_names.specs.Order.{AreInOrder, AreMaximal}
+use Rattle.sect_names.specs.{declared.lock.Lock.{Lock}, Schemes.{SchemeView}, Locks.{IsLockOf}}
+use Rattle.sect_names.specs.{Needed.{IsNeeded, IsNeededFrom, IsLeast, end_of}, Order.{AreInOrder, AreMaximal}}
 use Rattle.std.proofs.Common.{◌≡◌, ℕ, ◌+◌, List, Some, length, slice_get}
 
 -- the locks at each node of a section's graph, the exit too, and those that are taken at its entry

@@ -1,9 +1,7 @@
 //! What is found to be needed at a node because of what is needed where control may go on.
 
 ghost use Rattle.std.specs.Prelude.{◌≡◌, ◌<◌, length, slice_get, Some, OnOk};
-ghost use Rattle.sect_names.specs.declared.lock.Lock.{Lock};
-ghost use Rattle.sect_names.specs.Locks.{IsLockOf};
-ghost use Rattle.sect_names.specs.Carrying.{CarriedBack};
+ghost use Rattle.sect_names.specs.{declared.lock.Lock.{Lock}, Locks.{IsLockOf}, Carrying.{CarriedBack}};
 ghost use Rattle.sect_lemmas.specs.Lists.{Has};
 ghost use Rattle.sect_infer.specs.Numberings.{HasLock, AreNumbers, IsFinding, Finds};
 

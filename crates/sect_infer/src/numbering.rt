@@ -1,18 +1,17 @@
 //! Locks by their numbers.
 
-ghost use Rattle.std.specs.Prelude.{◌≡◌, ◌↔◌, ◌<◌, ◌||◌, ℕ, ◌++◌, ◌∷◌, length, slice_get, [], Some, IfOk, OnOk};
-ghost use Rattle.std.specs.Prelude.{IsTrue, IsFalse, MatchOption};
+ghost use Rattle.std.specs.Prelude.{◌≡◌, ◌↔◌, ◌<◌, ◌||◌, ℕ, ◌++◌, ◌∷◌, length, slice_get, [], Some, IfOk, OnOk, IsTrue};
+ghost use Rattle.std.specs.Prelude.{IsFalse, MatchOption};
 ghost use Rattle.sect_lemmas.specs.Lists.{Has};
 ghost use Rattle.sect_points.specs.Partitions.{HasClass};
-ghost use Rattle.sect_names.specs.declared.lock.Effect.TheVariants as effect;
-ghost use Rattle.sect_names.specs.declared.lock.Right.TheVariants as right;
-ghost use Rattle.sect_names.specs.declared.lock.Lock.{Lock};
-ghost use Rattle.sect_names.specs.declared.lock.Lock.TheVariants as lock;
-ghost use Rattle.sect_names.specs.Schemes.{SchemeView};
+ghost use Rattle.sect_names.specs.{declared.lock.Lock.{Lock}, Schemes.{SchemeView}};
 ghost use Rattle.sect_infer.specs.Numbers.{has_number};
 ghost use Rattle.sect_infer.specs.Numberings.{AreAbove, AreAboveRead, IsToWrite, IsNumbering, IsNumberingOfSome};
 ghost use Rattle.sect_infer.specs.Numberings.{IsNumbered, is_under};
 ghost use Rattle.sect_infer.specs.steps.Putting.{IsPut, IsTold};
+ghost use Rattle.sect_names.specs.declared.lock.Effect.TheVariants as effect;
+ghost use Rattle.sect_names.specs.declared.lock.Right.TheVariants as right;
+ghost use Rattle.sect_names.specs.declared.lock.Lock.TheVariants as lock;
 
 use crate::numbers::{Numbers, has};
 use indexmap::IndexSet;

@@ -2,8 +2,7 @@
 
 ghost use Rattle.std.specs.Prelude.{◌≡◌, ◌<◌, ◌↔◌, ℕ, Some, length, map, slice_get, IfOk};
 ghost use Rattle.sect_lemmas.specs.Lists.{Has};
-ghost use Rattle.sect_infer.specs.Numbers.{AreApart};
-ghost use Rattle.sect_infer.specs.Numberings.{AreNumbers, IsOrderOf};
+ghost use Rattle.sect_infer.specs.{Numbers.{AreApart}, Numberings.{AreNumbers, IsOrderOf}};
 ghost use Rattle.sect_infer.specs.declared.order.NumberedLock.{NumberedLock};
 
 use crate::numbering::Numbering;

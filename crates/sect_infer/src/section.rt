@@ -4,11 +4,8 @@ ghost use Rattle.std.specs.Prelude.{◌≡◌, ◌<◌, ◌+◌, ℕ, List, leng
 ghost use Rattle.sect_lemmas.specs.Lists.{Has};
 ghost use Rattle.sect_types.specs.Sections.{SectionView, sections_of};
 ghost use Rattle.sect_graph.specs.declared.flow.Node.{Node};
-ghost use Rattle.sect_names.specs.declared.lock.Lock.{Lock};
-ghost use Rattle.sect_names.specs.Locks.{IsLockOf};
-ghost use Rattle.sect_names.specs.Needed.{end_of};
-ghost use Rattle.sect_infer.specs.steps.Needs.{AreLawful};
-ghost use Rattle.sect_infer.specs.steps.Found.{IsFound, IsOnAll};
+ghost use Rattle.sect_names.specs.{declared.lock.Lock.{Lock}, Locks.{IsLockOf}, Needed.{end_of}};
+ghost use Rattle.sect_infer.specs.steps.{Needs.{AreLawful}, Found.{IsFound, IsOnAll}};
 ghost use Rattle.sect_infer.specs.Sets.{AreLocksOf, AreUnmarkedAt};
 
 use crate::lists::Lists;

@@ -1,8 +1,7 @@
 //! The nodes that wait to be gone over.
 
 ghost use Rattle.std.specs.Prelude.{◌≡◌, ◌↔◌, ◌<◌, ◌⊎◌, ◌++◌, ◌∷◌, [], ℕ, OnOk, MatchOption};
-ghost use Rattle.std.specs.List.Sorted.{IsStrictlySortedBy};
-ghost use Rattle.std.specs.Ordering.{nat_cmp};
+ghost use Rattle.std.specs.{List.Sorted.{IsStrictlySortedBy}, Ordering.{nat_cmp}};
 ghost use Rattle.sect_lemmas.specs.Lists.{Has};
 
 use std::alloc::{AllocError, Global};

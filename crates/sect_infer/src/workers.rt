@@ -1,9 +1,7 @@
 //! The locks of all sections, by several workers.
 
-ghost use Rattle.std.specs.Prelude.{◌≡◌, ◌<◌, ◌↔◌, ℕ, Some, length, slice_set};
-ghost use Rattle.std.specs.Prelude.{IfOk, IfErr, OnOk, IsErrOf};
-ghost use Rattle.sect_infer.specs.Sets.{AreAllInferred};
-ghost use Rattle.sect_infer.specs.Workers.{most_workers, AreOffered, AreRefused};
+ghost use Rattle.std.specs.Prelude.{◌≡◌, ◌<◌, ◌↔◌, ℕ, Some, length, slice_set, IfOk, IfErr, OnOk, IsErrOf};
+ghost use Rattle.sect_infer.specs.{Sets.{AreAllInferred}, Workers.{most_workers, AreOffered, AreRefused}};
 ghost use Rattle.sect_infer.specs.declared.workers.InferFault.TheVariants.{BadWorkers};
 ghost use Rattle.sect_infer.specs.steps.Sharing.{AreFound, IsShare, AreInPlace, AreOf};
 

@@ -1,15 +1,11 @@
 -- Values that are told by their number, list after list.
-use Rattle.std.proofs.Common.{◌≢◌, ◌<◌, ◌-◌, zero, suc, take, get_or}
-use Rattle.std.proofs.Common.{◌≡◌, ℕ, ◌+◌, List, [], ◌∷◌, ◌++◌, length, length-append, map, refl, sym, ap, ◌∙◌, arith}
-use Rattle.std.specs.List.{flat_map}
-use Rattle.std.proofs.lemmas.Grind.{flat_map-append}
+use Rattle.std.proofs.Common.{◌≢◌, ◌<◌, ◌-◌, zero, suc, take, get_or, ◌≡◌, ℕ, ◌+◌, List, [], ◌∷◌, ◌++◌, length}
+use Rattle.std.proofs.{Common.{length-append, map, refl, sym, ap, ◌∙◌, arith}, lemmas.Grind.{flat_map-append}}
 use Rattle.std.proofs.lemmas.List.{append_assoc, append-nil, length-map, take_more}
+use Rattle.std.specs.List.{flat_map}
 use Rattle.sect_places.specs.declared.name_use.NameSpan.{NameSpan}
-use Rattle.sect_json.specs.Calls.{calls_at, calls_within}
-use Rattle.serde_json.specs.Data.{Data}
-use Rattle.serde_json.specs.View.{view}
-use Rattle.serde_json.specs.declared.value.Value.{Value}
-use Rattle.sect_json.specs.Values.{by_place}
+use Rattle.sect_json.specs.{Calls.{calls_at, calls_within}, Values.{by_place}}
+use Rattle.serde_json.specs.{Data.{Data}, View.{view}, declared.value.Value.{Value}}
 
 -- what the first elements give, and the next
 pub flat_taken : {A : Type 0} (of : A → List A) (xs : List A) (n : ℕ) (x : A) → n < length xs → x ≡ get_or xs n x

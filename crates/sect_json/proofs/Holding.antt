@@ -1,17 +1,12 @@
 -- What locals and fields may refer to, by tests.
 use Rattle.std.proofs.Common.{◌≡◌, ◌↔◌, ◌+◌, ◌*◌, ℕ, Bool, slice_index}
-use Rattle.std.specs.Prelude.{IsTrue, ◌/◌, ◌%◌, nat_lt, slice_index_or}
-use Rattle.std.specs.Bool.{Decides}
-use Rattle.std.specs.Int.{bit_at}
 use Rattle.std.proofs.lemmas.Bool.Decides.{same_from_decides, Decides-and, Decides-eqb, Decides-ltb}
+use Rattle.std.specs.{Prelude.{IsTrue, ◌/◌, ◌%◌, nat_lt, slice_index_or}, Bool.{Decides}, Int.{bit_at}}
 use Rattle.sect_types.specs.Limits.{most_fields}
-use Rattle.sect_points.specs.Rows.{no_sites}
-use Rattle.sect_points.specs.Sets.{PointsToView, InSets}
-use Rattle.sect_points.specs.Sites.{HasSite}
-use Rattle.sect_points.specs.declared.holders.Holder.{Holder}
-use Rattle.sect_points.specs.declared.holders.Holder.TheVariants as holder
-use Rattle.sect_points.specs.declared.sites.SiteSet.{SiteSet}
+use Rattle.sect_points.specs.{Rows.{no_sites}, Sets.{PointsToView, InSets}, Sites.{HasSite}}
+use Rattle.sect_points.specs.{declared.holders.Holder.{Holder}, declared.sites.SiteSet.{SiteSet}}
 use Rattle.sect_json.specs.Sites.{has_bit, may_hold}
+use Rattle.sect_points.specs.declared.holders.Holder.TheVariants as holder
 
 bit_decides : (set : SiteSet) (s : ℕ) → Decides (has_bit set s) (HasSite set.words s)
 bit_decides set s = Decides-eqb (bit_at (slice_index set.words (s / 64)) (s % 64)) 1

@@ -1,16 +1,12 @@
 -- Locks and their texts.
-use Rattle.std.proofs.Common.{◌≡◌, ◌↔◌, ◌∙◌, ℕ, List, [], ◌∷◌, ◌++◌, Some, Bool, true, false, map, ◌<◌, length}
-use Rattle.std.proofs.Common.{refl, sym, ap}
-use Rattle.std.specs.Prelude.{slice_get, if◌then◌else◌, option_map}
-use Rattle.std.specs.List.{list_any}
-use Rattle.std.proofs.lemmas.List.{map-append}
-use Rattle.std.proofs.lemmas.Option.{slice_get-map, slice_get_within}
+use Rattle.std.proofs.Common.{◌≡◌, ◌↔◌, ◌∙◌, ℕ, List, [], ◌∷◌, ◌++◌, Some, Bool, true, false, map, ◌<◌, length, refl}
+use Rattle.std.proofs.{Common.{sym, ap}, lemmas.List.{map-append}, lemmas.Option.{slice_get-map, slice_get_within}}
+use Rattle.std.specs.{Prelude.{slice_get, if◌then◌else◌, option_map}, List.{list_any}}
 use Rattle.serde_json.specs.Written.{compact_text}
 use Rattle.sect_front.specs.TreeView.{TreeView}
 use Rattle.sect_lemmas.specs.Lists.{Has}
 use Rattle.sect_lemmas.proofs.Finding.{any_tells}
-use Rattle.sect_names.specs.declared.lock.Lock.{Lock}
-use Rattle.sect_names.specs.contracts.lock.LockPartialEq.TheImpl.{ghosts as the_lock_eq}
+use Rattle.sect_names.specs.{declared.lock.Lock.{Lock}, contracts.lock.LockPartialEq.TheImpl.{ghosts as the_lock_eq}}
 use Rattle.sect_names.proofs.shared.Telling.{lock_tells}
 use Rattle.sect_json.specs.Locks.{lock_json}
 

@@ -1,10 +1,7 @@
 -- Values without floats.
-use Rattle.std.proofs.Common.{◌≡◌, ℕ, ◌+◌, List, [], ◌∷◌, ◌++◌, map, false, refl}
+use Rattle.std.proofs.{Common.{◌≡◌, ℕ, ◌+◌, List, [], ◌∷◌, ◌++◌, map, false, refl}, lemmas.Bool.{or_from, or_parts}}
 use Rattle.std.specs.Prelude.{ℤ, pos, negsuc}
-use Rattle.std.proofs.lemmas.Bool.{or_from, or_parts}
-use Rattle.serde_json.specs.Data.{Data}
-use Rattle.serde_json.specs.View.{items_of}
-use Rattle.serde_json.specs.Written.{has_float, items_have_float}
+use Rattle.serde_json.specs.{Data.{Data}, View.{items_of}, Written.{has_float, items_have_float}}
 use Rattle.sect_json.specs.Values.{integer, by_place, all_by_place}
 
 -- the value has none

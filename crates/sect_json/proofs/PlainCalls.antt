@@ -1,11 +1,9 @@
 -- Procedures and calls as JSON have no float.
-use Rattle.std.proofs.Common.{ℕ, List, refl}
-use Rattle.std.proofs.lemmas.Bool.{or_from}
+use Rattle.std.proofs.{Common.{ℕ, List, refl}, lemmas.Bool.{or_from}}
 use Rattle.sect_front.specs.declared.tree.Procedure.{Procedure}
 use Rattle.sect_places.specs.declared.name_use.NameSpan.{NameSpan}
 use Rattle.sect_json.specs.Calls.{procedure_json, from_item, calls_within, call_json, calls_json, thread_item}
-use Rattle.sect_json.proofs.Plain.{IsPlain, plain_by_place}
-use Rattle.sect_json.proofs.PlainSites.{plain_bytes}
+use Rattle.sect_json.proofs.{Plain.{IsPlain, plain_by_place}, PlainSites.{plain_bytes}}
 
 module _ (source : List ℕ) (names : List NameSpan) where
   pub plain_procedure : (p : Procedure) → IsPlain (procedure_json source names p)

@@ -1,22 +1,15 @@
 -- The document of a compiled program has no float.
-use Rattle.std.proofs.Common.{ℕ, Option, Some, None, length, refl}
-use Rattle.std.specs.Prelude.{slice_get, slice_index_or, option_map, [], ◌+◌}
-use Rattle.std.specs.List.{range_with_len}
-use Rattle.std.proofs.lemmas.Bool.{or_from}
+use Rattle.std.proofs.{Common.{ℕ, Option, Some, None, length, refl}, lemmas.Bool.{or_from}}
+use Rattle.std.specs.{Prelude.{slice_get, slice_index_or, option_map, [], ◌+◌}, List.{range_with_len}}
 use Rattle.sect_types.specs.Sections.{sections_of}
-use Rattle.sect_graph.specs.declared.flow.Successors.{Successors}
-use Rattle.sect_graph.specs.declared.flow.Successors.TheVariants.{Next, Branch}
-use Rattle.sect_emit.specs.Compiled.{CompiledView, program_of}
-use Rattle.sect_emit.specs.Graphed.{graphed_nodes}
-use Rattle.sect_emit.specs.declared.graphs.GraphOf.{GraphOf}
-use Rattle.sect_emit.specs.declared.graphs.GraphOf.TheVariants as graphed
-use Rattle.sect_emit.specs.declared.plan.Grip.{Grip}
+use Rattle.sect_graph.specs.{declared.flow.Successors.{Successors}, declared.flow.Successors.TheVariants.{Next, Branch}}
+use Rattle.sect_emit.specs.{Compiled.{CompiledView, program_of}, Graphed.{graphed_nodes}}
+use Rattle.sect_emit.specs.{declared.graphs.GraphOf.{GraphOf}, declared.plan.Grip.{Grip}}
 use Rattle.sect_json.specs.Nodes.{next_json, next_at, node_json, nodes_json}
 use Rattle.sect_json.specs.Compiling.{grip_json, set_json, plan_json, section_json, thread_json, compiled_json}
 use Rattle.sect_json.specs.Locks.{lock_json}
-use Rattle.sect_json.proofs.Plain.{IsPlain, plain_map}
-use Rattle.sect_json.proofs.PlainKeys.{plain_key}
-use Rattle.sect_json.proofs.PlainLocks.{plain_lock}
+use Rattle.sect_json.proofs.{Plain.{IsPlain, plain_map}, PlainKeys.{plain_key}, PlainLocks.{plain_lock}}
+use Rattle.sect_emit.specs.declared.graphs.GraphOf.TheVariants as graphed
 
 plain_next : (next : Option Successors) → IsPlain (next_json next)
 plain_next None = refl

@@ -1,13 +1,10 @@
 -- The document of pairs of sections has no float.
-use Rattle.std.proofs.Common.{ℕ, List, refl}
-use Rattle.std.proofs.lemmas.Bool.{or_from}
+use Rattle.std.proofs.{Common.{ℕ, List, refl}, lemmas.Bool.{or_from}}
 use Rattle.sect_types.specs.Programs.{ProgramView}
-use Rattle.sect_conflicts.specs.declared.conflict.SectionPair.{SectionPair}
-use Rattle.sect_conflicts.specs.declared.conflict.Conflict.{Conflict}
+use Rattle.sect_conflicts.specs.{declared.conflict.SectionPair.{SectionPair}, declared.conflict.Conflict.{Conflict}}
 use Rattle.sect_conflicts.specs.declared.conflict.Conflict.TheVariants.{Always, Sometimes, Never}
 use Rattle.sect_json.specs.Conflicts.{path_pair_json, conflict_json, section_pair_json, conflicts_json}
-use Rattle.sect_json.proofs.Plain.{IsPlain, plain_map}
-use Rattle.sect_json.proofs.PlainKeys.{plain_key}
+use Rattle.sect_json.proofs.{Plain.{IsPlain, plain_map}, PlainKeys.{plain_key}}
 
 module _ (p : ProgramView) where
   plain_conflict : (i j : ℕ) (conflict : Conflict) → IsPlain (conflict_json p i j conflict)

@@ -1,11 +1,9 @@
 -- The document of chains has no float.
-use Rattle.std.proofs.Common.{ℕ, List, map, refl}
-use Rattle.std.proofs.lemmas.Bool.{or_from}
+use Rattle.std.proofs.{Common.{ℕ, List, map, refl}, lemmas.Bool.{or_from}}
 use Rattle.sect_names.specs.declared.link.Link.{Link}
 use Rattle.sect_emit.specs.Compiled.{CompiledView, program_of}
 use Rattle.sect_json.specs.Explaining.{step_json, chain_json, explained_json, explanation_json}
-use Rattle.sect_json.proofs.Plain.{IsPlain, ArePlain, plain_map, plain_by_place}
-use Rattle.sect_json.proofs.PlainLocks.{plain_lock}
+use Rattle.sect_json.proofs.{Plain.{IsPlain, ArePlain, plain_map, plain_by_place}, PlainLocks.{plain_lock}}
 
 module _ (c : CompiledView) where
   plain_step : (i : ℕ) (a : Link) → IsPlain (step_json c i a)

@@ -1,25 +1,17 @@
 -- What is known of a program has no float.
-use Rattle.std.proofs.Common.{ℕ, List, length, map, refl}
-use Rattle.std.specs.Prelude.{◌+◌, slice_get}
-use Rattle.std.specs.List.{range_with_len}
-use Rattle.std.proofs.lemmas.Bool.{or_from}
+use Rattle.std.proofs.{Common.{ℕ, List, length, map, refl}, lemmas.Bool.{or_from}}
+use Rattle.std.specs.{Prelude.{◌+◌, slice_get}, List.{range_with_len}}
 use Rattle.sect_front.specs.declared.tree.Locking.{Locking}
-use Rattle.sect_front.specs.declared.tree.Locking.TheVariants as locking
-use Rattle.sect_places.specs.declared.name_use.NameSpan.{NameSpan}
-use Rattle.sect_places.specs.declared.origin_spans.NodeSpan.{NodeSpan}
+use Rattle.sect_places.specs.{declared.name_use.NameSpan.{NameSpan}, declared.origin_spans.NodeSpan.{NodeSpan}}
 use Rattle.sect_places.specs.NodeSpans.{NodeSpansView}
-use Rattle.sect_emit.specs.Compiled.{CompiledView, program_of}
-use Rattle.sect_emit.specs.Graphed.{graphed_nodes}
-use Rattle.sect_emit.specs.Labels.{thread_name}
-use Rattle.sect_emit.specs.declared.graphs.GraphOf.TheVariants as graphed
-use Rattle.sect_json.specs.Inspecting.{origin_json, spans_at, thread_node_json}
-use Rattle.sect_json.specs.Inspecting.{is_all, thread_json}
-use Rattle.sect_json.specs.steps.Inspected.{rest_with}
+use Rattle.sect_emit.specs.{Compiled.{CompiledView, program_of}, Graphed.{graphed_nodes}, Labels.{thread_name}}
+use Rattle.sect_json.specs.Inspecting.{origin_json, spans_at, thread_node_json, is_all, thread_json}
 use Rattle.sect_json.specs.Sites.{place_of, call_of, sites_json}
-use Rattle.sect_json.proofs.Plain.{IsPlain, plain_map}
-use Rattle.sect_json.proofs.PlainCompiling.{plain_next_at}
-use Rattle.sect_json.proofs.PlainCalls.{plain_calls}
+use Rattle.sect_json.specs.steps.Inspected.{rest_with}
+use Rattle.sect_json.proofs.{Plain.{IsPlain, plain_map}, PlainCompiling.{plain_next_at}, PlainCalls.{plain_calls}}
 use Rattle.sect_json.proofs.PlainSites.{plain_bytes, plain_locals, plain_sites}
+use Rattle.sect_front.specs.declared.tree.Locking.TheVariants as locking
+use Rattle.sect_emit.specs.declared.graphs.GraphOf.TheVariants as graphed
 
 plain_origin : (source : List ℕ) (spans : List NodeSpan) (n : ℕ) → IsPlain (origin_json source spans n)
 plain_origin source spans n =

@@ -1,11 +1,10 @@
 -- The document of lock sets has no float.
-use Rattle.std.proofs.Common.{ℕ, List, refl}
-use Rattle.std.proofs.lemmas.Bool.{or_from}
+use Rattle.std.proofs.{Common.{ℕ, List, refl}, lemmas.Bool.{or_from}}
 use Rattle.sect_front.specs.TreeView.{TreeView}
 use Rattle.sect_names.specs.declared.lock.Lock.{Lock}
-use Rattle.sect_names.specs.declared.lock.Lock.TheVariants as lock
 use Rattle.sect_json.specs.Locks.{lock_json, section_json, locks_json}
 use Rattle.sect_json.proofs.Plain.{IsPlain, plain_map, plain_by_place}
+use Rattle.sect_names.specs.declared.lock.Lock.TheVariants as lock
 
 module _ (t : TreeView) where
   pub plain_lock : (l : Lock) → IsPlain (lock_json t l)

@@ -1,8 +1,6 @@
 -- Objects as JSON have no float.
-use Rattle.std.proofs.Common.{ℕ, List, refl}
-use Rattle.std.proofs.lemmas.Bool.{or_from}
-use Rattle.sect_types.specs.Programs.{ProgramView}
-use Rattle.sect_types.specs.Store.{ObjectView, StoreView}
+use Rattle.std.proofs.{Common.{ℕ, List, refl}, lemmas.Bool.{or_from}}
+use Rattle.sect_types.specs.{Programs.{ProgramView}, Store.{ObjectView, StoreView}}
 use Rattle.sect_types.specs.declared.meaning.store.ObjectName.TheVariants.{Global, Made}
 use Rattle.sect_types.specs.declared.meaning.store.Datum.{Datum}
 use Rattle.sect_types.specs.declared.meaning.store.Datum.TheVariants.{Number, Null, Refers}

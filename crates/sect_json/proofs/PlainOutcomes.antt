@@ -1,14 +1,10 @@
 -- The document of outcomes has no float.
-use Rattle.std.proofs.Common.{refl}
-use Rattle.std.proofs.lemmas.Bool.{or_from}
+use Rattle.std.proofs.{Common.{refl}, lemmas.Bool.{or_from}}
 use Rattle.sect_types.specs.Programs.{ProgramView}
 use Rattle.sect_store.specs.Outcomes.{OutcomeView}
-use Rattle.sect_serial.specs.Judging.{outcome_of}
-use Rattle.sect_serial.specs.Exploring.{OutcomesView}
-use Rattle.sect_json.specs.Values.{count, integer}
-use Rattle.sect_json.specs.Outcomes.{thread_json, outcome_json, found_json, outcomes_json}
-use Rattle.sect_json.proofs.Plain.{IsPlain, plain_map, plain_integer}
-use Rattle.sect_json.proofs.PlainObjects.{plain_objects}
+use Rattle.sect_serial.specs.{Judging.{outcome_of}, Exploring.{OutcomesView}}
+use Rattle.sect_json.specs.{Values.{count, integer}, Outcomes.{thread_json, outcome_json, found_json, outcomes_json}}
+use Rattle.sect_json.proofs.{Plain.{IsPlain, plain_map, plain_integer}, PlainObjects.{plain_objects}}
 
 module _ (p : ProgramView) where
   pub plain_outcome : (o : OutcomeView) → IsPlain (outcome_json p o)

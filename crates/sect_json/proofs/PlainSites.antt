@@ -1,31 +1,23 @@
 -- Sites as JSON have no float.
-use Rattle.std.proofs.Common.{ℕ, List, [], ◌∷◌, Option, Some, None, refl, sym, subst}
-use Rattle.std.specs.List.{flat_map, range_with_len}
-use Rattle.std.specs.Prelude.{length, slice_get, slice_index_or, option_map, filter}
-use Rattle.std.proofs.lemmas.Bool.{or_from}
+use Rattle.std.proofs.{Common.{ℕ, List, [], ◌∷◌, Option, Some, None, refl, sym, subst}, lemmas.Bool.{or_from}}
+use Rattle.std.specs.{List.{flat_map, range_with_len}, Prelude.{length, slice_get, slice_index_or, option_map, filter}}
 use Rattle.serde_json.specs.Data.{Data}
-use Rattle.sect_front.specs.declared.span.Span.{Span}
-use Rattle.sect_front.specs.declared.tree.GlobalObject.{GlobalObject}
-use Rattle.sect_types.specs.declared.expansion.action.Label.{Label}
-use Rattle.sect_types.specs.declared.expansion.action.Label.TheVariants as label
-use Rattle.sect_types.specs.declared.expansion.action.Action.TheVariants as action
+use Rattle.sect_front.specs.{declared.span.Span.{Span}, declared.tree.GlobalObject.{GlobalObject}}
+use Rattle.sect_types.specs.{declared.expansion.action.Label.{Label}, Sections.{sections_of}}
 use Rattle.sect_graph.specs.declared.flow.Node.{Node}
-use Rattle.sect_points.specs.Sets.{PointsToView}
-use Rattle.sect_points.specs.declared.holders.Holder.{Holder}
-use Rattle.sect_points.specs.declared.holders.Holder.TheVariants as holder
-use Rattle.sect_places.specs.declared.name_use.NameSpan.{NameSpan}
-use Rattle.sect_places.specs.declared.origin_spans.NodeSpan.{NodeSpan}
+use Rattle.sect_points.specs.{Sets.{PointsToView}, declared.holders.Holder.{Holder}}
+use Rattle.sect_places.specs.{declared.name_use.NameSpan.{NameSpan}, declared.origin_spans.NodeSpan.{NodeSpan}}
 use Rattle.sect_store.specs.Printing.{fields_at}
-use Rattle.sect_emit.specs.Compiled.{CompiledView, program_of}
-use Rattle.sect_emit.specs.Graphed.{graphed_nodes}
-use Rattle.sect_emit.specs.declared.graphs.GraphOf.TheVariants as graphed
-use Rattle.sect_types.specs.Sections.{sections_of}
+use Rattle.sect_emit.specs.{Compiled.{CompiledView, program_of}, Graphed.{graphed_nodes}}
 use Rattle.sect_json.specs.Values.{count, by_place}
 use Rattle.sect_json.specs.Sites.{bytes_json, place_of, call_of, may_hold, held_json, field_json, fields_json}
-use Rattle.sect_json.specs.Sites.{local_json}
-use Rattle.sect_json.specs.Sites.{locals_json, global_json, made_json, sites_by, sites_at, section_sites}
+use Rattle.sect_json.specs.Sites.{local_json, locals_json, global_json, made_json, sites_by, sites_at, section_sites}
 use Rattle.sect_json.specs.Sites.{sites_json, class_sites, class_json, AreClasses}
 use Rattle.sect_json.proofs.Plain.{IsPlain, ArePlain, plain_map, plain_append, plain_by_place}
+use Rattle.sect_types.specs.declared.expansion.action.Label.TheVariants as label
+use Rattle.sect_types.specs.declared.expansion.action.Action.TheVariants as action
+use Rattle.sect_points.specs.declared.holders.Holder.TheVariants as holder
+use Rattle.sect_emit.specs.declared.graphs.GraphOf.TheVariants as graphed
 
 pub plain_bytes : (source : List ℕ) (s : Option Span) → IsPlain (bytes_json source s)
 plain_bytes source None = refl

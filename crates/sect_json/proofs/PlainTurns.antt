@@ -1,15 +1,12 @@
 -- The document of turns has no float.
-use Rattle.std.proofs.Common.{ℕ, List, refl}
-use Rattle.std.proofs.lemmas.Bool.{or_from}
+use Rattle.std.proofs.{Common.{ℕ, List, refl}, lemmas.Bool.{or_from}}
 use Rattle.sect_types.specs.Programs.{ProgramView}
 use Rattle.sect_store.specs.Outcomes.{OutcomeView}
 use Rattle.sect_world.specs.declared.event.Deed.{Deed}
 use Rattle.sect_world.specs.declared.event.Deed.TheVariants.{Local, Enter, Take, Begin, Again, Act, Leave}
 use Rattle.sect_world.specs.declared.event.Event.{Event}
 use Rattle.sect_json.specs.Turns.{deed_json, event_json, turn_json, turns_json}
-use Rattle.sect_json.proofs.Plain.{IsPlain, plain_map}
-use Rattle.sect_json.proofs.PlainKeys.{plain_key}
-use Rattle.sect_json.proofs.PlainOutcomes.{plain_outcome}
+use Rattle.sect_json.proofs.{Plain.{IsPlain, plain_map}, PlainKeys.{plain_key}, PlainOutcomes.{plain_outcome}}
 
 module _ (p : ProgramView) where
   plain_deed : (t : ℕ) (d : Deed) → IsPlain (deed_json p t d)

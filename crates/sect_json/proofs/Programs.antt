@@ -1,11 +1,8 @@
 -- A program as it is written.
 use Rattle.std.proofs.Common.{◌≡◌, ℕ, List, [], ◌∷◌, ◌++◌, codes, append_assoc, sym, ap, ◌∙◌}
-use Rattle.serde_json.specs.Data.{Data}
-use Rattle.serde_json.specs.Written.{compact_text}
-use Rattle.sect_json.specs.Values.{count, list}
-use Rattle.sect_json.specs.Inspecting.{inspection_with}
-use Rattle.sect_json.specs.steps.Inspected.{rest_with}
-use Rattle.sect_json.specs.steps.Writes.{name_text, member_text, tail_text}
+use Rattle.serde_json.specs.{Data.{Data}, Written.{compact_text}}
+use Rattle.sect_json.specs.{Values.{count, list}, Inspecting.{inspection_with}}
+use Rattle.sect_json.specs.steps.{Inspected.{rest_with}, Writes.{name_text, member_text, tail_text}}
 use Rattle.sect_json.proofs.Texts.{record_written, members_written, parts_written}
 
 -- what stands before the sections, the sections, and what stands behind them

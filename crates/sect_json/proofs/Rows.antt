@@ -1,23 +1,17 @@
 -- Lists of values that are made one by one.
-use Rattle.std.proofs.Common.{◌≡◌, ℕ, ◌+◌, List, [], ◌∷◌, ◌++◌, map, take, drop, Some, sym, ap, ◌∙◌}
-use Rattle.std.proofs.Common.{◌≤◌, length, length-append, refl, subst, arith, rules, inl, inr, Bool, true, false}
-use Rattle.std.proofs.Common.{if◌then◌else◌}
-use Rattle.std.specs.Prelude.{slice_get, Vec}
-use Rattle.std.specs.declared.alloc.Global.{Global}
+use Rattle.std.proofs.Common.{◌≡◌, ℕ, ◌+◌, List, [], ◌∷◌, ◌++◌, map, take, drop, Some, sym, ap, ◌∙◌, ◌≤◌, length}
+use Rattle.std.proofs.Common.{length-append, refl, subst, arith, rules, inl, inr, Bool, true, false, if◌then◌else◌}
 use Rattle.std.proofs.lemmas.List.{map-append, map-id, take_all, take_more, append_assoc, append-nil, drop_all}
-use Rattle.std.proofs.lemmas.Grind.{flat_map-append}
-use Rattle.std.proofs.lemmas.List.Elements.{filter-append}
+use Rattle.std.proofs.{lemmas.Grind.{flat_map-append}, lemmas.List.Elements.{filter-append}}
 use Rattle.std.proofs.lemmas.List.FromFn.{map-range_with_len_more}
 use Rattle.std.proofs.lemmas.Option.{slice_get_within, get_or_from_slice_get}
-use Rattle.std.specs.List.{range_with_len, flat_map, filter}
-use Rattle.sect_lemmas.proofs.Elements.{drop_next}
-use Rattle.serde_json.specs.Data.{Data, null, boolean}
-use Rattle.serde_json.specs.View.{view}
+use Rattle.std.specs.{Prelude.{slice_get, Vec}, declared.alloc.Global.{Global}, List.{range_with_len, flat_map, filter}}
+use Rattle.sect_lemmas.proofs.{Elements.{drop_next}, Places.{pushed_at}}
+use Rattle.serde_json.specs.{Data.{Data, null, boolean}, View.{view}}
 use Rattle.serde_json.specs.declared.value.Value.{Value, Null, Array, the_lemmas}
-use Rattle.serde_json.specs.declared.value.Value as value
 use Rattle.serde_json.proofs.Views.{view-Array}
-use Rattle.sect_lemmas.proofs.Places.{pushed_at}
 use Rattle.sect_json.specs.Values.{count, list, by_place, AreTold}
+use Rattle.serde_json.specs.declared.value.Value as value
 
 -- values without parts
 pub view_null : view Null ≡ null

@@ -1,8 +1,7 @@
 -- Two threads or sites of which the same is told are told alike.
 use Rattle.std.proofs.Common.{◌≡◌, ℕ, List, ap, ◌∙◌}
 use Rattle.serde_json.specs.Data.{Data}
-use Rattle.sect_json.specs.Inspecting.{ThreadTold, thread_with}
-use Rattle.sect_json.specs.Sites.{SiteTold, site_with}
+use Rattle.sect_json.specs.{Inspecting.{ThreadTold, thread_with}, Sites.{SiteTold, site_with}}
 
 abbrev threaded : Data → Data → List ℕ → Data → ThreadTold
 threaded a b c d = record { calls = a; locals = b; name = c; nodes = d }

@@ -1,28 +1,19 @@
 -- Sections as they are written.
 use Rattle.std.proofs.Common.{◌≡◌, ℕ, ◌+◌, List, [], ◌∷◌, ◌++◌, Some, map, drop, codes, append_assoc, sym, ap, ◌∙◌}
 use Rattle.std.specs.Prelude.{slice_get, slice_index_or}
-use Rattle.serde_json.specs.Data.{Data, string}
-use Rattle.serde_json.specs.Written.{compact_text}
+use Rattle.serde_json.specs.{Data.{Data, string}, Written.{compact_text}}
 use Rattle.sect_front.specs.declared.tree.Locking.TheVariants.{Inferred}
-use Rattle.sect_names.specs.declared.link.Link.{Link}
-use Rattle.sect_names.specs.declared.lock.Lock.{Lock}
-use Rattle.sect_places.specs.NodeSpans.{NodeSpansView}
-use Rattle.sect_places.specs.Spans.{no_span}
+use Rattle.sect_names.specs.{declared.link.Link.{Link}, declared.lock.Lock.{Lock}}
+use Rattle.sect_places.specs.{NodeSpans.{NodeSpansView}, Spans.{no_span}}
 use Rattle.sect_lint.specs.Json.{span_json}
-use Rattle.sect_emit.specs.Compiled.{CompiledView, program_of}
-use Rattle.sect_emit.specs.Explaining.{section_at}
-use Rattle.sect_emit.specs.Graphed.{graphed_deed}
-use Rattle.sect_emit.specs.declared.graphs.GraphOf.TheVariants as graphed
-use Rattle.sect_json.specs.Values.{count, list, by_place}
-use Rattle.sect_json.specs.Compiling.{set_json, plan_json}
-use Rattle.sect_json.specs.Explaining.{chain_json}
+use Rattle.sect_emit.specs.{Compiled.{CompiledView, program_of}, Explaining.{section_at}, Graphed.{graphed_deed}}
+use Rattle.sect_json.specs.{Values.{count, list, by_place}, Compiling.{set_json, plan_json}, Explaining.{chain_json}}
 use Rattle.sect_json.specs.Inspecting.{origin_json, spans_at, thread_node_with, section_node_json, is_all, section_json}
-use Rattle.sect_json.specs.Locks.{lock_json}
-use Rattle.sect_json.specs.Nodes.{next_at}
+use Rattle.sect_json.specs.{Locks.{lock_json}, Nodes.{next_at}}
 use Rattle.sect_json.specs.steps.Sectioned.{section_end}
 use Rattle.sect_json.specs.steps.Writes.{name_text, member_text, tail_text, comma_before, elements_from}
-use Rattle.sect_json.proofs.Rows.{rest_next}
-use Rattle.sect_json.proofs.Texts.{record_written, members_written, head_and_tail}
+use Rattle.sect_json.proofs.{Rows.{rest_next}, Texts.{record_written, members_written, head_and_tail}}
+use Rattle.sect_emit.specs.declared.graphs.GraphOf.TheVariants as graphed
 
 -- the node at a place behind those before it
 pub place_next : {A : Type 0} (of : ℕ → A → Data) (xs : List A) (n : ℕ) (x : A) → slice_get xs n ≡ Some x

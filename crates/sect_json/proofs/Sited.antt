@@ -1,16 +1,13 @@
 -- Names and fields that are there.
-use Rattle.std.proofs.Common.{◌≡◌, ◌≤◌, ◌<◌, ℕ, zero, suc, List, [], ◌∷◌, Option, Some, None, length, map, refl}
-use Rattle.std.proofs.Common.{subst, arith, get_or}
+use Rattle.std.proofs.Common.{◌≡◌, ◌≤◌, ◌<◌, ℕ, zero, suc, List, [], ◌∷◌, Option, Some, None, length, map, refl, subst}
+use Rattle.std.proofs.{Common.{arith, get_or}, lemmas.List.{length-map}}
 use Rattle.std.specs.Prelude.{All, slice_get, slice_index_or}
-use Rattle.std.proofs.lemmas.List.{length-map}
-use Rattle.sect_front.specs.declared.tree.Record.{Record}
-use Rattle.sect_front.specs.declared.tree.Declaration.{Declaration}
+use Rattle.sect_front.specs.{declared.tree.Record.{Record}, declared.tree.Declaration.{Declaration}}
 use Rattle.sect_types.specs.Environments.{type_of, types_of}
 use Rattle.sect_types.specs.Programs.{ProgramView, IsOfTree, IsWithinLimits, sites_of}
 use Rattle.sect_types.specs.Sight.{names_of_declared, names_of_records, all_fields}
 use Rattle.sect_types.specs.declared.declarations.types.ValueType.{ValueType}
-use Rattle.sect_places.specs.NodeSpans.{IsCallWithin}
-use Rattle.sect_places.specs.declared.name_use.NameSpan.{NameSpan}
+use Rattle.sect_places.specs.{NodeSpans.{IsCallWithin}, declared.name_use.NameSpan.{NameSpan}}
 use Rattle.sect_places.proofs.shared.Names.{name_proper}
 use Rattle.sect_lint.specs.Naming.{found}
 use Rattle.sect_store.specs.Printing.{fields_at}

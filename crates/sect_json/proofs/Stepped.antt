@@ -1,25 +1,16 @@
 -- Steps of chains as they are written.
-use Rattle.std.proofs.Common.{◌≡◌, ◌<◌, ℕ, ◌+◌, List, [], ◌∷◌, ◌++◌, Some, length, map, get_or, codes, sym, ap}
-use Rattle.std.proofs.Common.{subst, ◌∙◌}
-use Rattle.std.proofs.Common.{arith, inl, inr}
-use Rattle.std.specs.Prelude.{slice_get, option_map, Vec}
-use Rattle.std.specs.declared.alloc.Global.{Global}
-use Rattle.std.proofs.lemmas.Option.{slice_get_within, slice_get-map, slice_get-get_or}
-use Rattle.serde_json.specs.Data.{string}
-use Rattle.serde_json.specs.Written.{compact_text}
+use Rattle.std.proofs.Common.{◌≡◌, ◌<◌, ℕ, ◌+◌, List, [], ◌∷◌, ◌++◌, Some, length, map, get_or, codes, sym, ap, subst}
+use Rattle.std.proofs.{Common.{◌∙◌, arith, inl, inr}, lemmas.Option.{slice_get_within, slice_get-map, slice_get-get_or}}
+use Rattle.std.specs.{Prelude.{slice_get, option_map, Vec}, declared.alloc.Global.{Global}}
+use Rattle.serde_json.specs.{Data.{string}, Written.{compact_text}}
 use Rattle.sect_lemmas.specs.Lists.{Has}
 use Rattle.sect_lemmas.proofs.Places.{pushed_at}
 use Rattle.sect_graph.specs.declared.flow.Node.{Node}
-use Rattle.sect_names.specs.declared.link.Link.{Link}
-use Rattle.sect_names.specs.declared.lock.Lock.{Lock}
-use Rattle.sect_names.specs.Chains.{IsGeneratedAt, AreLinked, IsChain}
-use Rattle.sect_names.specs.Schemes.{SchemeView}
+use Rattle.sect_names.specs.{declared.link.Link.{Link}, declared.lock.Lock.{Lock}}
+use Rattle.sect_names.specs.{Chains.{IsGeneratedAt, AreLinked, IsChain}, Schemes.{SchemeView}}
 use Rattle.sect_chains.specs.Chains.{AreChains}
-use Rattle.sect_emit.specs.Compiled.{CompiledView, program_of}
-use Rattle.sect_emit.specs.Explaining.{section_deed}
-use Rattle.sect_json.specs.Values.{count, list}
-use Rattle.sect_json.specs.Explaining.{step_json, chain_json}
-use Rattle.sect_json.specs.Locks.{lock_json}
+use Rattle.sect_emit.specs.{Compiled.{CompiledView, program_of}, Explaining.{section_deed}}
+use Rattle.sect_json.specs.{Values.{count, list}, Explaining.{step_json, chain_json}, Locks.{lock_json}}
 use Rattle.sect_json.specs.steps.Stepping.{step_tail, AreStepTails, AreStepsBelow}
 use Rattle.sect_json.proofs.Texts.{parts_written, head_and_tail, alone_written, lock_begins, steps_begins}
 

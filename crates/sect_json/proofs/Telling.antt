@@ -1,13 +1,10 @@
 -- Sections are told one after another.
 use Rattle.std.proofs.Common.{◌≡◌, ℕ, ◌+◌, List, [], ◌∷◌, ◌++◌, length, length-append, refl, sym, ap, subst, ◌∙◌, arith}
-use Rattle.std.proofs.Common.{inl, inr}
-use Rattle.std.proofs.lemmas.Option.{slice_get_within}
+use Rattle.std.proofs.{Common.{inl, inr}, lemmas.Option.{slice_get_within}}
 use Rattle.sect_lemmas.proofs.Places.{pushed_at}
 use Rattle.serde_json.specs.Data.{Data}
-use Rattle.sect_emit.specs.Compiled.{CompiledView}
-use Rattle.sect_emit.specs.Explaining.{IsChained}
-use Rattle.sect_json.specs.Values.{by_place}
-use Rattle.sect_json.specs.Explaining.{explained_json}
+use Rattle.sect_emit.specs.{Compiled.{CompiledView}, Explaining.{IsChained}}
+use Rattle.sect_json.specs.{Values.{by_place}, Explaining.{explained_json}}
 use Rattle.sect_json.specs.steps.Explained.{IsExplained, AreExplained}
 
 -- behind others stands one more

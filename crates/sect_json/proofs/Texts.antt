@@ -1,11 +1,8 @@
 -- The text of a document is that of its parts, one behind the other.
 use Rattle.std.specs.Prelude.{if◌then◌else◌, ◌==◌, false}
-use Rattle.std.proofs.Common.{rules, arith, map, ◌≤◌, ◌≡◌, ℕ, true, ◌+◌, List, [], ◌∷◌, ◌++◌, length, drop, append_assoc}
-use Rattle.std.proofs.Common.{refl, sym, ap, ◌∙◌, codes}
-use Rattle.std.proofs.lemmas.List.{append-nil, drop_all}
-use Rattle.serde_json.specs.Data.{Data, string}
-use Rattle.serde_json.specs.View.{items_of}
-use Rattle.serde_json.specs.Written.{compact_text, items_text, members_text}
+use Rattle.std.proofs.Common.{rules, arith, map, ◌≤◌, ◌≡◌, ℕ, true, ◌+◌, List, [], ◌∷◌, ◌++◌, length, drop}
+use Rattle.std.proofs.{Common.{append_assoc, refl, sym, ap, ◌∙◌, codes}, lemmas.List.{append-nil, drop_all}}
+use Rattle.serde_json.specs.{Data.{Data, string}, View.{items_of}, Written.{compact_text, items_text, members_text}}
 use Rattle.serde_json.proofs.OnLiterals.{serde_json_on_literals}
 use Rattle.sect_json.specs.Values.{list, by_place, members, record_of}
 use Rattle.sect_json.specs.steps.Writes.{name_text, member_text, members_behind, elements_from, tail_text, comma_before}

@@ -3,13 +3,9 @@ use Rattle.std.specs.Prelude.{ℕ, zero, suc, if◌then◌else◌, List, [], ◌
 use Rattle.std.specs.List.{flat_map}
 use Rattle.serde_json.specs.Data.{Data, string}
 use Rattle.sect_front.specs.declared.tree.Procedure.{Procedure}
-use Rattle.sect_places.specs.Declarations.{is_called, is_thread, procedure_of}
-use Rattle.sect_places.specs.declared.name_use.NameSpan.{NameSpan}
-use Rattle.sect_lint.specs.Calls.{is_call_in, item_of, procedure_item}
-use Rattle.sect_lint.specs.Json.{span_json}
-use Rattle.sect_lint.specs.Naming.{found}
-use Rattle.sect_json.specs.Values.{count, list, by_place, record_of}
-use Rattle.sect_json.specs.Sites.{bytes_json, name_bytes}
+use Rattle.sect_places.specs.{Declarations.{is_called, is_thread, procedure_of}, declared.name_use.NameSpan.{NameSpan}}
+use Rattle.sect_lint.specs.{Calls.{is_call_in, item_of, procedure_item}, Json.{span_json}, Naming.{found}}
+use Rattle.sect_json.specs.{Values.{count, list, by_place, record_of}, Sites.{bytes_json, name_bytes}}
 
 -- a procedure, and where its name is declared
 abbrev pub procedure_json : List ℕ → List NameSpan → Procedure → Data

@@ -1,18 +1,12 @@
 -- Compiled programs as JSON. `compiled_document` cites it.
-use Rattle.std.specs.Prelude.{ℕ, List, [], ◌∷◌, codes, length, map, slice_index_or}
-use Rattle.std.specs.List.{range_with_len}
+use Rattle.std.specs.{Prelude.{ℕ, List, [], ◌∷◌, codes, length, map, slice_index_or}, List.{range_with_len}}
 use Rattle.serde_json.specs.Data.{Data, string}
-use Rattle.sect_types.specs.Programs.{ProgramView}
-use Rattle.sect_types.specs.Sections.{sections_of}
-use Rattle.sect_emit.specs.Compiled.{CompiledView, program_of}
-use Rattle.sect_emit.specs.Explaining.{section_at}
-use Rattle.sect_emit.specs.Labels.{thread_name}
+use Rattle.sect_types.specs.{Programs.{ProgramView}, Sections.{sections_of}}
+use Rattle.sect_emit.specs.{Compiled.{CompiledView, program_of}, Explaining.{section_at}, Labels.{thread_name}}
 use Rattle.sect_emit.specs.declared.plan.Grip.{Grip}
-use Rattle.sect_emit.specs.declared.graphs.GraphOf.TheVariants as graphed
-use Rattle.sect_json.specs.Values.{count, list, record_of}
-use Rattle.sect_json.specs.Keys.{key_json, mode_json}
-use Rattle.sect_json.specs.Locks.{lock_json}
+use Rattle.sect_json.specs.{Values.{count, list, record_of}, Keys.{key_json, mode_json}, Locks.{lock_json}}
 use Rattle.sect_json.specs.Nodes.{nodes_json}
+use Rattle.sect_emit.specs.declared.graphs.GraphOf.TheVariants as graphed
 
 -- a key that is taken, and the mode
 abbrev pub grip_with : Data → Data → Data

@@ -5,14 +5,11 @@ use Rattle.sect_front.specs.TreeView.{TreeView}
 use Rattle.sect_types.specs.Programs.{ProgramView}
 use Rattle.sect_names.specs.Printing.{path_text}
 use Rattle.sect_emit.specs.Compiled.{CompiledView, program_of}
-use Rattle.sect_conflicts.specs.declared.conflict.KeyClash.{KeyClash}
-use Rattle.sect_conflicts.specs.declared.conflict.PathPair.{PathPair}
-use Rattle.sect_conflicts.specs.declared.conflict.SectionPair.{SectionPair}
-use Rattle.sect_conflicts.specs.declared.conflict.Conflict.{Conflict}
+use Rattle.sect_conflicts.specs.{declared.conflict.KeyClash.{KeyClash}, declared.conflict.PathPair.{PathPair}}
+use Rattle.sect_conflicts.specs.{declared.conflict.SectionPair.{SectionPair}, declared.conflict.Conflict.{Conflict}}
 use Rattle.sect_conflicts.specs.declared.conflict.Conflict.TheVariants.{Always, Sometimes, Never}
 use Rattle.sect_conflicts.specs.Comparing.{AreConflicts}
-use Rattle.sect_json.specs.Values.{count, list, record_of, document_text}
-use Rattle.sect_json.specs.Keys.{key_json, mode_json}
+use Rattle.sect_json.specs.{Values.{count, list, record_of, document_text}, Keys.{key_json, mode_json}}
 
 -- two paths, one of each section
 abbrev pub path_pair_json : TreeView → PathPair → Data

@@ -3,10 +3,8 @@ use Rattle.std.specs.Prelude.{◌≡◌, ℕ, List, [], ◌∷◌, Some, codes, 
 use Rattle.serde_json.specs.Data.{Data, string}
 use Rattle.sect_types.specs.Sections.{sections_of}
 use Rattle.sect_names.specs.declared.link.Link.{Link}
-use Rattle.sect_emit.specs.Compiled.{CompiledView, program_of}
-use Rattle.sect_emit.specs.Explaining.{IsChained, section_at, section_deed}
-use Rattle.sect_json.specs.Values.{count, list, by_place, record_of, document_text}
-use Rattle.sect_json.specs.Locks.{lock_json, sections_json}
+use Rattle.sect_emit.specs.{Compiled.{CompiledView, program_of}, Explaining.{IsChained, section_at, section_deed}}
+use Rattle.sect_json.specs.{Values.{count, list, by_place, record_of, document_text}, Locks.{lock_json, sections_json}}
 
 -- a node and what it does, and the lock that is needed from there on
 abbrev pub step_with : Data → ℕ → List ℕ → Data

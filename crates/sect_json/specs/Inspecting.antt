@@ -1,35 +1,25 @@
 -- What is known of a program, as JSON. `inspection_document` cites it.
-use Rattle.std.specs.Prelude.{◌≡◌, ℕ, ◌+◌, List, [], ◌∷◌, codes, length, map, slice_get}
-use Rattle.std.specs.Prelude.{slice_index_or, true, false}
+use Rattle.std.specs.Prelude.{◌≡◌, ℕ, ◌+◌, List, [], ◌∷◌, codes, length, map, slice_get, slice_index_or, true, false}
 use Rattle.std.specs.List.{range_with_len}
 use Rattle.serde_json.specs.Data.{Data, boolean, string}
 use Rattle.sect_front.specs.declared.tree.Locking.{Locking}
-use Rattle.sect_front.specs.declared.tree.Locking.TheVariants as locking
 use Rattle.sect_types.specs.Sections.{sections_of}
 use Rattle.sect_graph.specs.Layout.{flow_nodes}
 use Rattle.sect_infer.specs.Sets.{AreNeeded}
-use Rattle.sect_names.specs.Needed.{end_of}
-use Rattle.sect_names.specs.declared.link.Link.{Link}
-use Rattle.sect_names.specs.declared.lock.Lock.{Lock}
-use Rattle.sect_places.specs.declared.origin_spans.NodeSpan.{NodeSpan}
-use Rattle.sect_places.specs.NameSpans.{AreNameSpans}
-use Rattle.sect_places.specs.NodeSpans.{NodeSpansView, AreNodeSpans}
-use Rattle.sect_places.specs.declared.name_use.NameSpan.{NameSpan}
+use Rattle.sect_names.specs.{Needed.{end_of}, declared.link.Link.{Link}, declared.lock.Lock.{Lock}}
+use Rattle.sect_places.specs.{declared.origin_spans.NodeSpan.{NodeSpan}, NameSpans.{AreNameSpans}}
+use Rattle.sect_places.specs.{NodeSpans.{NodeSpansView, AreNodeSpans}, declared.name_use.NameSpan.{NameSpan}}
 use Rattle.sect_places.specs.Spans.{no_span}
 use Rattle.sect_lint.specs.Json.{span_json}
-use Rattle.sect_emit.specs.Compiled.{CompiledView, program_of}
-use Rattle.sect_emit.specs.Explaining.{IsChained, section_at}
-use Rattle.sect_emit.specs.Graphed.{graphed_nodes, graphed_deed}
-use Rattle.sect_emit.specs.Labels.{thread_name}
+use Rattle.sect_emit.specs.{Compiled.{CompiledView, program_of}, Explaining.{IsChained, section_at}}
+use Rattle.sect_emit.specs.{Graphed.{graphed_nodes, graphed_deed}, Labels.{thread_name}}
 use Rattle.sect_emit.specs.declared.graphs.GraphOf.{GraphOf}
-use Rattle.sect_emit.specs.declared.graphs.GraphOf.TheVariants as graphed
 use Rattle.sect_json.specs.Values.{count, list, by_place, record_of, document_text, AreTold}
-use Rattle.sect_json.specs.Compiling.{set_json, plan_json}
-use Rattle.sect_json.specs.Calls.{procedure_json, calls_json}
-use Rattle.sect_json.specs.Explaining.{chain_json}
-use Rattle.sect_json.specs.Locks.{lock_json}
-use Rattle.sect_json.specs.Nodes.{next_at}
+use Rattle.sect_json.specs.{Compiling.{set_json, plan_json}, Calls.{procedure_json, calls_json}}
+use Rattle.sect_json.specs.{Explaining.{chain_json}, Locks.{lock_json}, Nodes.{next_at}}
 use Rattle.sect_json.specs.Sites.{bytes_json, call_of, place_of, locals_json, sites_json, AreClasses}
+use Rattle.sect_front.specs.declared.tree.Locking.TheVariants as locking
+use Rattle.sect_emit.specs.declared.graphs.GraphOf.TheVariants as graphed
 
 -- where a node comes from: the call and the statement
 abbrev pub origin_with : Data → Data → Data

@@ -1,15 +1,12 @@
 -- Keys and modes as JSON. `key_value` and `mode_value` cite it.
 use Rattle.std.specs.Prelude.{[], ◌∷◌, codes}
 use Rattle.serde_json.specs.Data.{Data, string}
-use Rattle.sect_types.specs.Programs.{ProgramView}
-use Rattle.sect_types.specs.declared.meaning.store.ObjectName.{ObjectName}
-use Rattle.sect_types.specs.declared.meaning.store.ObjectName.TheVariants as object
+use Rattle.sect_types.specs.{Programs.{ProgramView}, declared.meaning.store.ObjectName.{ObjectName}}
 use Rattle.sect_store.specs.Printing.{object_name}
-use Rattle.sect_modes.specs.Mode.{mode_text}
-use Rattle.sect_modes.specs.declared.mode.Mode.{Mode}
-use Rattle.sect_modes.specs.declared.key.Key.{Key}
-use Rattle.sect_modes.specs.declared.key.Key.TheVariants as key
+use Rattle.sect_modes.specs.{Mode.{mode_text}, declared.mode.Mode.{Mode}, declared.key.Key.{Key}}
 use Rattle.sect_json.specs.Values.{count, record_of}
+use Rattle.sect_types.specs.declared.meaning.store.ObjectName.TheVariants as object
+use Rattle.sect_modes.specs.declared.key.Key.TheVariants as key
 
 -- the key of one object
 abbrev pub object_key_json : ProgramView → ObjectName → Data

@@ -2,10 +2,9 @@
 use Rattle.std.specs.Prelude.{ℕ, List, [], ◌∷◌, codes, map}
 use Rattle.serde_json.specs.Data.{Data, string}
 use Rattle.sect_front.specs.TreeView.{TreeView}
-use Rattle.sect_names.specs.declared.lock.Lock.{Lock}
-use Rattle.sect_names.specs.declared.lock.Lock.TheVariants as lock
-use Rattle.sect_names.specs.Printing.{path_text, effect_text, right_text}
+use Rattle.sect_names.specs.{declared.lock.Lock.{Lock}, Printing.{path_text, effect_text, right_text}}
 use Rattle.sect_json.specs.Values.{count, list, by_place, record_of}
+use Rattle.sect_names.specs.declared.lock.Lock.TheVariants as lock
 
 -- all objects, a class by its number, or the object of a path; and the right
 abbrev pub lock_json : TreeView → Lock → Data

@@ -2,10 +2,8 @@
 use Rattle.std.specs.Prelude.{ℕ, ◌+◌, List, [], ◌∷◌, Option, Some, None, codes, length, map, option_map, slice_get}
 use Rattle.std.specs.List.{range_with_len}
 use Rattle.serde_json.specs.Data.{Data, string}
-use Rattle.sect_graph.specs.declared.flow.Successors.{Successors}
-use Rattle.sect_graph.specs.declared.flow.Successors.TheVariants.{Next, Branch}
-use Rattle.sect_emit.specs.Compiled.{CompiledView}
-use Rattle.sect_emit.specs.Graphed.{graphed_nodes, graphed_deed}
+use Rattle.sect_graph.specs.{declared.flow.Successors.{Successors}, declared.flow.Successors.TheVariants.{Next, Branch}}
+use Rattle.sect_emit.specs.{Compiled.{CompiledView}, Graphed.{graphed_nodes, graphed_deed}}
 use Rattle.sect_emit.specs.declared.graphs.GraphOf.{GraphOf}
 use Rattle.sect_json.specs.Values.{count, list, record_of}
 

@@ -1,8 +1,7 @@
 -- Objects as JSON. `objects_value` cites it.
 use Rattle.std.specs.Prelude.{ℕ, List, [], ◌∷◌, ◌++◌, codes, slice_index_or}
 use Rattle.serde_json.specs.Data.{Data, null, string}
-use Rattle.sect_types.specs.Programs.{ProgramView}
-use Rattle.sect_types.specs.declared.meaning.store.ObjectName.TheVariants.{Global, Made}
+use Rattle.sect_types.specs.{Programs.{ProgramView}, declared.meaning.store.ObjectName.TheVariants.{Global, Made}}
 use Rattle.sect_types.specs.declared.meaning.store.Datum.{Datum}
 use Rattle.sect_types.specs.declared.meaning.store.Datum.TheVariants.{Number, Null, Refers}
 use Rattle.sect_types.specs.Store.{ObjectView, StoreView}

@@ -1,15 +1,10 @@
 -- What a run has come to, as JSON. `outcome_value` and `outcomes_document` cite it.
 use Rattle.std.specs.Prelude.{ℕ, List, [], ◌∷◌, Option, codes, map}
 use Rattle.serde_json.specs.Data.{Data, string}
-use Rattle.sect_types.specs.Programs.{ProgramView}
-use Rattle.sect_types.specs.declared.meaning.store.End.{End}
-use Rattle.sect_types.specs.Whole.{SerialEndView}
-use Rattle.sect_store.specs.Outcomes.{OutcomeView}
-use Rattle.sect_store.specs.Printing.{state_text}
-use Rattle.sect_serial.specs.Judging.{outcome_of}
-use Rattle.sect_serial.specs.Exploring.{OutcomesView}
-use Rattle.sect_json.specs.Values.{count, integer, list, record_of}
-use Rattle.sect_json.specs.Objects.{objects_json}
+use Rattle.sect_types.specs.{Programs.{ProgramView}, declared.meaning.store.End.{End}, Whole.{SerialEndView}}
+use Rattle.sect_store.specs.{Outcomes.{OutcomeView}, Printing.{state_text}}
+use Rattle.sect_serial.specs.{Judging.{outcome_of}, Exploring.{OutcomesView}}
+use Rattle.sect_json.specs.{Values.{count, integer, list, record_of}, Objects.{objects_json}}
 
 -- whether a thread runs, or how it has ended
 abbrev pub thread_json : Option End → Data

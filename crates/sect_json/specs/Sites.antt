@@ -1,37 +1,25 @@
 -- Sites and their classes as JSON, and the sites to whose objects locals and fields may refer. `inspection_document`
 -- cites it.
-use Rattle.std.specs.Prelude.{◌≡◌, ◌<◌, ℕ, ◌+◌, ◌*◌, ◌/◌, ◌%◌, ◌==◌, ◌&&◌, Bool, List, [], ◌∷◌, ◌++◌, Option}
-use Rattle.std.specs.Prelude.{Some, None, codes}
-use Rattle.std.specs.Prelude.{length, map, filter, nat_lt, option_map, slice_get, slice_index, slice_index_or}
-use Rattle.std.specs.List.{flat_map, range_with_len}
-use Rattle.std.specs.Int.{bit_at}
+use Rattle.std.specs.Prelude.{◌≡◌, ◌<◌, ℕ, ◌+◌, ◌*◌, ◌/◌, ◌%◌, ◌==◌, ◌&&◌, Bool, List, [], ◌∷◌, ◌++◌, Option, Some}
+use Rattle.std.specs.Prelude.{None, codes, length, map, filter, nat_lt, option_map, slice_get, slice_index}
+use Rattle.std.specs.{Prelude.{slice_index_or}, List.{flat_map, range_with_len}, Int.{bit_at}}
 use Rattle.serde_json.specs.Data.{Data, null, string}
-use Rattle.sect_front.specs.TreeView.{TreeView}
-use Rattle.sect_front.specs.declared.span.Span.{Span}
-use Rattle.sect_front.specs.declared.tree.GlobalObject.{GlobalObject}
-use Rattle.sect_types.specs.Limits.{most_fields}
-use Rattle.sect_types.specs.LocalNames.{local_text}
-use Rattle.sect_types.specs.Sections.{sections_of}
-use Rattle.sect_types.specs.Sight.{names_of_records}
-use Rattle.sect_types.specs.declared.expansion.action.Action.TheVariants as action
-use Rattle.sect_types.specs.declared.expansion.action.Label.{Label}
-use Rattle.sect_types.specs.declared.expansion.action.Label.TheVariants as label
-use Rattle.sect_points.specs.Rows.{no_sites}
-use Rattle.sect_points.specs.Sets.{PointsToView, rows_of}
-use Rattle.sect_points.specs.declared.holders.Holder.{Holder}
-use Rattle.sect_points.specs.declared.holders.Holder.TheVariants as holder
+use Rattle.sect_front.specs.{TreeView.{TreeView}, declared.span.Span.{Span}, declared.tree.GlobalObject.{GlobalObject}}
+use Rattle.sect_types.specs.{Limits.{most_fields}, LocalNames.{local_text}, Sections.{sections_of}}
+use Rattle.sect_types.specs.{Sight.{names_of_records}, declared.expansion.action.Label.{Label}}
+use Rattle.sect_points.specs.{Rows.{no_sites}, Sets.{PointsToView, rows_of}, declared.holders.Holder.{Holder}}
 use Rattle.sect_points.specs.declared.sites.SiteSet.{SiteSet}
 use Rattle.sect_names.specs.Printing.{local_at}
-use Rattle.sect_places.specs.Declarations.{global_of}
-use Rattle.sect_places.specs.declared.name_use.NameSpan.{NameSpan}
+use Rattle.sect_places.specs.{Declarations.{global_of}, declared.name_use.NameSpan.{NameSpan}}
 use Rattle.sect_places.specs.declared.origin_spans.NodeSpan.{NodeSpan}
-use Rattle.sect_lint.specs.Json.{span_json}
-use Rattle.sect_lint.specs.Naming.{found}
+use Rattle.sect_lint.specs.{Json.{span_json}, Naming.{found}}
 use Rattle.sect_store.specs.Printing.{fields_at}
-use Rattle.sect_emit.specs.Compiled.{CompiledView, program_of}
-use Rattle.sect_emit.specs.Graphed.{graphed_nodes}
-use Rattle.sect_emit.specs.declared.graphs.GraphOf.TheVariants as graphed
+use Rattle.sect_emit.specs.{Compiled.{CompiledView, program_of}, Graphed.{graphed_nodes}}
 use Rattle.sect_json.specs.Values.{count, list, by_place, record_of}
+use Rattle.sect_types.specs.declared.expansion.action.Action.TheVariants as action
+use Rattle.sect_types.specs.declared.expansion.action.Label.TheVariants as label
+use Rattle.sect_points.specs.declared.holders.Holder.TheVariants as holder
+use Rattle.sect_emit.specs.declared.graphs.GraphOf.TheVariants as graphed
 
 -- bytes of the text, where there are some
 abbrev pub bytes_json : List ℕ → Option Span → Data

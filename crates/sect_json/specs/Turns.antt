@@ -6,9 +6,7 @@ use Rattle.sect_store.specs.Outcomes.{OutcomeView}
 use Rattle.sect_world.specs.declared.event.Deed.{Deed}
 use Rattle.sect_world.specs.declared.event.Deed.TheVariants.{Local, Enter, Take, Begin, Again, Act, Leave}
 use Rattle.sect_world.specs.declared.event.Event.{Event}
-use Rattle.sect_json.specs.Values.{count, list, record_of}
-use Rattle.sect_json.specs.Keys.{key_json, mode_json}
-use Rattle.sect_json.specs.Outcomes.{outcome_json}
+use Rattle.sect_json.specs.{Values.{count, list, record_of}, Keys.{key_json, mode_json}, Outcomes.{outcome_json}}
 
 -- a deed of this name, and the thread that does it
 abbrev pub plain_event_json : List ℕ → ℕ → Data

@@ -1,9 +1,7 @@
 -- Values of JSON, and the text of a document. Every document is defined by these words.
 use Rattle.std.specs.Prelude.{◌≡◌, ℕ, ℤ, ◌+◌, List, [], ◌∷◌, ◌++◌, Some, codes, length, slice_get}
 use Rattle.serde_json.specs.Data.{Data, number, array, object, unsigned, Members, no_members, member}
-use Rattle.serde_json.specs.Find.{of_integer}
-use Rattle.serde_json.specs.View.{items_of}
-use Rattle.serde_json.specs.Written.{compact_text}
+use Rattle.serde_json.specs.{Find.{of_integer}, View.{items_of}, Written.{compact_text}}
 
 -- a number that counts something, or by which it is called
 abbrev pub count : ℕ → Data

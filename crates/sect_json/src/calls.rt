@@ -1,13 +1,12 @@
 //! Procedures and calls as JSON.
 
-ghost use Rattle.std.specs.Prelude.{◌≡◌, ◌<◌, ◌∷◌, ◌++◌, IfOk, IfSome, OnOk, length, map};
-ghost use Rattle.std.specs.Prelude.{position};
+ghost use Rattle.std.specs.Prelude.{◌≡◌, ◌<◌, ◌∷◌, ◌++◌, IfOk, IfSome, OnOk, length, map, position};
 ghost use Rattle.serde_json.specs.View.{view};
 ghost use Rattle.sect_json.specs.Values.{by_place};
+ghost use Rattle.sect_json.specs.Calls.{procedure_json, thread_item as thread_by, from_item, calls_within, call_json};
+ghost use Rattle.sect_json.specs.Calls.{calls_json};
 ghost use Rattle.sect_places.specs.Declarations.{is_called, is_thread};
 ghost use Rattle.sect_lint.specs.Calls.{procedure_item as procedure_by};
-ghost use Rattle.sect_json.specs.Calls.{procedure_json};
-ghost use Rattle.sect_json.specs.Calls.{thread_item as thread_by, from_item, calls_within, call_json, calls_json};
 ghost use Rattle.sect_json.specs.steps.Inspected.{AreNamesWithin};
 ghost use Rattle.sect_front.specs.FaultPlaces.{IsWithin};
 

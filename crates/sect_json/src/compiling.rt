@@ -1,14 +1,12 @@
 //! Compiled programs as JSON.
 
-ghost use Rattle.std.specs.Prelude.{◌≡◌, ◌<◌, IfOk, length, map};
-ghost use Rattle.std.specs.String.{string_bytes};
-ghost use Rattle.std.specs.List.{range_with_len};
+ghost use Rattle.std.specs.{Prelude.{◌≡◌, ◌<◌, IfOk, length, map}, String.{string_bytes}, List.{range_with_len}};
 ghost use Rattle.serde_json.specs.View.{view};
 ghost use Rattle.sect_types.specs.Sections.{sections_of};
 ghost use Rattle.sect_emit.specs.Compiled.{program_of};
 ghost use Rattle.sect_json.specs.Values.{list, document_text};
-ghost use Rattle.sect_json.specs.Compiling.{grip_json, set_json, plan_json, section_with, section_json};
-ghost use Rattle.sect_json.specs.Compiling.{thread_with, thread_json, compiled_with, compiled_json};
+ghost use Rattle.sect_json.specs.Compiling.{grip_json, set_json, plan_json, section_with, section_json, thread_with};
+ghost use Rattle.sect_json.specs.Compiling.{thread_json, compiled_with, compiled_json};
 
 use crate::keys::{key_value, mode_value};
 use crate::locks::locks_value;

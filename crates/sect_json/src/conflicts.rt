@@ -1,7 +1,6 @@
 //! Which sections exclude each other, as JSON.
 
-ghost use Rattle.std.specs.Prelude.{◌≡◌, IfOk, map};
-ghost use Rattle.std.specs.String.{string_bytes};
+ghost use Rattle.std.specs.{Prelude.{◌≡◌, IfOk, map}, String.{string_bytes}};
 ghost use Rattle.serde_json.specs.View.{view};
 ghost use Rattle.sect_json.specs.Values.{list};
 ghost use Rattle.sect_json.specs.Conflicts.{IsConflictsDocument, conflicts_json, section_pair_json, modes_json};

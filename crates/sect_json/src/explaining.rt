@@ -1,14 +1,11 @@
 //! Why sections take their locks, as JSON.
 
-ghost use Rattle.std.specs.Prelude.{◌≡◌, ◌<◌, List, IfOk, length, map};
-ghost use Rattle.std.specs.String.{string_bytes};
+ghost use Rattle.std.specs.{Prelude.{◌≡◌, ◌<◌, List, IfOk, length, map}, String.{string_bytes}};
 ghost use Rattle.serde_json.specs.View.{view};
 ghost use Rattle.sect_lemmas.specs.Lists.{Has};
 ghost use Rattle.sect_types.specs.Sections.{sections_of};
-ghost use Rattle.sect_names.specs.declared.link.Link.{Link};
-ghost use Rattle.sect_names.specs.Printing.{IsNamed};
-ghost use Rattle.sect_emit.specs.Compiled.{program_of};
-ghost use Rattle.sect_emit.specs.Words.{IsChainNamed};
+ghost use Rattle.sect_names.specs.{declared.link.Link.{Link}, Printing.{IsNamed}};
+ghost use Rattle.sect_emit.specs.{Compiled.{program_of}, Words.{IsChainNamed}};
 ghost use Rattle.sect_json.specs.Values.{list};
 ghost use Rattle.sect_json.specs.Explaining.{IsExplanationDocument, section_with, chain_json, step_json, step_with};
 ghost use Rattle.sect_json.specs.steps.Explained.{IsExplained, AreExplained};

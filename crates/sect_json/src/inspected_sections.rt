@@ -1,23 +1,18 @@
 //! Sections with all that is known of them, as text: what is needed at their nodes is most of a document.
 
-ghost use Rattle.std.specs.Prelude.{◌≡◌, ◌<◌, ◌++◌, IfOk, OnOk, codes, length, map};
-ghost use Rattle.std.specs.Prelude.{slice_index_or};
-ghost use Rattle.serde_json.specs.Data.{Data};
-ghost use Rattle.serde_json.specs.View.{view};
-ghost use Rattle.serde_json.specs.Written.{compact_text};
+ghost use Rattle.std.specs.Prelude.{◌≡◌, ◌<◌, ◌++◌, IfOk, OnOk, codes, length, map, slice_index_or};
+ghost use Rattle.serde_json.specs.{Data.{Data}, View.{view}, Written.{compact_text}};
 ghost use Rattle.sect_front.specs.declared.tree.Locking.TheVariants.{Inferred};
 ghost use Rattle.sect_types.specs.Sections.{sections_of};
 ghost use Rattle.sect_names.specs.Printing.{AreNamed};
-ghost use Rattle.sect_emit.specs.Compiled.{program_of};
-ghost use Rattle.sect_emit.specs.Graphed.{graphed_deed};
-ghost use Rattle.sect_emit.specs.declared.graphs.GraphOf.TheVariants as graphed;
+ghost use Rattle.sect_emit.specs.{Compiled.{program_of}, Graphed.{graphed_deed}};
 ghost use Rattle.sect_json.specs.Values.{list};
 ghost use Rattle.sect_json.specs.Inspecting.{origin_json, spans_at, thread_node_with, is_all, IsSectionInspected};
-ghost use Rattle.sect_json.specs.Locks.{lock_json};
-ghost use Rattle.sect_json.specs.Nodes.{next_at};
+ghost use Rattle.sect_json.specs.{Locks.{lock_json}, Nodes.{next_at}};
 ghost use Rattle.sect_json.specs.steps.Inspected.{IsInspected};
 ghost use Rattle.sect_json.specs.steps.Sectioned.{AreChainsPut, AreNodesPut, AreSectionsPut, end_with, section_end};
 ghost use Rattle.sect_json.specs.steps.Writes.{AreLockTexts, name_text, tail_text};
+ghost use Rattle.sect_emit.specs.declared.graphs.GraphOf.TheVariants as graphed;
 
 use crate::compiling::{plan_value, set_value};
 use crate::context::Inspected;

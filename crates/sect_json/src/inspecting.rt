@@ -1,18 +1,14 @@
 //! What is known of a program, as JSON.
 
-ghost use Rattle.std.specs.Prelude.{◌≡◌, ◌<◌, ◌+◌, IfOk, OnOk, length, map};
-ghost use Rattle.std.specs.String.{string_bytes};
+ghost use Rattle.std.specs.{Prelude.{◌≡◌, ◌<◌, ◌+◌, IfOk, OnOk, length, map}, String.{string_bytes}};
 ghost use Rattle.std.specs.List.{range_with_len};
 ghost use Rattle.serde_json.specs.View.{view};
 ghost use Rattle.sect_front.specs.Front.{IsSpelled};
-ghost use Rattle.sect_emit.specs.Compiled.{program_of};
-ghost use Rattle.sect_emit.specs.Labels.{thread_name};
-ghost use Rattle.sect_emit.specs.Graphed.{graphed_nodes};
-ghost use Rattle.sect_emit.specs.declared.graphs.GraphOf.TheVariants as graphed;
-ghost use Rattle.sect_json.specs.Values.{list};
-ghost use Rattle.sect_json.specs.Calls.{calls_json};
+ghost use Rattle.sect_emit.specs.{Compiled.{program_of}, Labels.{thread_name}, Graphed.{graphed_nodes}};
+ghost use Rattle.sect_json.specs.{Values.{list}, Calls.{calls_json}};
 ghost use Rattle.sect_json.specs.Inspecting.{thread_node_json, thread_with, thread_json, IsInspectionDocument};
 ghost use Rattle.sect_json.specs.steps.Inspected.{IsInspected, IsHeadPut, IsProgramPut, rest_with, thread_told};
+ghost use Rattle.sect_emit.specs.declared.graphs.GraphOf.TheVariants as graphed;
 
 use crate::calls::{calls_value, procedure_values};
 use crate::context::Inspected;

@@ -4,8 +4,7 @@ ghost use Rattle.std.specs.Prelude.{◌≡◌, ◌<◌, ◌++◌, ◌∷◌, [],
 ghost use Rattle.serde_json.specs.Written.{compact_text};
 ghost use Rattle.sect_lemmas.specs.Lists.{Has};
 ghost use Rattle.sect_names.specs.Printing.{IsNamed, AreNamed};
-ghost use Rattle.sect_json.specs.Values.{list};
-ghost use Rattle.sect_json.specs.Locks.{lock_json};
+ghost use Rattle.sect_json.specs.{Values.{list}, Locks.{lock_json}};
 ghost use Rattle.sect_json.specs.steps.Writes.{AreLockTexts};
 
 use crate::locks::lock_value;

@@ -1,11 +1,8 @@
 //! Lock sets as JSON.
 
-ghost use Rattle.std.specs.Prelude.{◌≡◌, ◌<◌, List, Some, IfOk, length, map, slice_get};
-ghost use Rattle.std.specs.String.{string_bytes};
-ghost use Rattle.serde_json.specs.Data.{string};
-ghost use Rattle.serde_json.specs.View.{view};
-ghost use Rattle.sect_names.specs.declared.lock.Lock.{Lock};
-ghost use Rattle.sect_names.specs.Locks.{IsPathOf};
+ghost use Rattle.std.specs.{Prelude.{◌≡◌, ◌<◌, List, Some, IfOk, length, map, slice_get}, String.{string_bytes}};
+ghost use Rattle.serde_json.specs.{Data.{string}, View.{view}};
+ghost use Rattle.sect_names.specs.{declared.lock.Lock.{Lock}, Locks.{IsPathOf}};
 ghost use Rattle.sect_names.specs.Printing.{IsNamed, AreNamed, path_text};
 ghost use Rattle.sect_emit.specs.Compiled.{program_of};
 ghost use Rattle.sect_json.specs.Values.{list, by_place, document_text};

@@ -1,11 +1,9 @@
 //! Objects as JSON.
 
-ghost use Rattle.std.specs.Prelude.{◌≡◌, ◌++◌, IfOk, OnOk, map};
-ghost use Rattle.std.specs.String.{string_bytes};
+ghost use Rattle.std.specs.{Prelude.{◌≡◌, ◌++◌, IfOk, OnOk, map}, String.{string_bytes}};
 ghost use Rattle.serde_json.specs.View.{view};
 ghost use Rattle.sect_types.specs.Sight.{names_of_declared};
-ghost use Rattle.sect_json.specs.Values.{list};
-ghost use Rattle.sect_json.specs.Objects.{datum_json, field_json, object_json, objects_json, row_json};
+ghost use Rattle.sect_json.specs.{Values.{list}, Objects.{datum_json, field_json, object_json, objects_json, row_json}};
 
 use sect_front::Declaration;
 use sect_object::Members;

@@ -1,7 +1,6 @@
 //! What runs have come to, as JSON.
 
-ghost use Rattle.std.specs.Prelude.{◌≡◌, IfOk, map};
-ghost use Rattle.std.specs.String.{string_bytes};
+ghost use Rattle.std.specs.{Prelude.{◌≡◌, IfOk, map}, String.{string_bytes}};
 ghost use Rattle.serde_json.specs.View.{view};
 ghost use Rattle.sect_json.specs.Values.{count, integer, list, document_text};
 ghost use Rattle.sect_json.specs.Outcomes.{outcomes_json, found_json, outcome_json, thread_json};

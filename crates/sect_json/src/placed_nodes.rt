@@ -1,13 +1,11 @@
 //! Nodes as JSON, with the places that they come from.
 
-ghost use Rattle.std.specs.Prelude.{◌≡◌, All, IfOk, length};
-ghost use Rattle.std.specs.String.{string_bytes};
+ghost use Rattle.std.specs.{Prelude.{◌≡◌, All, IfOk, length}, String.{string_bytes}};
 ghost use Rattle.serde_json.specs.View.{view};
 ghost use Rattle.sect_places.specs.NodeSpans.{IsNodeWithin};
 ghost use Rattle.sect_lint.specs.Json.{span_json};
 ghost use Rattle.sect_emit.specs.Graphed.{IsThere, graphed_deed};
-ghost use Rattle.sect_json.specs.Nodes.{next_at};
-ghost use Rattle.sect_json.specs.Inspecting.{origin_with, origin_json, spans_at, thread_node_with};
+ghost use Rattle.sect_json.specs.{Nodes.{next_at}, Inspecting.{origin_with, origin_json, spans_at, thread_node_with}};
 ghost use Rattle.sect_json.specs.Sites.{bytes_json};
 ghost use Rattle.sect_json.specs.steps.Inspected.{IsInspected};
 

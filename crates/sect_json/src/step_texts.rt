@@ -1,21 +1,15 @@
 //! Chains of a section as text.
 
-ghost use Rattle.std.specs.Prelude.{◌≡◌, ◌<◌, ◌+◌, ◌++◌, List, IfOk, OnOk, length, map};
-ghost use Rattle.serde_json.specs.Written.{compact_text};
+ghost use Rattle.std.specs.{Prelude.{◌≡◌, ◌<◌, ◌+◌, ◌++◌, List, IfOk, OnOk, length, map}, String.{string_bytes}};
+ghost use Rattle.serde_json.specs.{Written.{compact_text}, View.{view}};
 ghost use Rattle.sect_lemmas.specs.Lists.{Has};
 ghost use Rattle.sect_types.specs.Sections.{sections_of};
-ghost use Rattle.sect_names.specs.declared.link.Link.{Link};
-ghost use Rattle.sect_names.specs.Printing.{IsNamed};
-ghost use Rattle.sect_emit.specs.Compiled.{program_of};
-ghost use Rattle.sect_emit.specs.Graphed.{graphed_nodes};
-ghost use Rattle.sect_emit.specs.Words.{IsChainNamed};
-ghost use Rattle.sect_emit.specs.declared.graphs.GraphOf.TheVariants as graphed;
-ghost use Rattle.sect_json.specs.Values.{list};
-ghost use Rattle.std.specs.String.{string_bytes};
-ghost use Rattle.serde_json.specs.View.{view};
-ghost use Rattle.sect_json.specs.Explaining.{chain_json, step_json};
+ghost use Rattle.sect_names.specs.{declared.link.Link.{Link}, Printing.{IsNamed}};
+ghost use Rattle.sect_emit.specs.{Compiled.{program_of}, Graphed.{graphed_nodes}, Words.{IsChainNamed}};
+ghost use Rattle.sect_json.specs.{Values.{list}, Explaining.{chain_json, step_json}};
 ghost use Rattle.sect_json.specs.steps.Stepping.{rest_with, step_tail, AreStepTails, IsStepped, AreStepsBelow};
 ghost use Rattle.sect_json.specs.steps.Writes.{AreLockTexts};
+ghost use Rattle.sect_emit.specs.declared.graphs.GraphOf.TheVariants as graphed;
 
 use crate::lock_texts::LockTexts;
 use crate::writing::{put_comma, put_tail};

@@ -1,11 +1,9 @@
 //! The turns of a schedule, as JSON.
 
-ghost use Rattle.std.specs.Prelude.{◌≡◌, IfOk, map};
-ghost use Rattle.std.specs.String.{string_bytes};
+ghost use Rattle.std.specs.{Prelude.{◌≡◌, IfOk, map}, String.{string_bytes}};
 ghost use Rattle.serde_json.specs.View.{view};
 ghost use Rattle.sect_lemmas.specs.Blocks.{AreEnough, blocks_of};
-ghost use Rattle.sect_json.specs.Values.{document_text};
-ghost use Rattle.sect_json.specs.Turns.{plain_event_json, event_json, turn_json, turns_json};
+ghost use Rattle.sect_json.specs.{Values.{document_text}, Turns.{plain_event_json, event_json, turn_json, turns_json}};
 
 use crate::keys::{key_value, mode_value};
 use crate::outcomes::outcome_value;

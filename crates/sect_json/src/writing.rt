@@ -1,9 +1,7 @@
 //! Documents as text.
 
-ghost use Rattle.std.specs.Prelude.{◌≡◌, ◌≤◌, ◌++◌, IfOk, OnOk, false, length};
-ghost use Rattle.std.specs.String.{string_bytes};
-ghost use Rattle.serde_json.specs.View.{view};
-ghost use Rattle.serde_json.specs.Written.{has_float, compact_text};
+ghost use Rattle.std.specs.{Prelude.{◌≡◌, ◌≤◌, ◌++◌, IfOk, OnOk, false, length}, String.{string_bytes}};
+ghost use Rattle.serde_json.specs.{View.{view}, Written.{has_float, compact_text}};
 ghost use Rattle.sect_json.specs.Values.{document_text};
 ghost use Rattle.sect_json.specs.steps.Writes.{name_text, member_text, tail_text, comma_before};
 

@@ -1,6 +1,6 @@
 -- Blocks that were joined are cut at the same places.
-use Rattle.std.proofs.Common.{◌≡◌, ◌≤◌, List, [], ◌∷◌, ◌++◌, map, length, drop, refl, sym, ap, subst, ◌∙◌}
-use Rattle.std.proofs.Common.{take_at, drop_at, length-append, arith}
+use Rattle.std.proofs.Common.{◌≡◌, ◌≤◌, List, [], ◌∷◌, ◌++◌, map, length, drop, refl, sym, ap, subst, ◌∙◌, take_at}
+use Rattle.std.proofs.Common.{drop_at, length-append, arith}
 use Rattle.std.specs.List.{flat_map}
 use Rattle.sect_lemmas.specs.Blocks.{blocks_of, AreEnough}
 

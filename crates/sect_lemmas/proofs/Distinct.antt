@@ -1,13 +1,10 @@
 -- Lists without repetition can't be longer than what they are taken from.
-use Rattle.std.proofs.Common.{◌≡◌, ◌<◌, ◌⊎◌, inl, inr, refl, sym, ap, ◌∙◌, arith, ℕ, zero, suc, Bool, true, false, List, [], ◌∷◌, ◌++◌}
-use Rattle.std.proofs.Common.{length, Option, Some, None, slice_get, cond, subst, true≢false}
+use Rattle.std.proofs.Common.{◌≡◌, ◌<◌, ◌⊎◌, inl, inr, refl, sym, ap, ◌∙◌, arith, ℕ, zero, suc, Bool, true, false, List}
+use Rattle.std.proofs.Common.{[], ◌∷◌, ◌++◌, length, Option, Some, None, slice_get, cond, subst, true≢false}
 use Rattle.std.proofs.lemmas.Option.{slice_get_within}
-use Rattle.std.specs.Prelude.{nat_eq}
-use Rattle.std.specs.Cmp.{unsigned_Decides}
-use Rattle.sect_lemmas.specs.Lists.{Has}
-use Rattle.sect_lemmas.specs.Distinct.{AreDistinct}
-use Rattle.sect_lemmas.proofs.Membership.{Has-slice_get}
-use Rattle.sect_lemmas.proofs.Options.{some_injective}
+use Rattle.std.specs.{Prelude.{nat_eq}, Cmp.{unsigned_Decides}}
+use Rattle.sect_lemmas.specs.{Lists.{Has}, Distinct.{AreDistinct}}
+use Rattle.sect_lemmas.proofs.{Membership.{Has-slice_get}, Options.{some_injective}}
 use Rattle.sect_lemmas.proofs.Places.{Has-index, at_of, chosen, pushed_at}
 
 -- the number, but another one for n

@@ -1,9 +1,9 @@
 -- The elements of lists, by their places.
 use Rattle.std.proofs.Common.{◌≡◌, refl, sym, subst, List, [], ◌∷◌, ◌++◌, length, Some, None, ℕ, zero, suc, ◌<◌}
 use Rattle.std.proofs.Common.{slice_get, if◌then◌else◌, arith, ◌+◌, drop, get_or, ap, add-one, map, set}
+use Rattle.std.proofs.Math.Seq.{drop-cons}
 use Rattle.sect_lemmas.specs.Numbers.{same_number}
 use Rattle.sect_lemmas.proofs.Options.{IsThere}
-use Rattle.std.proofs.Math.Seq.{drop-cons}
 use Rattle.std.specs.Prelude.{slice_index_or}
 
 -- below the length something is there

@@ -1,14 +1,11 @@
 -- Elements that are looked for by a comparison.
 use Rattle.std.proofs.Common.{◌≡◌, ◌↔◌, ◌⊎◌, inl, inr, List, [], ◌∷◌, Bool, true, false, refl, sym, true≢false, ℕ, ◌≤◌}
-use Rattle.std.proofs.Common.{Option, Some, None, length, get_or, ap, ◌∙◌, arith}
-use Rattle.std.specs.Prelude.{◌||◌, slice_get, position, cond, nat_lt, MatchOption}
-use Rattle.std.specs.Bool.{Decides}
+use Rattle.std.proofs.{Common.{Option, Some, None, length, get_or, ap, ◌∙◌, arith}, lemmas.Bool.{ltb-false}}
+use Rattle.std.proofs.{lemmas.List.Quantifiers.{position-Some}, lemmas.List.Sums.{fails_before_first}}
+use Rattle.std.proofs.lemmas.Option.{slice_get_within, get_or_from_slice_get, slice_get-get_or}
+use Rattle.std.specs.{Prelude.{◌||◌, slice_get, position, cond, nat_lt, MatchOption}, Bool.{Decides}}
 use Rattle.std.specs.List.{list_any, position_or_len}
 use Rattle.sect_lemmas.specs.Lists.{Has}
-use Rattle.std.proofs.lemmas.Bool.{ltb-false}
-use Rattle.std.proofs.lemmas.List.Quantifiers.{position-Some}
-use Rattle.std.proofs.lemmas.List.Sums.{fails_before_first}
-use Rattle.std.proofs.lemmas.Option.{slice_get_within, get_or_from_slice_get, slice_get-get_or}
 use Rattle.sect_lemmas.proofs.Places.{Has-index}
 
 -- a look-up by a comparison that tells which are one finds what the list has

@@ -1,11 +1,9 @@
 -- The first element that passes a test.
-use Rattle.std.proofs.Common.{◌≡◌, ℕ, zero, suc, ◌≤◌, Bool, true, false, List, [], ◌∷◌, Option, Some, None, refl}
-use Rattle.std.proofs.Common.{sym, ap, ◌∙◌, cond, length, true≢false, arith}
-use Rattle.std.specs.Prelude.{nat_lt, position, slice_get, filter, find, is_some, MatchOption}
-use Rattle.std.specs.List.{position_or_len}
-use Rattle.std.specs.Option.{option_or}
-use Rattle.std.proofs.lemmas.Bool.{ltb-false, ltb-true}
+use Rattle.std.proofs.Common.{◌≡◌, ℕ, zero, suc, ◌≤◌, Bool, true, false, List, [], ◌∷◌, Option, Some, None, refl, sym}
+use Rattle.std.proofs.{Common.{ap, ◌∙◌, cond, length, true≢false, arith}, lemmas.Bool.{ltb-false, ltb-true}}
 use Rattle.std.proofs.lemmas.List.Folds.{find_at}
+use Rattle.std.specs.{Prelude.{nat_lt, position, slice_get, filter, find, is_some, MatchOption}, List.{position_or_len}}
+use Rattle.std.specs.Option.{option_or}
 use Rattle.sect_lemmas.proofs.Places.{at_of}
 
 -- what fails isn't found

@@ -1,15 +1,10 @@
 -- Lists that grow by an element behind them.
 use Rattle.std.proofs.Common.{◌≡◌, ◌↔◌, ◌⊎◌, List, [], ◌∷◌, ◌++◌, Bool, true, false, Less, Equal, Greater, inl, inr}
 use Rattle.std.proofs.Common.{refl, sym, ◌∙◌, subst}
-use Rattle.std.specs.declared.cmp.Ordering.{Ordering}
-use Rattle.std.specs.Ordering.{match_ordering}
-use Rattle.std.specs.BTreeSet.{insert_key}
-use Rattle.std.specs.Prelude.{if◌then◌else◌}
-use Rattle.std.specs.Bool.{Decides}
-use Rattle.std.specs.List.{list_any}
+use Rattle.std.specs.{declared.cmp.Ordering.{Ordering}, Ordering.{match_ordering}, BTreeSet.{insert_key}}
+use Rattle.std.specs.{Prelude.{if◌then◌else◌}, Bool.{Decides}, List.{list_any}}
 use Rattle.sect_lemmas.specs.Lists.{Has}
-use Rattle.sect_lemmas.proofs.Membership.{Has-cases, Has-left, Has-right}
-use Rattle.sect_lemmas.proofs.Finding.{any_tells}
+use Rattle.sect_lemmas.proofs.{Membership.{Has-cases, Has-left, Has-right}, Finding.{any_tells}}
 
 -- one element behind a list
 pub behind : {X : Type 0} (xs : List X) (x y : X) → Has (xs ++ x ∷ []) y ↔ (Has xs y ⊎ (y ≡ x))

@@ -1,7 +1,6 @@
 -- Lists that are made element by element from others.
 use Rattle.std.proofs.Common.{◌≡◌, ◌↔◌, ℕ, ◌+◌, ◌<◌, ◌≤◌, List, [], ◌∷◌, ◌++◌, ◌⊎◌, inl, inr, sym, subst, take, length}
-use Rattle.std.proofs.Common.{get_or, refl, ap, ◌∙◌}
-use Rattle.std.proofs.lemmas.List.{append-nil, take_more, take_all}
+use Rattle.std.proofs.{Common.{get_or, refl, ap, ◌∙◌}, lemmas.List.{append-nil, take_more, take_all}}
 use Rattle.sect_lemmas.specs.Lists.{Has}
 use Rattle.sect_lemmas.proofs.Membership.{Has-cases, Has-left, Has-right}
 

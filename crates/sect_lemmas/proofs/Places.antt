@@ -1,10 +1,8 @@
 -- Elements of lists and the places where they stand.
 use Rattle.std.proofs.Common.{◌≡◌, ◌⊎◌, ◌∙◌, ℕ, zero, suc, ◌+◌, ◌<◌, List, [], ◌∷◌, ◌++◌, length, length-append, take}
 use Rattle.std.proofs.Common.{get_or, Option, Some, None, refl, sym, ap, subst, inl, inr, arith}
-use Rattle.std.specs.Prelude.{slice_get, option_map}
-use Rattle.std.specs.List.{AllZip, AllByRecursion}
-use Rattle.std.proofs.lemmas.List.{take_more}
-use Rattle.std.proofs.lemmas.Slice.Zip.{all_zipped_more}
+use Rattle.std.proofs.{lemmas.List.{take_more}, lemmas.Slice.Zip.{all_zipped_more}}
+use Rattle.std.specs.{Prelude.{slice_get, option_map}, List.{AllZip, AllByRecursion}}
 use Rattle.sect_lemmas.specs.Lists.{Has}
 
 -- what a list has stands at some place

@@ -1,8 +1,7 @@
 -- Where something stands first in a list.
 use Rattle.std.proofs.Common.{◌≡◌, ℕ, ◌<◌, Bool, true, false, List, Some, None, refl, ap, ◌∙◌, length, get_or, arith}
+use Rattle.std.proofs.{lemmas.Bool.{ltb-false, ltb-true}, lemmas.List.Sums.{position_or_len_is}}
 use Rattle.std.specs.Prelude.{cond, nat_lt, position}
-use Rattle.std.proofs.lemmas.Bool.{ltb-false, ltb-true}
-use Rattle.std.proofs.lemmas.List.Sums.{position_or_len_is}
 
 -- a number below the count is given
 chosen : (i n : ℕ) → i < n → cond (nat_lt i n) (Some i) None ≡ Some i

@@ -1,10 +1,8 @@
 -- Lists with one element replaced.
 use Rattle.std.proofs.Common.{true≢false, ◌≡◌, ◌≢◌, ◌⊎◌, inl, inr, ℕ, zero, suc, List, [], ◌∷◌, length, map, Option}
 use Rattle.std.proofs.Common.{Some, None, Bool, true, false, refl, sym, ap, ◌∙◌, subst, if◌then◌else◌, slice_get}
-use Rattle.sect_lemmas.specs.Lists.{changed_at, put_at}
-use Rattle.sect_lemmas.specs.Numbers.{same_number}
-use Rattle.sect_lemmas.proofs.Options.{some_injective, none_or_some, mapped}
-use Rattle.sect_lemmas.proofs.Booleans.{either_way}
+use Rattle.sect_lemmas.specs.{Lists.{changed_at, put_at}, Numbers.{same_number}}
+use Rattle.sect_lemmas.proofs.{Options.{some_injective, none_or_some, mapped}, Booleans.{either_way}}
 
 -- the n-th element is changed, and no other
 pub get-changed_at : {A : Type 0} → (n m : ℕ) (g : A → A) (xs : List A)

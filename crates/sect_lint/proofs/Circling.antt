@@ -1,19 +1,13 @@
 -- Calls that lead from one procedure to another.
 use Rattle.std.proofs.Common.{◌≡◌, ◌⊎◌, ◌<◌, ℕ, zero, suc, Bool, true, false, List, [], ◌∷◌, ◌++◌, Option, Some, None}
 use Rattle.std.proofs.Common.{length, refl, sym, ap, ◌∙◌, subst, inl, inr, set, slice_get, get_or, cond, arith}
-use Rattle.std.specs.Option.{IfSome}
-use Rattle.std.specs.Prelude.{position, nat_eq, ◌&&◌}
-use Rattle.std.proofs.lemmas.Bool.{eq-eqb, eqb-true, and_from, and_parts}
-use Rattle.std.specs.List.{filter}
-use Rattle.std.proofs.lemmas.List.Quantifiers.{position-Some}
+use Rattle.std.proofs.{lemmas.Bool.{eq-eqb, eqb-true, and_from, and_parts}, lemmas.List.Quantifiers.{position-Some}}
 use Rattle.std.proofs.lemmas.Option.{get_or_from_slice_get, slice_get_within}
+use Rattle.std.specs.{Option.{IfSome}, Prelude.{position, nat_eq, ◌&&◌}, List.{filter}}
 use Rattle.sect_lemmas.specs.Lists.{Has}
-use Rattle.sect_lemmas.proofs.Options.{none_or_some, some_injective}
-use Rattle.sect_lemmas.proofs.Places.{at_of}
-use Rattle.sect_places.specs.Declarations.{is_call, is_called, is_procedure}
-use Rattle.sect_places.specs.declared.name_use.NameSpan.{NameSpan}
-use Rattle.sect_lint.specs.Calls.{is_call_in, Leads}
-use Rattle.sect_lint.specs.declared.circle.Link.{Link}
+use Rattle.sect_lemmas.proofs.{Options.{none_or_some, some_injective}, Places.{at_of}}
+use Rattle.sect_places.specs.{Declarations.{is_call, is_called, is_procedure}, declared.name_use.NameSpan.{NameSpan}}
+use Rattle.sect_lint.specs.{Calls.{is_call_in, Leads}, declared.circle.Link.{Link}}
 use Rattle.sect_lint.specs.steps.Linked.{AreLinks, AreBelow}
 
 found_within : {A : Type 0} (p : A → Bool) (xs : List A) (i : ℕ) → position p xs ≡ Some i → i < length xs

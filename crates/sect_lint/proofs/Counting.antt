@@ -1,7 +1,6 @@
 -- How the items of records are counted.
-use Rattle.std.proofs.Common.{◌≡◌, ℕ, zero, suc, ◌+◌, ◌-◌, ◌<◌, ◌≤◌, List, [], ◌∷◌, length, get_or, drop, refl}
-use Rattle.std.proofs.Common.{sym, ◌∙◌, ap, arith}
-use Rattle.std.proofs.lemmas.List.{drop_more, drop_all}
+use Rattle.std.proofs.Common.{◌≡◌, ℕ, zero, suc, ◌+◌, ◌-◌, ◌<◌, ◌≤◌, List, [], ◌∷◌, length, get_or, drop, refl, sym}
+use Rattle.std.proofs.{Common.{◌∙◌, ap, arith}, lemmas.List.{drop_more, drop_all}}
 use Rattle.sect_front.specs.declared.tree.Record.{Record}
 use Rattle.sect_lint.specs.Places.{record_item}
 

@@ -4,28 +4,21 @@ use Rattle.std.proofs.Common.{sym, ◌∙◌, ap, arith}
 use Rattle.sect_lemmas.proofs.Options.{none_or_some}
 use Rattle.std.specs.Prelude.{slice_index_or}
 use Rattle.sect_lemmas.specs.Lists.{Has}
-use Rattle.sect_front.specs.TreeView.{TreeView}
-use Rattle.sect_front.specs.declared.tree.Record.{Record}
+use Rattle.sect_front.specs.{TreeView.{TreeView}, declared.tree.Record.{Record}}
 use Rattle.sect_front.specs.declared.tree.Declaration.{Declaration}
+use Rattle.sect_types.specs.{First.{BreaksFrom, none_yet}, Items.{Item, items, field_items, record_items}}
+use Rattle.sect_types.specs.{Programs.{ProgramView}, Rules.{Declared, Counts, after, declared_in}}
+use Rattle.sect_types.specs.{declared.rules.rule.Rule.{Rule}, declared.rules.rule.TypeFault.{TypeFault}}
+use Rattle.sect_hints.specs.{Hints.{hints_of}, declared.fault.HintFault.{HintFault}}
+use Rattle.sect_names.specs.{Verdicts.{fault_of}, declared.fault.SchemeFault.{SchemeFault}}
+use Rattle.sect_lint.specs.{declared.mistake.Mistake.{Mistake}, Places.{of_types, of_scheme, record_item, item_number}}
 use Rattle.sect_types.specs.First as types
-use Rattle.sect_types.specs.First.{BreaksFrom, none_yet}
-use Rattle.sect_types.specs.Items.{Item, items, field_items, record_items}
-use Rattle.sect_types.specs.Programs.{ProgramView}
-use Rattle.sect_types.specs.Rules.{Declared, Counts, after, declared_in}
-use Rattle.sect_types.specs.declared.rules.rule.Rule.{Rule}
-use Rattle.sect_types.specs.declared.rules.rule.TypeFault.{TypeFault}
 use Rattle.sect_types.specs.declared.rules.rule.TypeFault.TheVariants as type_fault
-use Rattle.sect_hints.specs.Hints.{hints_of}
 use Rattle.sect_hints.specs.Faults as hints
-use Rattle.sect_hints.specs.declared.fault.HintFault.{HintFault}
 use Rattle.sect_hints.specs.declared.fault.HintFault.TheVariants as hint_fault
 use Rattle.sect_names.specs.Verdicts as schemes
-use Rattle.sect_names.specs.Verdicts.{fault_of}
-use Rattle.sect_names.specs.declared.fault.SchemeFault.{SchemeFault}
 use Rattle.sect_names.specs.declared.fault.SchemeFault.TheVariants as scheme_fault
-use Rattle.sect_lint.specs.declared.mistake.Mistake.{Mistake}
 use Rattle.sect_lint.specs.Mistakes as mistakes
-use Rattle.sect_lint.specs.Places.{of_types, of_scheme, record_item, item_number}
 
 breaks_within : (d : Declared) (c : Counts) (list : List Item) (i : ℕ) (r : Rule) → BreaksFrom d c list i r
     → i < length list

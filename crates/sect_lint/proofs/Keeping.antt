@@ -1,34 +1,27 @@
 -- The names that matter to an item tell of it what all names do.
 use Rattle.std.proofs.Common.{◌≡◌, ◌≤◌, ℕ, Bool, true, false, List, [], ◌∷◌, Option, Some, None, refl, sym, ap, ◌∙◌}
 use Rattle.std.proofs.Common.{map, filter, inl, inr, subst, cond, true≢false, arith}
-use Rattle.std.specs.Prelude.{◌||◌, ◌&&◌, not, nat_eq, nat_lt, position, find, is_some, option_map}
-use Rattle.std.specs.Option.{option_or, IfSome}
-use Rattle.std.specs.List.{list_all}
-use Rattle.std.specs.Cmp.Lexicographic.{pointwise}
 use Rattle.std.proofs.lemmas.Bool.{eqb-true, le-ltb, ltb-true, and_from, and_parts}
+use Rattle.std.specs.Prelude.{◌||◌, ◌&&◌, not, nat_eq, nat_lt, position, find, is_some, option_map}
+use Rattle.std.specs.{Option.{option_or, IfSome}, List.{list_all}, Cmp.Lexicographic.{pointwise}}
 use Rattle.sect_lemmas.specs.Lists.{Has}
 use Rattle.sect_lemmas.proofs.Booleans.{or_left, or_right}
 use Rattle.sect_lemmas.proofs.Firsts.{Finds, find_kept, position_finds, position_there, either_there}
 use Rattle.sect_front.specs.TreeView.{TreeView}
-use Rattle.sect_places.specs.declared.name_use.NameUse.{NameUse}
-use Rattle.sect_places.specs.declared.name_use.NameSpan.{NameSpan}
-use Rattle.sect_places.specs.NameUses.{name_uses}
-use Rattle.sect_places.specs.declared.name_use.Thing.{Thing}
-use Rattle.sect_places.specs.declared.name_use.Thing.TheVariants as thing
-use Rattle.sect_places.specs.declared.name_use.Role.{Role}
-use Rattle.sect_places.specs.declared.name_use.Role.TheVariants as role
+use Rattle.sect_places.specs.{declared.name_use.NameUse.{NameUse}, declared.name_use.NameSpan.{NameSpan}}
+use Rattle.sect_places.specs.{NameUses.{name_uses}, declared.name_use.Thing.{Thing}, declared.name_use.Role.{Role}}
 use Rattle.sect_places.specs.Declarations.{is_declaration, is_record, is_field, is_global, is_procedure, is_thread}
 use Rattle.sect_places.specs.Declarations.{is_local, is_type, is_base, is_called, is_called_in, does_in, record_of}
 use Rattle.sect_places.specs.Declarations.{procedure_of, field_of, variable_of, type_in, base_in}
-use Rattle.sect_places.specs.Mattering.{matters, matters_to_all, is_wanted, wanted}
-use Rattle.sect_places.specs.declared.wish.Wish.{Wish}
-use Rattle.sect_places.specs.declared.wish.Wish.TheVariants as wish
+use Rattle.sect_places.specs.{Mattering.{matters, matters_to_all, is_wanted, wanted}, declared.wish.Wish.{Wish}}
 use Rattle.sect_lint.specs.Naming.{found, name_of, type_of, variable, base_by, type_by, base_type, field_by, field_in}
-use Rattle.sect_lint.specs.Naming.{member_by, member_of, knows_field, knows, is_unknown_in, unknown_name}
-use Rattle.sect_lint.specs.Naming.{clashes, clashes_by, is_earlier, is_declared_in, declared_at}
-use Rattle.sect_lint.specs.Naming.{earlier_of, earlier_name}
+use Rattle.sect_lint.specs.Naming.{member_by, member_of, knows_field, knows, is_unknown_in, unknown_name, clashes}
+use Rattle.sect_lint.specs.Naming.{clashes_by, is_earlier, is_declared_in, declared_at, earlier_of, earlier_name}
 use Rattle.sect_lint.specs.steps.Wishes.{is_member, is_settled, IsSettled}
 use Rattle.sect_lint.proofs.Circling.{filter_has}
+use Rattle.sect_places.specs.declared.name_use.Thing.TheVariants as thing
+use Rattle.sect_places.specs.declared.name_use.Role.TheVariants as role
+use Rattle.sect_places.specs.declared.wish.Wish.TheVariants as wish
 
 -- what does that declares
 abbrev DeclaresWhere : (Role → Bool) → Type 0

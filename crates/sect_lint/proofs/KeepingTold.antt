@@ -1,26 +1,19 @@
 -- What the names that are wanted for a mistake tell of it, all names tell.
 use Rattle.std.proofs.Common.{◌≡◌, ◌∙◌, ℕ, List, [], ◌∷◌, map, refl, ap, subst, inl, inr}
 use Rattle.sect_lemmas.specs.Lists.{Has}
-use Rattle.sect_front.specs.TreeView.{TreeView}
-use Rattle.sect_front.specs.declared.span.Span.{Span}
-use Rattle.sect_front.specs.declared.token.Token.{Token}
+use Rattle.sect_front.specs.{TreeView.{TreeView}, declared.span.Span.{Span}, declared.token.Token.{Token}}
 use Rattle.sect_types.specs.declared.rules.rule.TypeFault.{TypeFault}
-use Rattle.sect_types.specs.declared.rules.rule.TypeFault.TheVariants as types
-use Rattle.sect_places.specs.declared.name_use.NameSpan.{NameSpan}
-use Rattle.sect_places.specs.Mattering.{is_wanted, wanted}
-use Rattle.sect_places.specs.declared.wish.Wish.{Wish}
-use Rattle.sect_places.specs.NameUses.{name_uses}
-use Rattle.sect_lint.specs.declared.diagnostic.Detail.{Detail}
-use Rattle.sect_lint.specs.declared.diagnostic.Detail.TheVariants as detail
-use Rattle.sect_lint.specs.Naming.{earlier_detail}
-use Rattle.sect_lint.specs.Limits.{item_limit}
-use Rattle.sect_lint.specs.Places.{of_types, item_number, marked_name}
-use Rattle.sect_lint.specs.Details.{IsToldOf, item_detail}
+use Rattle.sect_places.specs.{declared.name_use.NameSpan.{NameSpan}, Mattering.{is_wanted, wanted}}
+use Rattle.sect_places.specs.{declared.wish.Wish.{Wish}, NameUses.{name_uses}}
+use Rattle.sect_lint.specs.{declared.diagnostic.Detail.{Detail}, Naming.{earlier_detail}, Limits.{item_limit}}
+use Rattle.sect_lint.specs.{Places.{of_types, item_number, marked_name}, Details.{IsToldOf, item_detail}}
 use Rattle.sect_lint.specs.Calls.{Leads, IsCircleTold}
 use Rattle.sect_lint.specs.steps.Wishes.{IsWish}
 use Rattle.sect_lint.proofs.Circling.{filter_has}
 use Rattle.sect_lint.proofs.Keeping.{unknown_same, declared_same, earlier_same, unknown_known, settled_names}
 use Rattle.sect_lint.proofs.KeepingTypes.{mistyped_same}
+use Rattle.sect_types.specs.declared.rules.rule.TypeFault.TheVariants as types
+use Rattle.sect_lint.specs.declared.diagnostic.Detail.TheVariants as detail
 
 module _ (which : Wish) (names some : List NameSpan) (are : some ≡ wanted which names) where
   has_more : (n : NameSpan) → Has some n → Has names n

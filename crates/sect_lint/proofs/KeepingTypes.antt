@@ -1,33 +1,26 @@
 -- The names that matter to an item tell of its types what all names do.
 use Rattle.std.proofs.Common.{◌≡◌, ℕ, ◌+◌, List, [], ◌∷◌, Option, Some, None, refl, ap, ◌∙◌, drop}
 use Rattle.std.specs.Prelude.{if◌then◌else◌, position, slice_get}
-use Rattle.sect_front.specs.declared.span.Span.{Span}
-use Rattle.sect_front.specs.declared.token.Token.{Token}
-use Rattle.sect_front.specs.declared.token.Token.TheVariants as token
-use Rattle.sect_front.specs.declared.tree.Kind.{Kind}
-use Rattle.sect_front.specs.declared.tree.Declaration.{Declaration}
-use Rattle.sect_front.specs.declared.tree.Procedure.{Procedure}
-use Rattle.sect_places.specs.declared.name_use.NameSpan.{NameSpan}
-use Rattle.sect_places.specs.Declarations.{is_global, procedure_of}
+use Rattle.sect_front.specs.{declared.span.Span.{Span}, declared.token.Token.{Token}, declared.tree.Kind.{Kind}}
+use Rattle.sect_front.specs.{declared.tree.Declaration.{Declaration}, declared.tree.Procedure.{Procedure}}
+use Rattle.sect_places.specs.{declared.name_use.NameSpan.{NameSpan}, Declarations.{is_global, procedure_of}}
 use Rattle.sect_places.specs.Mattering.{wanted}
-use Rattle.sect_places.specs.declared.wish.Wish.TheVariants as wish
-use Rattle.sect_lint.specs.declared.diagnostic.Shape.{Shape}
-use Rattle.sect_lint.specs.declared.diagnostic.Shape.TheVariants as shape
-use Rattle.sect_lint.specs.declared.diagnostic.Detail.{Detail}
-use Rattle.sect_lint.specs.declared.diagnostic.Detail.TheVariants as detail
-use Rattle.sect_lint.specs.declared.form.Form.{Form}
-use Rattle.sect_lint.specs.declared.form.Form.TheVariants as form
-use Rattle.sect_lint.specs.declared.arguments.Call.{Call}
+use Rattle.sect_lint.specs.{declared.diagnostic.Shape.{Shape}, declared.diagnostic.Detail.{Detail}}
+use Rattle.sect_lint.specs.{declared.form.Form.{Form}, declared.arguments.Call.{Call}}
 use Rattle.sect_lint.specs.Naming.{found, variable, member_of, type_by}
 use Rattle.sect_lint.specs.Typing.{named_shape, shape_of, is_in, variable_beside, variable_in, declared_shape}
 use Rattle.sect_lint.specs.Typing.{assigned_shape, value_shape, target_shape, field_shape, shape_in, typed_by, joined}
 use Rattle.sect_lint.specs.Typing.{value_at, target_at, member_at, made_by, one, two, loaded, stored, unless_int}
-use Rattle.sect_lint.specs.Typing.{types_detail}
-use Rattle.sect_lint.specs.Forms.{form_of}
+use Rattle.sect_lint.specs.{Typing.{types_detail}, Forms.{form_of}}
 use Rattle.sect_lint.specs.Arguments.{takes, fits, parameter_by, unless_fits, differing, call_by, called_by}
 use Rattle.sect_lint.specs.Arguments.{called_detail, parameters_in, mistyped_by, mistyped_detail}
 use Rattle.sect_lint.proofs.Keeping.{found_same, own_matter, procedure_same, type_named_same, variable_same, type_same}
 use Rattle.sect_lint.proofs.Keeping.{member_same}
+use Rattle.sect_front.specs.declared.token.Token.TheVariants as token
+use Rattle.sect_places.specs.declared.wish.Wish.TheVariants as wish
+use Rattle.sect_lint.specs.declared.diagnostic.Shape.TheVariants as shape
+use Rattle.sect_lint.specs.declared.diagnostic.Detail.TheVariants as detail
+use Rattle.sect_lint.specs.declared.form.Form.TheVariants as form
 
 -- the same of the token that may be there
 shape_in_same : (f g : Token → Option Shape) → ((t : Token) → f t ≡ g t) → (o : Option Token)

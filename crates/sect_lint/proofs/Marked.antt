@@ -1,29 +1,20 @@
 -- The bytes of names that are told lie in the text.
 use Rattle.std.proofs.Common.{◌≡◌, ℕ, List, Option, Some, None, map, slice_get, refl, sym, subst, arith, ap, ◌∙◌}
+use Rattle.std.proofs.{lemmas.List.{length-map}, lemmas.Option.{get_or_from_slice_get, slice_get-map}}
 use Rattle.std.specs.Prelude.{All, MatchOption, option_map}
-use Rattle.std.proofs.lemmas.List.{length-map}
-use Rattle.std.proofs.lemmas.Option.{get_or_from_slice_get, slice_get-map}
-use Rattle.sect_lemmas.proofs.Places.{Has-index, at_of}
-use Rattle.sect_front.specs.TreeView.{TreeView}
-use Rattle.sect_front.specs.FaultPlaces.{IsWithin}
-use Rattle.sect_front.specs.declared.span.Span.{Span}
+use Rattle.sect_lemmas.proofs.{Places.{Has-index, at_of}, Options.{none_or_some}}
+use Rattle.sect_front.specs.{TreeView.{TreeView}, FaultPlaces.{IsWithin}, declared.span.Span.{Span}}
 use Rattle.sect_front.specs.declared.token.Token.{Token}
 use Rattle.sect_types.specs.declared.rules.rule.TypeFault.{TypeFault}
-use Rattle.sect_types.specs.declared.rules.rule.TypeFault.TheVariants as types
-use Rattle.sect_places.specs.declared.name_use.NameSpan.{NameSpan}
-use Rattle.sect_places.specs.Spans.{AreInOrder, AreProper}
-use Rattle.sect_lemmas.proofs.Options.{none_or_some}
+use Rattle.sect_places.specs.{declared.name_use.NameSpan.{NameSpan}, Spans.{AreInOrder, AreProper}}
 use Rattle.sect_places.proofs.shared.Names.{name_proper}
-use Rattle.sect_lint.specs.declared.culprit.Culprit.{Culprit}
-use Rattle.sect_lint.specs.declared.mistake.Mistake.{Mistake}
+use Rattle.sect_lint.specs.{declared.culprit.Culprit.{Culprit}, declared.mistake.Mistake.{Mistake}}
 use Rattle.sect_lint.specs.Naming.{found, unknown_at, declared_at, earlier_at, earlier_of, earlier_detail}
-use Rattle.sect_lint.specs.Calls.{Leads, IsCircleTold}
-use Rattle.sect_lint.specs.declared.diagnostic.Detail.{Detail}
+use Rattle.sect_lint.specs.{Calls.{Leads, IsCircleTold}, declared.diagnostic.Detail.{Detail}}
+use Rattle.sect_lint.specs.{Details.{IsDetailWithin, IsToldOf, item_detail}, Places.{IsItemSpan, IsMarked, marked_name}}
+use Rattle.sect_lint.proofs.{Circling.{leads_has}, Parts.{mistyped_within, counts_within}}
+use Rattle.sect_types.specs.declared.rules.rule.TypeFault.TheVariants as types
 use Rattle.sect_lint.specs.declared.diagnostic.Detail.TheVariants as detail
-use Rattle.sect_lint.specs.Details.{IsDetailWithin, IsToldOf, item_detail}
-use Rattle.sect_lint.proofs.Circling.{leads_has}
-use Rattle.sect_lint.specs.Places.{IsItemSpan, IsMarked, marked_name}
-use Rattle.sect_lint.proofs.Parts.{mistyped_within, counts_within}
 
 -- the bytes of a name lie in the text
 name_within : (total : ℕ) (names : List NameSpan) (k : ℕ) (n : NameSpan)

@@ -1,41 +1,27 @@
 -- The bytes of what is told with its type lie in the text.
-use Rattle.std.proofs.Common.{◌≡◌, ℕ, zero, suc, ◌+◌, ◌-◌, ◌≤◌, List, [], ◌∷◌, Option, Some, None, map, drop}
-use Rattle.std.proofs.Common.{slice_get, true, false, Bool, arith, get_or, refl, ap, ◌∙◌}
-use Rattle.std.specs.Option.{IfSome}
-use Rattle.std.specs.Prelude.{if◌then◌else◌}
+use Rattle.std.proofs.Common.{◌≡◌, ℕ, zero, suc, ◌+◌, ◌-◌, ◌≤◌, List, [], ◌∷◌, Option, Some, None, map, drop, slice_get}
+use Rattle.std.proofs.Common.{true, false, Bool, arith, get_or, refl, ap, ◌∙◌}
 use Rattle.std.proofs.lemmas.Option.{slice_get_within, get_or_from_slice_get}
+use Rattle.std.specs.{Option.{IfSome}, Prelude.{if◌then◌else◌}}
 use Rattle.sect_lemmas.proofs.Options.{none_or_some}
-use Rattle.sect_front.specs.FaultPlaces.{IsWithin}
-use Rattle.sect_front.specs.declared.span.Span.{Span}
-use Rattle.sect_front.specs.declared.token.Token.{Token}
-use Rattle.sect_front.specs.declared.token.Token.TheVariants as token
-use Rattle.sect_front.specs.declared.tree.Declaration.{Declaration}
-use Rattle.sect_front.specs.declared.tree.Procedure.{Procedure}
-use Rattle.sect_places.specs.declared.name_use.NameSpan.{NameSpan}
-use Rattle.sect_places.specs.Declarations.{is_global, type_in, variable_of}
-use Rattle.sect_places.specs.Ranges.{range}
-use Rattle.sect_places.specs.Spans.{AreInOrder, AreProper, no_span}
-use Rattle.sect_places.proofs.shared.Ordered.{span_proper}
-use Rattle.sect_places.proofs.shared.Names.{name_proper}
-use Rattle.sect_lint.specs.declared.diagnostic.Shape.{Shape}
-use Rattle.sect_lint.specs.declared.diagnostic.Shape.TheVariants as shape
-use Rattle.sect_lint.specs.declared.diagnostic.Typed.{Typed}
-use Rattle.sect_lint.specs.declared.diagnostic.Detail.{Detail}
-use Rattle.sect_lint.specs.declared.form.Form.{Form}
-use Rattle.sect_lint.specs.declared.form.Form.TheVariants as form
+use Rattle.sect_front.specs.{FaultPlaces.{IsWithin}, declared.span.Span.{Span}, declared.token.Token.{Token}}
+use Rattle.sect_front.specs.{declared.tree.Declaration.{Declaration}, declared.tree.Procedure.{Procedure}}
+use Rattle.sect_places.specs.{declared.name_use.NameSpan.{NameSpan}, Declarations.{is_global, type_in, variable_of}}
+use Rattle.sect_places.specs.{Ranges.{range}, Spans.{AreInOrder, AreProper, no_span}, Openings.{values_in}}
+use Rattle.sect_places.proofs.shared.{Ordered.{span_proper}, Names.{name_proper}}
+use Rattle.sect_lint.specs.{declared.diagnostic.Shape.{Shape}, declared.diagnostic.Typed.{Typed}}
+use Rattle.sect_lint.specs.{declared.diagnostic.Detail.{Detail}, declared.form.Form.{Form}}
 use Rattle.sect_lint.specs.Naming.{found, variable, member_of}
 use Rattle.sect_lint.specs.Typing.{named_shape, shape_of, declared_shape, assigned_shape, value_shape, target_shape}
 use Rattle.sect_lint.specs.Typing.{field_shape, shape_in, variable_in, typed_by, joined, made_by, one, two, loaded}
-use Rattle.sect_lint.specs.Typing.{stored}
-use Rattle.sect_lint.specs.Typing.{value_at, target_at, member_at, unless_int, types_detail}
-use Rattle.sect_lint.specs.Forms.{form_of}
-use Rattle.sect_places.specs.Openings.{values_in}
+use Rattle.sect_lint.specs.{Typing.{stored, value_at, target_at, member_at, unless_int, types_detail}, Forms.{form_of}}
 use Rattle.sect_lint.specs.Counting.{counts_by, counts_detail, parameters_of}
 use Rattle.sect_lint.specs.Arguments.{fits, parameter_by, unless_fits, differing, parameters_in, call_of, called_by}
-use Rattle.sect_lint.specs.Arguments.{called_detail, mistyped_by, mistyped_detail}
-use Rattle.sect_lint.specs.declared.arguments.Call.{Call}
-use Rattle.sect_lint.specs.Labels.{IsShapeWithin, IsTypedWithin}
-use Rattle.sect_lint.specs.Details.{IsDetailWithin}
+use Rattle.sect_lint.specs.{Arguments.{called_detail, mistyped_by, mistyped_detail}, declared.arguments.Call.{Call}}
+use Rattle.sect_lint.specs.{Labels.{IsShapeWithin, IsTypedWithin}, Details.{IsDetailWithin}}
+use Rattle.sect_front.specs.declared.token.Token.TheVariants as token
+use Rattle.sect_lint.specs.declared.diagnostic.Shape.TheVariants as shape
+use Rattle.sect_lint.specs.declared.form.Form.TheVariants as form
 
 -- what stands in order from a place on stands in order from an earlier one on
 lower : (low from total : ℕ) (ss : List Span) → low ≤ from → AreInOrder from total ss → AreInOrder low total ss

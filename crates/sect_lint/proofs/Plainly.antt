@@ -1,36 +1,25 @@
 -- What is said where names don't matter: a limit, by what is declared and by the first tokens, and the number of
 -- arguments.
-use Rattle.std.proofs.Common.{◌≡◌, ℕ, List, [], ◌∷◌, Option, Some, None, map, slice_get}
-use Rattle.std.proofs.Common.{refl, sym, ◌∙◌, ap, ◌+◌, suc, cond, nat_lt, not, take, drop, Bool, true, false}
-use Rattle.std.proofs.Common.{true≢false, arith}
-use Rattle.std.specs.List.{prefix_len}
-use Rattle.std.proofs.lemmas.Bool.Decides.{nat_tests}
-use Rattle.std.proofs.lemmas.List.{length-map}
-use Rattle.std.specs.Prelude.{position, option_map, filter, length, nat_eq, ◌&&◌}
-use Rattle.std.proofs.lemmas.Option.{slice_get-map}
+use Rattle.std.proofs.Common.{◌≡◌, ℕ, List, [], ◌∷◌, Option, Some, None, map, slice_get, refl, sym, ◌∙◌, ap, ◌+◌, suc}
+use Rattle.std.proofs.Common.{cond, nat_lt, not, take, drop, Bool, true, false, true≢false, arith}
+use Rattle.std.proofs.{lemmas.Bool.Decides.{nat_tests}, lemmas.List.{length-map}, lemmas.Option.{slice_get-map}}
+use Rattle.std.specs.{List.{prefix_len}, Prelude.{position, option_map, filter, length, nat_eq, ◌&&◌}}
 use Rattle.sect_lemmas.proofs.Options.{some_injective}
-use Rattle.sect_front.specs.declared.span.Span.{Span}
-use Rattle.sect_front.specs.declared.token.Token.{Token}
-use Rattle.sect_front.specs.declared.token.Token.TheVariants as token
+use Rattle.sect_front.specs.{declared.span.Span.{Span}, declared.token.Token.{Token}}
 use Rattle.sect_front.specs.declared.tree.Procedure.{Procedure}
 use Rattle.sect_types.specs.declared.rules.rule.TypeFault.{TypeFault}
-use Rattle.sect_types.specs.declared.rules.rule.TypeFault.TheVariants as types
-use Rattle.sect_places.specs.Openings.{values_in}
-use Rattle.sect_places.specs.declared.range.TokenRange.{TokenRange}
-use Rattle.sect_places.specs.declared.name_use.Role.{Role}
-use Rattle.sect_places.specs.declared.name_use.Role.TheVariants as role
-use Rattle.sect_places.specs.declared.name_use.NameUse.{NameUse}
-use Rattle.sect_places.specs.declared.name_use.NameSpan.{NameSpan}
-use Rattle.sect_places.specs.Declarations.{is_declaration}
-use Rattle.sect_lint.specs.Naming.{found, declared_at, is_declared_in}
-use Rattle.sect_lint.specs.Limits.{item_limit, limit_by, form_limit}
+use Rattle.sect_places.specs.{Openings.{values_in}, declared.range.TokenRange.{TokenRange}}
+use Rattle.sect_places.specs.{declared.name_use.Role.{Role}, declared.name_use.NameUse.{NameUse}}
+use Rattle.sect_places.specs.{declared.name_use.NameSpan.{NameSpan}, Declarations.{is_declaration}}
+use Rattle.sect_lint.specs.{Naming.{found, declared_at, is_declared_in}, Limits.{item_limit, limit_by, form_limit}}
 use Rattle.sect_lint.specs.Forms.{form_of, first_form, named_form, after_name, assigned_form}
-use Rattle.sect_lint.specs.Counting.{counts_detail}
-use Rattle.sect_lint.specs.Places.{marked}
-use Rattle.sect_lint.specs.Mistakes.{of_types as mistake_by}
+use Rattle.sect_lint.specs.{Counting.{counts_detail}, Places.{marked}, Mistakes.{of_types as mistake_by}}
 use Rattle.sect_lint.specs.declared.mistake.Mistake.{Mistake}
-use Rattle.sect_lint.specs.declared.mistake.Mistake.TheVariants as mistake
 use Rattle.sect_lint.specs.steps.Plain.{is_declared_there, by_use, use_limit, is_plain, opened_counts}
+use Rattle.sect_front.specs.declared.token.Token.TheVariants as token
+use Rattle.sect_types.specs.declared.rules.rule.TypeFault.TheVariants as types
+use Rattle.sect_places.specs.declared.name_use.Role.TheVariants as role
+use Rattle.sect_lint.specs.declared.mistake.Mistake.TheVariants as mistake
 
 abbrev used_of : NameSpan → NameUse
 used_of n = n.used

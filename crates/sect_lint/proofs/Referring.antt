@@ -1,21 +1,16 @@
 -- What is among referents is found by a test.
 use Rattle.std.proofs.Common.{◌≡◌, ◌↔◌, ◌⊎◌, List, [], ◌∷◌, ◌++◌, Bool, true, false, Option, Some, None, inl, inr, refl}
-use Rattle.std.proofs.Common.{sym}
-use Rattle.std.proofs.Common.{rules, true≢false, ℕ, ◌+◌, ◌<◌, length, take, get_or, ap, ◌∙◌, subst}
-use Rattle.std.specs.Prelude.{not}
-use Rattle.std.specs.Bool.{Decides}
-use Rattle.std.specs.List.{list_any, flat_map}
-use Rattle.std.proofs.lemmas.List.{take_more, append-nil}
-use Rattle.std.proofs.lemmas.Grind.{flat_map-append}
+use Rattle.std.proofs.Common.{sym, rules, true≢false, ℕ, ◌+◌, ◌<◌, length, take, get_or, ap, ◌∙◌, subst}
+use Rattle.std.proofs.{lemmas.List.{take_more, append-nil}, lemmas.Grind.{flat_map-append}}
+use Rattle.std.specs.{Prelude.{not}, Bool.{Decides}, List.{list_any, flat_map}}
 use Rattle.sect_lemmas.specs.Lists.{Has}
-use Rattle.sect_lemmas.proofs.Finding.{any_tells}
-use Rattle.sect_lemmas.proofs.Membership.{Has-cases, Has-left, Has-right}
+use Rattle.sect_lemmas.proofs.{Finding.{any_tells}, Membership.{Has-cases, Has-left, Has-right}}
 use Rattle.sect_places.specs.declared.name_use.NameSpan.{NameSpan}
 use Rattle.sect_lint.specs.declared.unused.Referent.{Referent}
-use Rattle.sect_lint.specs.declared.unused.Referent.TheVariants as referent
 use Rattle.sect_lint.specs.contracts.unused.ReferentPartialEq.TheImpl.{ghosts as the_referent_eq}
 use Rattle.sect_lint.specs.Unused.{IsNotAmong, mentions}
 use Rattle.sect_lint.specs.steps.Spare.{is_spare}
+use Rattle.sect_lint.specs.declared.unused.Referent.TheVariants as referent
 
 pub referent_tells : (a b : Referent) → Decides (the_referent_eq.eq a b) (a ≡ b)
 referent_tells (referent.Record x) (referent.Record y) = search rules

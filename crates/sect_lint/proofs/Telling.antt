@@ -1,22 +1,15 @@
 -- Lists of values that are made one by one, and values without floats.
-use Rattle.std.proofs.Common.{◌≡◌, ◌≤◌, ◌<◌, ℕ, ◌+◌, List, [], ◌∷◌, ◌++◌, map, take, length, get_or, false, refl}
-use Rattle.std.proofs.Common.{◌∙◌, sym, ap}
-use Rattle.std.specs.Prelude.{Vec}
-use Rattle.std.specs.declared.alloc.Global.{Global}
-use Rattle.std.proofs.lemmas.Bool.{or_from}
-use Rattle.std.proofs.lemmas.List.{map-append, take_all, take_more}
-use Rattle.serde_json.specs.Data.{Data}
-use Rattle.serde_json.specs.View.{view, items_of}
-use Rattle.serde_json.specs.Written.{has_float, items_have_float}
+use Rattle.std.proofs.Common.{◌≡◌, ◌≤◌, ◌<◌, ℕ, ◌+◌, List, [], ◌∷◌, ◌++◌, map, take, length, get_or, false, refl, ◌∙◌}
+use Rattle.std.proofs.{Common.{sym, ap}, lemmas.Bool.{or_from}, lemmas.List.{map-append, take_all, take_more}}
+use Rattle.std.specs.{Prelude.{Vec}, declared.alloc.Global.{Global}}
+use Rattle.serde_json.specs.{Data.{Data}, View.{view, items_of}, Written.{has_float, items_have_float}}
 use Rattle.serde_json.specs.declared.value.Value.{Value, Array}
 use Rattle.serde_json.proofs.Views.{view-Array}
 use Rattle.sect_front.specs.declared.span.Span.{Span}
-use Rattle.sect_lint.specs.Json.{list, call_json, diagnostic_json}
-use Rattle.sect_lint.specs.Sarif.{related_call, diagnostic_log}
-use Rattle.sect_lint.specs.declared.diagnostic.Detail.{Detail}
-use Rattle.sect_lint.specs.declared.diagnostic.Detail.TheVariants as detail
-use Rattle.sect_lint.specs.declared.diagnostic.Diagnostic.{Diagnostic}
+use Rattle.sect_lint.specs.{Json.{list, call_json, diagnostic_json}, Sarif.{related_call, diagnostic_log}}
+use Rattle.sect_lint.specs.{declared.diagnostic.Detail.{Detail}, declared.diagnostic.Diagnostic.{Diagnostic}}
 use Rattle.sect_lint.specs.declared.mistake.Mistake.{Mistake}
+use Rattle.sect_lint.specs.declared.diagnostic.Detail.TheVariants as detail
 
 module _ {A : Type 0} (of : A → Data) (xs : List A) where
   -- the values of the first elements, and that of the next

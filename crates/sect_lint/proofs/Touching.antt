@@ -1,8 +1,7 @@
 -- Whether some of the first elements pass a test.
 use Rattle.std.proofs.Common.{◌≡◌, ℕ, zero, suc, ◌+◌, List, [], ◌∷◌, Option, Some, None, Bool, true, false, ◌||◌, take}
 use Rattle.std.proofs.Common.{slice_get, refl, ap, ◌∙◌, add-one}
-use Rattle.std.specs.Prelude.{option_map}
-use Rattle.std.specs.List.{list_any}
+use Rattle.std.specs.{Prelude.{option_map}, List.{list_any}}
 use Rattle.sect_lemmas.proofs.Options.{none_or_some, some_injective}
 use Rattle.sect_types.specs.declared.expansion.action.Label.{Label}
 use Rattle.sect_graph.specs.declared.flow.Node.{Node}

@@ -3,26 +3,17 @@ use Rattle.std.proofs.Common.{◌≡◌, ℕ, ◌+◌, ◌-◌, ◌<◌, ◌≤�
 use Rattle.std.proofs.Common.{Some, refl, sym, ◌∙◌, ap, subst, arith, length-drop}
 use Rattle.std.proofs.lemmas.List.{length-map, length-take-le, get_or-take, get_or-drop}
 use Rattle.std.proofs.lemmas.Option.{get_or_from_slice_get}
-use Rattle.sect_front.specs.TreeView.{TreeView}
-use Rattle.sect_front.specs.TokenAt.{TokenAt}
-use Rattle.sect_front.specs.Front.{IsSpelled}
-use Rattle.sect_front.specs.FaultPlaces.{token_span}
-use Rattle.sect_front.specs.Grammar.{tokens_of}
-use Rattle.sect_front.specs.declared.span.Span.{Span}
-use Rattle.sect_front.specs.declared.token.Token.{Token}
+use Rattle.sect_front.specs.{TreeView.{TreeView}, TokenAt.{TokenAt}, Front.{IsSpelled}, FaultPlaces.{token_span}}
+use Rattle.sect_front.specs.{Grammar.{tokens_of}, declared.span.Span.{Span}, declared.token.Token.{Token}}
 use Rattle.sect_types.specs.Items.{items}
-use Rattle.sect_places.specs.declared.range.TokenRange.{TokenRange}
-use Rattle.sect_places.specs.Ranges.{range, item_tokens}
-use Rattle.sect_places.specs.Spans.{AreInOrder, no_span, span_in}
-use Rattle.sect_places.specs.Openings.{IsOpening}
+use Rattle.sect_places.specs.{declared.range.TokenRange.{TokenRange}, Ranges.{range, item_tokens}}
+use Rattle.sect_places.specs.{Spans.{AreInOrder, no_span, span_in}, Openings.{IsOpening}}
 use Rattle.sect_places.specs.declared.opening.Opening.{Opening}
-use Rattle.sect_lint.specs.Places.{IsItemSpan, item_number, marked, no_range}
-use Rattle.sect_lint.specs.Details.{own_range, own_spans}
-use Rattle.sect_lint.specs.declared.culprit.Culprit.{Culprit}
-use Rattle.sect_lint.specs.declared.layout.Words.{Words}
+use Rattle.sect_lint.specs.{Places.{IsItemSpan, item_number, marked, no_range}, Details.{own_range, own_spans}}
+use Rattle.sect_lint.specs.{declared.culprit.Culprit.{Culprit}, declared.layout.Words.{Words}}
 use Rattle.sect_lint.specs.declared.mistake.Mistake.{Mistake}
-use Rattle.sect_lint.specs.declared.mistake.Mistake.TheVariants as mistake
 use Rattle.sect_lint.specs.steps.Laid.{AreOwnWords, IsOwnOpening, span_of}
+use Rattle.sect_lint.specs.declared.mistake.Mistake.TheVariants as mistake
 
 abbrev window : List Span → TokenRange → List Span
 window ss r = take r.count (drop r.first ss)

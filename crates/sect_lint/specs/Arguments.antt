@@ -1,26 +1,17 @@
 -- Which argument of a call has another type than its parameter.
-use Rattle.std.specs.Prelude.{ℕ, Bool, true, false, if◌then◌else◌, List, [], ◌∷◌, Option, Some, None, nat_eq}
-use Rattle.std.specs.Prelude.{slice_get, drop}
-use Rattle.std.specs.Cmp.Lexicographic.{pointwise}
-use Rattle.sect_front.specs.declared.span.Span.{Span}
-use Rattle.sect_front.specs.declared.token.Token.{Token}
+use Rattle.std.specs.Prelude.{ℕ, Bool, true, false, if◌then◌else◌, List, [], ◌∷◌, Option, Some, None, nat_eq, slice_get}
+use Rattle.std.specs.{Prelude.{drop}, Cmp.Lexicographic.{pointwise}}
+use Rattle.sect_front.specs.{declared.span.Span.{Span}, declared.token.Token.{Token}, declared.tree.Kind.{Kind}}
+use Rattle.sect_front.specs.{declared.tree.Declaration.{Declaration}, declared.tree.Procedure.{Procedure}}
+use Rattle.sect_places.specs.{declared.name_use.NameSpan.{NameSpan}, Declarations.{procedure_of}}
+use Rattle.sect_lint.specs.{declared.diagnostic.Typed.{Typed}, declared.diagnostic.Detail.{Detail}}
+use Rattle.sect_lint.specs.{declared.arguments.Call.{Call}, Naming.{found, variable, type_by}}
+use Rattle.sect_lint.specs.{Typing.{shape_of, variable_in, value_shape, typed_by, types_detail, two}, Forms.{form_of}}
+use Rattle.sect_lint.specs.{declared.form.Form.{Form}, Counting.{called_at, procedure_at}}
 use Rattle.sect_front.specs.declared.token.Token.TheVariants as token
-use Rattle.sect_front.specs.declared.tree.Kind.{Kind}
 use Rattle.sect_front.specs.declared.tree.Kind.TheVariants as kind
-use Rattle.sect_front.specs.declared.tree.Declaration.{Declaration}
-use Rattle.sect_front.specs.declared.tree.Procedure.{Procedure}
-use Rattle.sect_places.specs.declared.name_use.NameSpan.{NameSpan}
-use Rattle.sect_places.specs.Declarations.{procedure_of}
-use Rattle.sect_lint.specs.declared.diagnostic.Typed.{Typed}
-use Rattle.sect_lint.specs.declared.diagnostic.Detail.{Detail}
 use Rattle.sect_lint.specs.declared.diagnostic.Detail.TheVariants as detail
-use Rattle.sect_lint.specs.declared.arguments.Call.{Call}
-use Rattle.sect_lint.specs.Naming.{found, variable, type_by}
-use Rattle.sect_lint.specs.Typing.{shape_of, variable_in, value_shape, typed_by, types_detail, two}
-use Rattle.sect_lint.specs.Forms.{form_of}
-use Rattle.sect_lint.specs.declared.form.Form.{Form}
 use Rattle.sect_lint.specs.declared.form.Form.TheVariants as form
-use Rattle.sect_lint.specs.Counting.{called_at, procedure_at}
 
 -- a parameter of that type takes what refers to objects of that record, or an integer, where none is given
 abbrev pub takes : Kind → Option (List ℕ) → Bool

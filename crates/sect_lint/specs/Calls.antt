@@ -3,8 +3,7 @@ use Rattle.std.specs.Prelude.{◌≡◌, ◌&&◌, ℕ, Bool, true, List, [], �
 use Rattle.sect_lemmas.specs.Lists.{Has}
 use Rattle.sect_places.specs.Declarations.{is_call, is_called, is_procedure, procedure_of}
 use Rattle.sect_places.specs.declared.name_use.NameSpan.{NameSpan}
-use Rattle.sect_lint.specs.Naming.{found}
-use Rattle.sect_lint.specs.declared.diagnostic.Detail.{Detail}
+use Rattle.sect_lint.specs.{Naming.{found}, declared.diagnostic.Detail.{Detail}}
 use Rattle.sect_lint.specs.declared.diagnostic.Detail.TheVariants as detail
 
 -- the name is that of a procedure which is called in the thread or procedure that is this item

@@ -1,13 +1,11 @@
 -- How many arguments a call has, and how many parameters the procedure.
-use Rattle.std.specs.Prelude.{ℕ, Bool, List, ◌∷◌, Option, Some, None, length, nat_eq, position}
-use Rattle.std.specs.Prelude.{slice_get}
+use Rattle.std.specs.Prelude.{ℕ, Bool, List, ◌∷◌, Option, Some, None, length, nat_eq, position, slice_get}
 use Rattle.std.specs.Cmp.Lexicographic.{pointwise}
-use Rattle.sect_front.specs.declared.span.Span.{Span}
-use Rattle.sect_front.specs.declared.token.Token.{Token}
-use Rattle.sect_front.specs.declared.token.Token.TheVariants as token
+use Rattle.sect_front.specs.{declared.span.Span.{Span}, declared.token.Token.{Token}}
 use Rattle.sect_front.specs.declared.tree.Procedure.{Procedure}
 use Rattle.sect_places.specs.Openings.{values_in}
 use Rattle.sect_lint.specs.declared.diagnostic.Detail.{Detail}
+use Rattle.sect_front.specs.declared.token.Token.TheVariants as token
 use Rattle.sect_lint.specs.declared.diagnostic.Detail.TheVariants as detail
 
 abbrev pub has_name : List ℕ → Procedure → Bool

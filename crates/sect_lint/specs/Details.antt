@@ -1,33 +1,19 @@
 -- What is said beside the carets.
 use Rattle.std.specs.Prelude.{◌≡◌, ◌<◌, ⊤, ℕ, ◌-◌, List, [], ◌∷◌, ◌++◌, Option, Some, None, length, slice_get, codes}
-use Rattle.std.specs.Prelude.{All, take, drop, get_or}
-use Rattle.std.specs.List.{flat_map}
-use Rattle.std.specs.Fmt.{decimal}
-use Rattle.sect_front.specs.Front.{line_of}
-use Rattle.sect_front.specs.FaultPlaces.{open_braces, IsWithin}
-use Rattle.sect_front.specs.Lexing.{Spells}
-use Rattle.sect_front.specs.TokenAt.{TokenAt}
-use Rattle.sect_front.specs.TreeView.{TreeView}
-use Rattle.sect_front.specs.Grammar.{tokens_of}
-use Rattle.sect_front.specs.declared.token.Token.{Token}
-use Rattle.sect_front.specs.declared.parsing.FrontFault.{FrontFault}
-use Rattle.sect_front.specs.declared.parsing.FrontFault.TheVariants as front
-use Rattle.sect_front.specs.declared.span.Span.{Span}
-use Rattle.sect_places.specs.Positions.{column_of}
+use Rattle.std.specs.{Prelude.{All, take, drop, get_or}, List.{flat_map}, Fmt.{decimal}}
+use Rattle.sect_front.specs.{Front.{line_of}, FaultPlaces.{open_braces, IsWithin}, Lexing.{Spells}, TokenAt.{TokenAt}}
+use Rattle.sect_front.specs.{TreeView.{TreeView}, Grammar.{tokens_of}, declared.token.Token.{Token}}
+use Rattle.sect_front.specs.{declared.parsing.FrontFault.{FrontFault}, declared.span.Span.{Span}}
+use Rattle.sect_places.specs.{Positions.{column_of}, declared.name_use.NameSpan.{NameSpan}}
+use Rattle.sect_places.specs.{declared.range.TokenRange.{TokenRange}, Ranges.{item_tokens}}
 use Rattle.sect_types.specs.declared.rules.rule.TypeFault.{TypeFault}
-use Rattle.sect_types.specs.declared.rules.rule.TypeFault.TheVariants as types
-use Rattle.sect_places.specs.declared.name_use.NameSpan.{NameSpan}
-use Rattle.sect_places.specs.declared.range.TokenRange.{TokenRange}
-use Rattle.sect_places.specs.Ranges.{item_tokens}
 use Rattle.sect_lint.specs.Naming.{found, declared_at, earlier_name, earlier_detail}
-use Rattle.sect_lint.specs.Places.{no_range, of_types, item_number}
-use Rattle.sect_lint.specs.Arguments.{mistyped_detail}
-use Rattle.sect_lint.specs.Limits.{words_of, item_limit}
-use Rattle.sect_lint.specs.Counting.{counts_detail}
-use Rattle.sect_lint.specs.Labels.{quoted, typed_text, types_text, counts_text, IsTypedWithin}
-use Rattle.sect_lint.specs.Calls.{IsCircleTold}
-use Rattle.sect_lint.specs.Kinds.{kinds_text, AreKindsTold}
-use Rattle.sect_lint.specs.declared.diagnostic.Detail.{Detail}
+use Rattle.sect_lint.specs.{Places.{no_range, of_types, item_number}, Arguments.{mistyped_detail}}
+use Rattle.sect_lint.specs.{Limits.{words_of, item_limit}, Counting.{counts_detail}}
+use Rattle.sect_lint.specs.{Labels.{quoted, typed_text, types_text, counts_text, IsTypedWithin}, Calls.{IsCircleTold}}
+use Rattle.sect_lint.specs.{Kinds.{kinds_text, AreKindsTold}, declared.diagnostic.Detail.{Detail}}
+use Rattle.sect_front.specs.declared.parsing.FrontFault.TheVariants as front
+use Rattle.sect_types.specs.declared.rules.rule.TypeFault.TheVariants as types
 use Rattle.sect_lint.specs.declared.diagnostic.Detail.TheVariants as detail
 
 -- that the brace at this place is open, if there is one

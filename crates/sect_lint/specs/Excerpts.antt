@@ -1,11 +1,8 @@
 -- A place of a text, as it is shown: its line, and carets under its bytes.
-use Rattle.std.specs.Prelude.{ℕ, ◌+◌, ◌-◌, ◌/◌, ◌%◌, ◌==◌, ◌&&◌, ◌||◌, not, nat_lt, Bool, if◌then◌else◌, min}
-use Rattle.std.specs.Prelude.{List, [], ◌∷◌, ◌++◌, length, take, drop, take_while, replicate, codes}
-use Rattle.std.specs.List.{flat_map}
+use Rattle.std.specs.Prelude.{ℕ, ◌+◌, ◌-◌, ◌/◌, ◌%◌, ◌==◌, ◌&&◌, ◌||◌, not, nat_lt, Bool, if◌then◌else◌, min, List, []}
+use Rattle.std.specs.{Prelude.{◌∷◌, ◌++◌, length, take, drop, take_while, replicate, codes}, List.{flat_map}}
 use Rattle.std.specs.Fmt.{decimal}
-use Rattle.sect_front.specs.Gaps.{line_feed}
-use Rattle.sect_front.specs.Front.{line_of}
-use Rattle.sect_front.specs.declared.span.Span.{Span}
+use Rattle.sect_front.specs.{Gaps.{line_feed}, Front.{line_of}, declared.span.Span.{Span}}
 use Rattle.sect_places.specs.Positions.{column_of}
 
 abbrev pub tab : ℕ

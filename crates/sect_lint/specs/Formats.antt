@@ -1,11 +1,8 @@
 -- What is printed, in each form.
 use Rattle.std.specs.Prelude.{ℕ, List, [], ◌++◌, codes}
 use Rattle.serde_json.specs.Written.{compact_text}
-use Rattle.sect_lint.specs.declared.format.Format.{Format}
-use Rattle.sect_lint.specs.declared.format.Format.TheVariants.{Text, Json, Sarif}
-use Rattle.sect_lint.specs.declared.diagnostic.Diagnostic.{Diagnostic}
-use Rattle.sect_lint.specs.Reports.{report}
-use Rattle.sect_lint.specs.Json.{diagnostic_json}
+use Rattle.sect_lint.specs.{declared.format.Format.{Format}, declared.format.Format.TheVariants.{Text, Json, Sarif}}
+use Rattle.sect_lint.specs.{declared.diagnostic.Diagnostic.{Diagnostic}, Reports.{report}, Json.{diagnostic_json}}
 use Rattle.sect_lint.specs.Sarif.{diagnostic_log, empty_log}
 
 -- a diagnostic, but for the line feed at its end

@@ -1,8 +1,8 @@
 -- The statement or the test that an item is, by its tokens.
 use Rattle.std.specs.Prelude.{Bool, true, false, if◌then◌else◌, List, [], ◌∷◌}
 use Rattle.sect_front.specs.declared.token.Token.{Token}
-use Rattle.sect_front.specs.declared.token.Token.TheVariants as token
 use Rattle.sect_lint.specs.declared.form.Form.{Form}
+use Rattle.sect_front.specs.declared.token.Token.TheVariants as token
 use Rattle.sect_lint.specs.declared.form.Form.TheVariants as form
 
 abbrev pub is_new : Token → Bool

@@ -1,19 +1,12 @@
 -- A diagnostic as a value of JSON.
-use Rattle.std.specs.Prelude.{ℕ, List, [], ◌∷◌, ◌++◌, codes, map}
-use Rattle.std.specs.Fmt.{decimal}
-use Rattle.serde_json.specs.Data.{Data, number, string, array, object, unsigned, no_members, member}
-use Rattle.serde_json.specs.View.{items_of}
-use Rattle.sect_front.specs.Front.{line_of}
-use Rattle.sect_front.specs.FaultPlaces.{span_from}
-use Rattle.sect_front.specs.declared.span.Span.{Span}
+use Rattle.std.specs.{Prelude.{ℕ, List, [], ◌∷◌, ◌++◌, codes, map}, Fmt.{decimal}}
+use Rattle.serde_json.specs.{Data.{Data, number, string, array, object, unsigned, no_members, member}, View.{items_of}}
+use Rattle.sect_front.specs.{Front.{line_of}, FaultPlaces.{span_from}, declared.span.Span.{Span}}
 use Rattle.sect_places.specs.Positions.{column_of}
-use Rattle.sect_lint.specs.declared.diagnostic.Detail.{Detail}
-use Rattle.sect_lint.specs.declared.diagnostic.Detail.TheVariants as detail
-use Rattle.sect_lint.specs.declared.diagnostic.Diagnostic.{Diagnostic}
-use Rattle.sect_lint.specs.Limits.{words_of}
-use Rattle.sect_lint.specs.Kinds.{kinds_text}
-use Rattle.sect_lint.specs.Labels.{quoted, typed_text, counts_text}
+use Rattle.sect_lint.specs.{declared.diagnostic.Detail.{Detail}, declared.diagnostic.Diagnostic.{Diagnostic}}
+use Rattle.sect_lint.specs.{Limits.{words_of}, Kinds.{kinds_text}, Labels.{quoted, typed_text, counts_text}}
 use Rattle.sect_lint.specs.Mistakes.{number_of, title_of, note_of}
+use Rattle.sect_lint.specs.declared.diagnostic.Detail.TheVariants as detail
 
 abbrev pub count : ℕ → Data
 count n = number (unsigned n)

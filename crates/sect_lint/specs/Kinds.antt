@@ -1,12 +1,9 @@
 -- Which kinds of tokens are told.
-use Rattle.std.specs.Prelude.{ℕ, if◌then◌else◌, List, [], ◌∷◌, ◌++◌, take, length, codes, nat_lt}
-use Rattle.std.specs.List.{flat_map}
-use Rattle.sect_front.specs.Samples.{kind_spelling}
-use Rattle.sect_front.specs.Expected.{AreExpectedAt}
-use Rattle.sect_front.specs.declared.span.Span.{Span}
+use Rattle.std.specs.{Prelude.{ℕ, if◌then◌else◌, List, [], ◌∷◌, ◌++◌, take, length, codes, nat_lt}, List.{flat_map}}
+use Rattle.sect_front.specs.{Samples.{kind_spelling}, Expected.{AreExpectedAt}, declared.span.Span.{Span}}
 use Rattle.sect_front.specs.declared.token_kind.TokenKind.{TokenKind}
-use Rattle.sect_front.specs.declared.token_kind.TokenKind.TheVariants as kind
 use Rattle.sect_lint.specs.declared.diagnostic.Detail.{Detail}
+use Rattle.sect_front.specs.declared.token_kind.TokenKind.TheVariants as kind
 use Rattle.sect_lint.specs.declared.diagnostic.Detail.TheVariants as detail
 
 -- a kind that has many spellings

@@ -1,14 +1,10 @@
 -- What is said of types and numbers, with the text's own words.
 use Rattle.std.specs.Prelude.{ℕ, ◌-◌, ◌==◌, ◌||◌, Bool, if◌then◌else◌, List, [], ◌∷◌, ◌++◌, take, drop, codes, ⊤}
-use Rattle.std.specs.List.{flat_map}
-use Rattle.std.specs.Fmt.{decimal}
-use Rattle.sect_front.specs.FaultPlaces.{IsWithin}
-use Rattle.sect_front.specs.declared.span.Span.{Span}
-use Rattle.sect_lint.specs.Excerpts.{shown}
-use Rattle.sect_lint.specs.declared.diagnostic.Shape.{Shape}
-use Rattle.sect_lint.specs.declared.diagnostic.Shape.TheVariants as shape
-use Rattle.sect_lint.specs.declared.diagnostic.Typed.{Typed}
+use Rattle.std.specs.{List.{flat_map}, Fmt.{decimal}}
+use Rattle.sect_front.specs.{FaultPlaces.{IsWithin}, declared.span.Span.{Span}}
+use Rattle.sect_lint.specs.{Excerpts.{shown}, declared.diagnostic.Shape.{Shape}, declared.diagnostic.Typed.{Typed}}
 use Rattle.sect_lint.specs.declared.diagnostic.Counts.{Counts}
+use Rattle.sect_lint.specs.declared.diagnostic.Shape.TheVariants as shape
 
 -- the bytes of a text that a span has
 abbrev pub bytes_of : List ℕ → Span → List ℕ

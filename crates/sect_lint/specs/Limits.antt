@@ -1,15 +1,12 @@
 -- The limits that an item may pass.
 use Rattle.std.specs.Prelude.{ℕ, List, Option, Some, None, codes}
 use Rattle.sect_front.specs.declared.token.Token.{Token}
-use Rattle.sect_places.specs.declared.name_use.Thing.{Thing}
-use Rattle.sect_places.specs.declared.name_use.Thing.TheVariants as thing
-use Rattle.sect_places.specs.declared.name_use.Role.{Role}
-use Rattle.sect_places.specs.declared.name_use.Role.TheVariants as role
+use Rattle.sect_places.specs.{declared.name_use.Thing.{Thing}, declared.name_use.Role.{Role}}
 use Rattle.sect_places.specs.declared.name_use.NameSpan.{NameSpan}
-use Rattle.sect_lint.specs.declared.form.Form.{Form}
+use Rattle.sect_lint.specs.{declared.form.Form.{Form}, Forms.{form_of}, declared.limit.Limit.{Limit}}
+use Rattle.sect_places.specs.declared.name_use.Thing.TheVariants as thing
+use Rattle.sect_places.specs.declared.name_use.Role.TheVariants as role
 use Rattle.sect_lint.specs.declared.form.Form.TheVariants as form
-use Rattle.sect_lint.specs.Forms.{form_of}
-use Rattle.sect_lint.specs.declared.limit.Limit.{Limit}
 use Rattle.sect_lint.specs.declared.limit.Limit.TheVariants as limit
 
 -- what is past its limit, with the number

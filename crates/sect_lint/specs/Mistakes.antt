@@ -1,14 +1,13 @@
 -- What may be wrong with a source text, and what is said of it.
 use Rattle.std.specs.Prelude.{ℕ, List, Option, Some, None, codes}
 use Rattle.sect_front.specs.declared.parsing.FrontFault.{FrontFault}
-use Rattle.sect_front.specs.declared.parsing.FrontFault.TheVariants as front
 use Rattle.sect_types.specs.declared.rules.rule.TypeFault.{TypeFault}
-use Rattle.sect_types.specs.declared.rules.rule.TypeFault.TheVariants as types
-use Rattle.sect_names.specs.declared.fault.SchemeFault.{SchemeFault}
-use Rattle.sect_names.specs.declared.fault.SchemeFault.TheVariants as scheme
-use Rattle.sect_names.specs.declared.refusal.SourceRefusal.{SourceRefusal}
-use Rattle.sect_names.specs.declared.refusal.SourceRefusal.TheVariants as refusal
+use Rattle.sect_names.specs.{declared.fault.SchemeFault.{SchemeFault}, declared.refusal.SourceRefusal.{SourceRefusal}}
 use Rattle.sect_lint.specs.declared.mistake.Mistake.{Mistake}
+use Rattle.sect_front.specs.declared.parsing.FrontFault.TheVariants as front
+use Rattle.sect_types.specs.declared.rules.rule.TypeFault.TheVariants as types
+use Rattle.sect_names.specs.declared.fault.SchemeFault.TheVariants as scheme
+use Rattle.sect_names.specs.declared.refusal.SourceRefusal.TheVariants as refusal
 use Rattle.sect_lint.specs.declared.mistake.Mistake.TheVariants as mistake
 
 abbrev pub of_front : FrontFault → Option Mistake

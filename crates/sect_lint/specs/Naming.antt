@@ -1,16 +1,14 @@
 -- What the names of a text tell of a mistake.
-use Rattle.std.specs.Prelude.{ℕ, Bool, true, false, not, ◌&&◌, ◌||◌, List, Option, Some, None, option_map}
-use Rattle.std.specs.Prelude.{is_some, nat_eq, nat_lt, position, slice_get}
-use Rattle.std.specs.Cmp.Lexicographic.{pointwise}
-use Rattle.sect_places.specs.declared.name_use.NameSpan.{NameSpan}
-use Rattle.sect_places.specs.declared.name_use.Thing.{Thing}
-use Rattle.sect_places.specs.declared.name_use.Thing.TheVariants as thing
+use Rattle.std.specs.Prelude.{ℕ, Bool, true, false, not, ◌&&◌, ◌||◌, List, Option, Some, None, option_map, is_some}
+use Rattle.std.specs.{Prelude.{nat_eq, nat_lt, position, slice_get}, Cmp.Lexicographic.{pointwise}}
+use Rattle.sect_places.specs.{declared.name_use.NameSpan.{NameSpan}, declared.name_use.Thing.{Thing}}
 use Rattle.sect_places.specs.declared.name_use.Role.{Role}
-use Rattle.sect_places.specs.declared.name_use.Role.TheVariants as role
 use Rattle.sect_places.specs.Declarations.{is_declaration, is_record, is_field, is_global, is_procedure, is_thread}
-use Rattle.sect_places.specs.Declarations.{is_local}
-use Rattle.sect_places.specs.Declarations.{record_of, global_of, procedure_of, field_of, variable_of, type_in, base_in}
+use Rattle.sect_places.specs.Declarations.{is_local, record_of, global_of, procedure_of, field_of, variable_of, type_in}
+use Rattle.sect_places.specs.Declarations.{base_in}
 use Rattle.sect_lint.specs.declared.diagnostic.Detail.{Detail}
+use Rattle.sect_places.specs.declared.name_use.Thing.TheVariants as thing
+use Rattle.sect_places.specs.declared.name_use.Role.TheVariants as role
 use Rattle.sect_lint.specs.declared.diagnostic.Detail.TheVariants as detail
 
 -- the name of that number, if one is given

@@ -1,27 +1,18 @@
 -- Where a mistake stands.
-use Rattle.std.specs.Prelude.{◌≡◌, ℕ, zero, suc, ◌+◌, ◌-◌, ◌<◌, List, [], ◌∷◌, length, map, get_or, ⊤, Option}
-use Rattle.std.specs.Prelude.{Some, None}
-use Rattle.sect_front.specs.TreeView.{TreeView}
-use Rattle.sect_front.specs.Front.{IsSpelled}
-use Rattle.sect_front.specs.FaultPlaces.{token_span, IsFaultSpan}
-use Rattle.sect_front.specs.declared.span.Span.{Span}
-use Rattle.sect_front.specs.declared.tree.Record.{Record}
-use Rattle.sect_types.specs.Items.{items}
-use Rattle.sect_types.specs.declared.rules.rule.TypeFault.{TypeFault}
-use Rattle.sect_types.specs.declared.rules.rule.TypeFault.TheVariants as types
-use Rattle.sect_names.specs.declared.fault.SchemeFault.{SchemeFault}
-use Rattle.sect_names.specs.declared.fault.SchemeFault.TheVariants as scheme
-use Rattle.sect_names.specs.declared.refusal.SourceRefusal.{SourceRefusal}
-use Rattle.sect_names.specs.declared.refusal.SourceRefusal.TheVariants as refusal
-use Rattle.sect_places.specs.declared.range.TokenRange.{TokenRange}
-use Rattle.sect_places.specs.Ranges.{range, item_tokens}
-use Rattle.sect_places.specs.Spans.{span_in}
-use Rattle.sect_places.specs.NameSpans.{AreNameSpans}
-use Rattle.sect_places.specs.declared.name_use.NameSpan.{NameSpan}
-use Rattle.sect_lint.specs.Naming.{unknown_name}
-use Rattle.sect_lint.specs.declared.culprit.Culprit.{Culprit}
-use Rattle.sect_lint.specs.declared.culprit.Culprit.TheVariants as culprit
+use Rattle.std.specs.Prelude.{◌≡◌, ℕ, zero, suc, ◌+◌, ◌-◌, ◌<◌, List, [], ◌∷◌, length, map, get_or, ⊤, Option, Some}
+use Rattle.std.specs.Prelude.{None}
+use Rattle.sect_front.specs.{TreeView.{TreeView}, Front.{IsSpelled}, FaultPlaces.{token_span, IsFaultSpan}}
+use Rattle.sect_front.specs.{declared.span.Span.{Span}, declared.tree.Record.{Record}}
+use Rattle.sect_types.specs.{Items.{items}, declared.rules.rule.TypeFault.{TypeFault}}
+use Rattle.sect_names.specs.{declared.fault.SchemeFault.{SchemeFault}, declared.refusal.SourceRefusal.{SourceRefusal}}
+use Rattle.sect_places.specs.{declared.range.TokenRange.{TokenRange}, Ranges.{range, item_tokens}, Spans.{span_in}}
+use Rattle.sect_places.specs.{NameSpans.{AreNameSpans}, declared.name_use.NameSpan.{NameSpan}}
+use Rattle.sect_lint.specs.{Naming.{unknown_name}, declared.culprit.Culprit.{Culprit}}
 use Rattle.sect_lint.specs.declared.mistake.Mistake.{Mistake}
+use Rattle.sect_types.specs.declared.rules.rule.TypeFault.TheVariants as types
+use Rattle.sect_names.specs.declared.fault.SchemeFault.TheVariants as scheme
+use Rattle.sect_names.specs.declared.refusal.SourceRefusal.TheVariants as refusal
+use Rattle.sect_lint.specs.declared.culprit.Culprit.TheVariants as culprit
 use Rattle.sect_lint.specs.declared.mistake.Mistake.TheVariants as mistake
 
 -- the item that is at fault

@@ -1,26 +1,18 @@
 -- What is reported of a text that is refused.
-use Rattle.std.specs.Prelude.{◌≡◌, ◌⊎◌, ◌<◌, ℕ, Some, List, ◌++◌, length, map, codes}
-use Rattle.std.specs.Fmt.{decimal}
-use Rattle.sect_front.specs.Front.{line_of}
-use Rattle.sect_front.specs.FaultPlaces.{IsWithin, token_span}
-use Rattle.sect_front.specs.TreeView.{TreeView}
+use Rattle.std.specs.{Prelude.{◌≡◌, ◌⊎◌, ◌<◌, ℕ, Some, List, ◌++◌, length, map, codes}, Fmt.{decimal}}
+use Rattle.sect_front.specs.{Front.{line_of}, FaultPlaces.{IsWithin, token_span}, TreeView.{TreeView}}
 use Rattle.sect_front.specs.declared.span.Span.{Span}
-use Rattle.sect_places.specs.NameSpans.{AreNameSpans}
-use Rattle.sect_places.specs.declared.name_use.NameSpan.{NameSpan}
-use Rattle.sect_names.specs.Sources.{IsAccepted, IsDue}
-use Rattle.sect_names.specs.declared.fault.SchemeFault.TheVariants as scheme
-use Rattle.sect_names.specs.declared.refusal.SourceRefusal.{SourceRefusal}
-use Rattle.sect_names.specs.declared.refusal.SourceRefusal.TheVariants as refusal
-use Rattle.sect_lint.specs.declared.diagnostic.Detail.{Detail}
-use Rattle.sect_lint.specs.declared.diagnostic.Detail.TheVariants as detail
-use Rattle.sect_lint.specs.declared.diagnostic.Diagnostic.{Diagnostic}
-use Rattle.sect_lint.specs.declared.judge.Judgment.{Judgment}
-use Rattle.sect_lint.specs.declared.judge.Judgment.TheVariants as judgment
-use Rattle.sect_lint.specs.declared.mistake.Mistake.{Mistake}
-use Rattle.sect_lint.specs.Mistakes.{mistake_of, number_of, title_of, note_of}
-use Rattle.sect_lint.specs.Places.{IsPlaceOf}
+use Rattle.sect_places.specs.{NameSpans.{AreNameSpans}, declared.name_use.NameSpan.{NameSpan}}
+use Rattle.sect_names.specs.{Sources.{IsAccepted, IsDue}, declared.refusal.SourceRefusal.{SourceRefusal}}
+use Rattle.sect_lint.specs.{declared.diagnostic.Detail.{Detail}, declared.diagnostic.Diagnostic.{Diagnostic}}
+use Rattle.sect_lint.specs.{declared.judge.Judgment.{Judgment}, declared.mistake.Mistake.{Mistake}}
+use Rattle.sect_lint.specs.{Mistakes.{mistake_of, number_of, title_of, note_of}, Places.{IsPlaceOf}}
 use Rattle.sect_lint.specs.Details.{IsFrontDetail, IsDetailWithin, IsDetailBy, detail_text}
 use Rattle.sect_lint.specs.Excerpts.{excerpt, margin}
+use Rattle.sect_names.specs.declared.fault.SchemeFault.TheVariants as scheme
+use Rattle.sect_names.specs.declared.refusal.SourceRefusal.TheVariants as refusal
+use Rattle.sect_lint.specs.declared.diagnostic.Detail.TheVariants as detail
+use Rattle.sect_lint.specs.declared.judge.Judgment.TheVariants as judgment
 
 abbrev pub IsDetail : List ℕ → SourceRefusal → Span → Detail → Type 0
 IsDetail source (refusal.Front why) span told = IsFrontDetail source why span told

@@ -1,20 +1,13 @@
 -- A diagnostic as a log of SARIF 2.1.0, which code hosts and editors read.
-use Rattle.std.specs.Prelude.{ℕ, ◌-◌, List, [], ◌∷◌, ◌++◌, codes, map}
-use Rattle.std.specs.Fmt.{decimal}
+use Rattle.std.specs.{Prelude.{ℕ, ◌-◌, List, [], ◌∷◌, ◌++◌, codes, map}, Fmt.{decimal}}
 use Rattle.serde_json.specs.Data.{Data, string, object, no_members, member}
-use Rattle.sect_front.specs.Front.{line_of}
-use Rattle.sect_front.specs.declared.span.Span.{Span}
+use Rattle.sect_front.specs.{Front.{line_of}, declared.span.Span.{Span}, FaultPlaces.{span_from}}
 use Rattle.sect_places.specs.Positions.{column_of}
-use Rattle.sect_front.specs.FaultPlaces.{span_from}
-use Rattle.sect_lint.specs.declared.diagnostic.Detail.{Detail}
-use Rattle.sect_lint.specs.declared.diagnostic.Detail.TheVariants as detail
-use Rattle.sect_lint.specs.declared.diagnostic.Diagnostic.{Diagnostic}
-use Rattle.sect_lint.specs.declared.mistake.Mistake.{Mistake}
-use Rattle.sect_lint.specs.Mistakes.{number_of, title_of, note_of}
-use Rattle.sect_lint.specs.Limits.{words_of}
-use Rattle.sect_lint.specs.Kinds.{kinds_text}
-use Rattle.sect_lint.specs.Labels.{quoted, typed_text, types_text, counts_text}
+use Rattle.sect_lint.specs.{declared.diagnostic.Detail.{Detail}, declared.diagnostic.Diagnostic.{Diagnostic}}
+use Rattle.sect_lint.specs.{declared.mistake.Mistake.{Mistake}, Mistakes.{number_of, title_of, note_of}}
+use Rattle.sect_lint.specs.{Limits.{words_of}, Kinds.{kinds_text}, Labels.{quoted, typed_text, types_text, counts_text}}
 use Rattle.sect_lint.specs.Json.{count, list}
+use Rattle.sect_lint.specs.declared.diagnostic.Detail.TheVariants as detail
 
 abbrev pub text_json : List ℕ → Data
 text_json text = object (member (codes "text") (string text) no_members)

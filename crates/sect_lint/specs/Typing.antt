@@ -1,19 +1,14 @@
 -- What the declarations of a text tell of an item whose types don't agree.
-use Rattle.std.specs.Prelude.{ℕ, ◌+◌, Bool, if◌then◌else◌, List, Option, Some, None, nat_eq, position}
-use Rattle.std.specs.Prelude.{slice_get}
-use Rattle.sect_front.specs.declared.span.Span.{Span}
-use Rattle.sect_front.specs.declared.token.Token.{Token}
-use Rattle.sect_front.specs.declared.token.Token.TheVariants as token
-use Rattle.sect_places.specs.declared.name_use.NameSpan.{NameSpan}
-use Rattle.sect_places.specs.Declarations.{is_global, type_in}
-use Rattle.sect_lint.specs.declared.diagnostic.Shape.{Shape}
-use Rattle.sect_lint.specs.declared.diagnostic.Shape.TheVariants as shape
-use Rattle.sect_lint.specs.declared.diagnostic.Typed.{Typed}
-use Rattle.sect_lint.specs.declared.diagnostic.Detail.{Detail}
-use Rattle.sect_lint.specs.declared.diagnostic.Detail.TheVariants as detail
-use Rattle.sect_lint.specs.declared.form.Form.{Form}
-use Rattle.sect_lint.specs.declared.form.Form.TheVariants as form
+use Rattle.std.specs.Prelude.{ℕ, ◌+◌, Bool, if◌then◌else◌, List, Option, Some, None, nat_eq, position, slice_get}
+use Rattle.sect_front.specs.{declared.span.Span.{Span}, declared.token.Token.{Token}}
+use Rattle.sect_places.specs.{declared.name_use.NameSpan.{NameSpan}, Declarations.{is_global, type_in}}
+use Rattle.sect_lint.specs.{declared.diagnostic.Shape.{Shape}, declared.diagnostic.Typed.{Typed}}
+use Rattle.sect_lint.specs.{declared.diagnostic.Detail.{Detail}, declared.form.Form.{Form}}
 use Rattle.sect_lint.specs.Naming.{found, variable, member_of}
+use Rattle.sect_front.specs.declared.token.Token.TheVariants as token
+use Rattle.sect_lint.specs.declared.diagnostic.Shape.TheVariants as shape
+use Rattle.sect_lint.specs.declared.diagnostic.Detail.TheVariants as detail
+use Rattle.sect_lint.specs.declared.form.Form.TheVariants as form
 
 -- a reference to the record that is named in a declaration, else an integer
 abbrev pub named_shape : Option NameSpan → Shape

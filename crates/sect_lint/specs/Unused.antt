@@ -1,13 +1,11 @@
 -- What is declared and never used.
-use Rattle.std.specs.Prelude.{◌≡◌, ◌↔◌, ℕ, Bool, true, List, [], ◌∷◌, Option, Some, None, filter}
-use Rattle.std.specs.List.{flat_map}
+use Rattle.std.specs.{Prelude.{◌≡◌, ◌↔◌, ℕ, Bool, true, List, [], ◌∷◌, Option, Some, None, filter}, List.{flat_map}}
 use Rattle.sect_lemmas.specs.Lists.{Has}
-use Rattle.sect_places.specs.declared.name_use.NameSpan.{NameSpan}
-use Rattle.sect_places.specs.declared.name_use.Thing.{Thing}
-use Rattle.sect_places.specs.declared.name_use.Thing.TheVariants as thing
+use Rattle.sect_places.specs.{declared.name_use.NameSpan.{NameSpan}, declared.name_use.Thing.{Thing}}
 use Rattle.sect_places.specs.declared.name_use.Role.{Role}
-use Rattle.sect_places.specs.declared.name_use.Role.TheVariants as role
 use Rattle.sect_lint.specs.declared.unused.Referent.{Referent}
+use Rattle.sect_places.specs.declared.name_use.Thing.TheVariants as thing
+use Rattle.sect_places.specs.declared.name_use.Role.TheVariants as role
 use Rattle.sect_lint.specs.declared.unused.Referent.TheVariants as referent
 
 -- what a name of that role may refer to, in the declaration that is this item: a variable is a local or a global

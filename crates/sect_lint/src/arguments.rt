@@ -5,8 +5,8 @@ ghost use Rattle.sect_lint.specs.Naming.{type_by, variable as variable_at};
 ghost use Rattle.sect_lint.specs.Typing.{variable_in as variable_by, value_shape as value_by, typed_by, two as two_by};
 ghost use Rattle.sect_lint.specs.Arguments.{takes as takes_by, fits as fits_by, parameter_by};
 ghost use Rattle.sect_lint.specs.Arguments.{differing as differing_by, mistyped_detail as mistyped_by};
-ghost use Rattle.sect_lint.specs.Arguments.{parameters_in as parameters_by, call_of as call_by};
-ghost use Rattle.sect_lint.specs.Arguments.{called_by as called_of, called_detail as called_by};
+ghost use Rattle.sect_lint.specs.Arguments.{parameters_in as parameters_by, call_of as call_by, called_by as called_of};
+ghost use Rattle.sect_lint.specs.Arguments.{called_detail as called_by};
 
 use crate::call_counts::called_at;
 use crate::diagnostic::{Detail, Typed};

@@ -2,8 +2,8 @@
 
 ghost use Rattle.std.specs.Prelude.{◌≡◌, ◌<◌, IfSome, length};
 ghost use Rattle.sect_places.specs.Openings.{is_value as value_by, values_in as values_by};
-ghost use Rattle.sect_lint.specs.Counting.{called_at as called_by, parameters_of as parameters_by, has_name};
-ghost use Rattle.sect_lint.specs.Counting.{counts_by, counts_detail as detail_by};
+ghost use Rattle.sect_lint.specs.Counting.{called_at as called_by, parameters_of as parameters_by, has_name, counts_by};
+ghost use Rattle.sect_lint.specs.Counting.{counts_detail as detail_by};
 ghost use Rattle.sect_lint.specs.steps.Plain.{opened_counts as opened_by};
 
 use crate::diagnostic::{Counts, Detail};

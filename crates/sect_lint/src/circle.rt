@@ -5,8 +5,7 @@ ghost use Rattle.std.specs.Prelude.{map, position, nat_eq, slice_get};
 ghost use Rattle.sect_lemmas.specs.Lists.{Has};
 ghost use Rattle.sect_places.specs.Declarations.{is_procedure, is_call, is_called};
 ghost use Rattle.sect_places.specs.declared.name_use.NameSpan.{NameSpan as ANameSpan};
-ghost use Rattle.sect_lint.specs.Calls.{is_call_in as call_in, procedure_item as procedure_by, IsCircle};
-ghost use Rattle.sect_lint.specs.Calls.{IsCircleTold};
+ghost use Rattle.sect_lint.specs.Calls.{is_call_in as call_in, procedure_item as procedure_by, IsCircle, IsCircleTold};
 ghost use Rattle.sect_lint.specs.declared.circle.Link.{Link as ALink};
 ghost use Rattle.sect_lint.specs.steps.Linked.{IsLink, AreLinks, AreBelow, AreNext};
 

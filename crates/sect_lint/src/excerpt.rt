@@ -1,15 +1,11 @@
 //! A place of a source text, as it is shown: its line, and carets under its bytes.
 
-ghost use Rattle.std.specs.Prelude.{◌≡◌, ◌≤◌, ◌<◌, ◌+◌, ◌-◌, ◌++◌, ◌∷◌, [], OnOk, length, take, drop};
-ghost use Rattle.std.specs.Prelude.{take_while, replicate};
-ghost use Rattle.std.specs.List.{flat_map};
-ghost use Rattle.std.specs.Fmt.{decimal};
-ghost use Rattle.std.specs.String.{string_bytes};
-ghost use Rattle.sect_front.specs.Front.{line_of};
-ghost use Rattle.sect_front.specs.FaultPlaces.{IsWithin};
+ghost use Rattle.std.specs.Prelude.{◌≡◌, ◌≤◌, ◌<◌, ◌+◌, ◌-◌, ◌++◌, ◌∷◌, [], OnOk, length, take, drop, take_while};
+ghost use Rattle.std.specs.{Prelude.{replicate}, List.{flat_map}, Fmt.{decimal}, String.{string_bytes}};
+ghost use Rattle.sect_front.specs.{Front.{line_of}, FaultPlaces.{IsWithin}};
 ghost use Rattle.sect_places.specs.Positions.{column_of as column_by};
-ghost use Rattle.sect_lint.specs.Excerpts.{is_plain as plain_by, hexadecimal as hexadecimal_by, shown, under};
-ghost use Rattle.sect_lint.specs.Excerpts.{in_line, line_text, most_shown, left_out as left_out_by, shown_line, carets};
+ghost use Rattle.sect_lint.specs.Excerpts.{is_plain as plain_by, hexadecimal as hexadecimal_by, shown, under, in_line};
+ghost use Rattle.sect_lint.specs.Excerpts.{line_text, most_shown, left_out as left_out_by, shown_line, carets};
 ghost use Rattle.sect_lint.specs.Excerpts.{marked_line, margin, excerpt};
 
 use sect_front::Span;

@@ -1,13 +1,9 @@
 //! The forms in which a diagnostic is printed.
 
-ghost use Rattle.std.specs.Prelude.{◌≡◌, IfOk, length, false};
-ghost use Rattle.std.specs.String.{string_bytes};
-ghost use Rattle.serde_json.specs.View.{view};
-ghost use Rattle.serde_json.specs.Written.{compact_text, has_float};
+ghost use Rattle.std.specs.{Prelude.{◌≡◌, IfOk, length, false}, String.{string_bytes}};
+ghost use Rattle.serde_json.specs.{View.{view}, Written.{compact_text, has_float}};
 ghost use Rattle.sect_front.specs.FaultPlaces.{IsWithin};
-ghost use Rattle.sect_lint.specs.Details.{IsDetailWithin};
-ghost use Rattle.sect_lint.specs.Reports.{report};
-ghost use Rattle.sect_lint.specs.Formats.{report_as as report_by, clean};
+ghost use Rattle.sect_lint.specs.{Details.{IsDetailWithin}, Reports.{report}, Formats.{report_as as report_by, clean}};
 
 use crate::diagnostic::Diagnostic;
 use crate::json::diagnostic_value;

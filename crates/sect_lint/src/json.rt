@@ -3,8 +3,7 @@
 ghost use Rattle.std.specs.Prelude.{◌≡◌, ◌≤◌, ◌∷◌, [], All, IfOk, length, map};
 ghost use Rattle.serde_json.specs.View.{view};
 ghost use Rattle.sect_front.specs.FaultPlaces.{IsWithin};
-ghost use Rattle.sect_lint.specs.Details.{IsDetailWithin};
-ghost use Rattle.sect_lint.specs.Kinds.{kinds_text};
+ghost use Rattle.sect_lint.specs.{Details.{IsDetailWithin}, Kinds.{kinds_text}};
 ghost use Rattle.sect_lint.specs.Labels.{typed_text, counts_text, IsTypedWithin};
 ghost use Rattle.sect_lint.specs.Json.{list, place_json, span_json, label_json, call_json, labels_json};
 ghost use Rattle.sect_lint.specs.Json.{diagnostic_json};

@@ -1,21 +1,17 @@
 //! Whether a source text is refused, for which mistake, and where that stands.
 
 ghost use Rattle.std.specs.Prelude.{◌≡◌, ◌≢◌, ◌≤◌, ◌<◌, ℕ, true, Err, Some, IfOk, IfErr, MatchOption, length};
-ghost use Rattle.sect_front.specs.TreeView.{TreeView};
-ghost use Rattle.sect_front.specs.Front.{IsSpelled, IsFault};
-ghost use Rattle.sect_front.specs.FaultPlaces.{IsFaultSpan, IsWithin, AreKindsFor};
-ghost use Rattle.sect_front.specs.LongGaps.{AreGaps};
-ghost use Rattle.sect_types.specs.First as types;
-ghost use Rattle.sect_types.specs.Programs.{ProgramView};
+ghost use Rattle.sect_front.specs.{TreeView.{TreeView}, Front.{IsSpelled, IsFault}};
+ghost use Rattle.sect_front.specs.{FaultPlaces.{IsFaultSpan, IsWithin, AreKindsFor}, LongGaps.{AreGaps}};
+ghost use Rattle.sect_types.specs.{Programs.{ProgramView}, Items.{items}};
 ghost use Rattle.sect_names.specs.Sources.{IsTypedText};
-ghost use Rattle.sect_names.specs.Verdicts as schemes;
-ghost use Rattle.sect_names.specs.declared.refusal.SourceRefusal.TheVariants as refusal;
-ghost use Rattle.sect_types.specs.Items.{items};
-ghost use Rattle.sect_lint.specs.Places.{of_types, item_number, marked_name};
-ghost use Rattle.sect_lint.specs.Mistakes.{of_types as mistake_by};
-ghost use Rattle.sect_lint.specs.steps.Plain.{is_plain as is_plain_by};
+ghost use Rattle.sect_lint.specs.{Places.{of_types, item_number, marked_name}, Mistakes.{of_types as mistake_by}};
 ghost use Rattle.sect_lint.specs.Details.{IsFrontDetail, IsDetailWithin, IsToldOf, item_detail as item_detail_by};
 ghost use Rattle.sect_lint.specs.Reports.{IsDiagnosisOf, IsJudged, IsNotJudged};
+ghost use Rattle.sect_lint.specs.steps.Plain.{is_plain as is_plain_by};
+ghost use Rattle.sect_types.specs.First as types;
+ghost use Rattle.sect_names.specs.Verdicts as schemes;
+ghost use Rattle.sect_names.specs.declared.refusal.SourceRefusal.TheVariants as refusal;
 
 use crate::arguments::mistyped_detail;
 use crate::call_counts::counts_detail;

@@ -1,8 +1,6 @@
 //! Which kinds of tokens are told.
 
-ghost use Rattle.std.specs.Prelude.{◌≡◌, ◌++◌, OnOk, take};
-ghost use Rattle.std.specs.List.{flat_map};
-ghost use Rattle.std.specs.String.{string_bytes};
+ghost use Rattle.std.specs.{Prelude.{◌≡◌, ◌++◌, OnOk, take}, List.{flat_map}, String.{string_bytes}};
 ghost use Rattle.sect_lint.specs.Kinds.{kind_words, open_kind as open_kind_by, lead as lead_by};
 ghost use Rattle.sect_lint.specs.Kinds.{separator as separator_by, next_kind, rest_text, kinds_text};
 

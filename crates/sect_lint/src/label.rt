@@ -1,7 +1,6 @@
 //! What is said of types and numbers, with the text's own words.
 
-ghost use Rattle.std.specs.Prelude.{◌≡◌, ◌++◌, OnOk, length};
-ghost use Rattle.std.specs.String.{string_bytes};
+ghost use Rattle.std.specs.{Prelude.{◌≡◌, ◌++◌, OnOk, length}, String.{string_bytes}};
 ghost use Rattle.sect_front.specs.FaultPlaces.{IsWithin};
 ghost use Rattle.sect_lint.specs.Labels.{bytes_of as bytes_by, quoted, is_vowel as vowel_by, article as article_by};
 ghost use Rattle.sect_lint.specs.Labels.{reference_text, shape_text, typed_text, types_text, counts_text};

@@ -1,15 +1,10 @@
 //! The tokens of the item at fault, read off the text.
 
 ghost use Rattle.std.specs.Prelude.{◌≡◌, ◌<◌, ℕ, IfOk, List, length};
-ghost use Rattle.sect_front.specs.Front.{IsSpelled};
-ghost use Rattle.sect_front.specs.FaultPlaces.{IsWithin};
-ghost use Rattle.sect_front.specs.LongGaps.{AreGaps};
+ghost use Rattle.sect_front.specs.{Front.{IsSpelled}, FaultPlaces.{IsWithin}, LongGaps.{AreGaps}};
 ghost use Rattle.sect_types.specs.Items.{items};
-ghost use Rattle.sect_places.specs.Mattering.{wanted};
-ghost use Rattle.sect_places.specs.NameSpans.{AreNameSpans};
-ghost use Rattle.sect_places.specs.Ranges.{range};
-ghost use Rattle.sect_places.specs.Spans.{AreInOrder, span_in};
-ghost use Rattle.sect_places.specs.declared.name_use.NameSpan.{NameSpan};
+ghost use Rattle.sect_places.specs.{Mattering.{wanted}, NameSpans.{AreNameSpans}, Ranges.{range}};
+ghost use Rattle.sect_places.specs.{Spans.{AreInOrder, span_in}, declared.name_use.NameSpan.{NameSpan}};
 ghost use Rattle.sect_lint.specs.Places.{marked};
 ghost use Rattle.sect_lint.specs.steps.Laid.{AreOwnWords, IsOwnOpening, span_of};
 

@@ -4,13 +4,12 @@ ghost use Rattle.std.specs.Prelude.{◌≡◌, ◌<◌, IfSome, length};
 ghost use Rattle.sect_places.specs.Declarations.{base_in as base_in_by};
 ghost use Rattle.sect_lint.specs.Naming.{found as found_by, type_of as type_by, variable as variable_by};
 ghost use Rattle.sect_lint.specs.Naming.{base_by as base_variable_by, base_type as base_type_by};
-ghost use Rattle.sect_lint.specs.Naming.{field_in as field_in_by};
-ghost use Rattle.sect_lint.specs.Naming.{member_of as member_by, unknown_at as unknown_at_by};
+ghost use Rattle.sect_lint.specs.Naming.{field_in as field_in_by, member_of as member_by, unknown_at as unknown_at_by};
 ghost use Rattle.sect_lint.specs.Naming.{declared_at as declared_at_by, earlier_at as earlier_at_by};
 ghost use Rattle.sect_lint.specs.Naming.{knows_field as knows_field_by, knows as knows_by, is_unknown_in as unknown_by};
 ghost use Rattle.sect_lint.specs.Naming.{unknown_name as unknown_name_by, clashes as clashes_when};
-ghost use Rattle.sect_lint.specs.Naming.{is_earlier as earlier_by, is_declared_in};
-ghost use Rattle.sect_lint.specs.Naming.{earlier_name as earlier_name_by, earlier_detail as earlier_detail_by};
+ghost use Rattle.sect_lint.specs.Naming.{is_earlier as earlier_by, is_declared_in, earlier_name as earlier_name_by};
+ghost use Rattle.sect_lint.specs.Naming.{earlier_detail as earlier_detail_by};
 
 use crate::diagnostic::Detail;
 use sect_front::Name;

@@ -1,14 +1,10 @@
 //! What is reported of a source text that is refused.
 
-ghost use Rattle.std.specs.Prelude.{◌≡◌, ◌≤◌, ◌++◌, All, OnOk, length};
-ghost use Rattle.std.specs.Fmt.{decimal};
-ghost use Rattle.std.specs.String.{string_bytes};
-ghost use Rattle.sect_front.specs.FaultPlaces.{IsWithin};
-ghost use Rattle.sect_lint.specs.Details.{place_text, detail_text, earlier_text, called_text};
-ghost use Rattle.sect_lint.specs.Details.{next_text, circle_text};
-ghost use Rattle.sect_lint.specs.Details.{IsDetailWithin};
+ghost use Rattle.std.specs.{Prelude.{◌≡◌, ◌≤◌, ◌++◌, All, OnOk, length}, Fmt.{decimal}, String.{string_bytes}};
 ghost use Rattle.std.specs.List.{flat_map};
-ghost use Rattle.sect_lint.specs.Reports.{heading, note_line, report};
+ghost use Rattle.sect_front.specs.FaultPlaces.{IsWithin};
+ghost use Rattle.sect_lint.specs.Details.{place_text, detail_text, earlier_text, called_text, next_text, circle_text};
+ghost use Rattle.sect_lint.specs.{Details.{IsDetailWithin}, Reports.{heading, note_line, report}};
 
 use crate::diagnostic::{Detail, Diagnostic};
 use crate::excerpt::{put_excerpt, put_margin};

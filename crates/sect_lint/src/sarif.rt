@@ -1,15 +1,12 @@
 //! A diagnostic as a log of SARIF 2.1.0.
 
-ghost use Rattle.std.specs.Prelude.{◌≡◌, ◌++◌, All, IfOk, OnOk, length, map};
-ghost use Rattle.std.specs.String.{string_bytes};
+ghost use Rattle.std.specs.{Prelude.{◌≡◌, ◌++◌, All, IfOk, OnOk, length, map}, String.{string_bytes}};
 ghost use Rattle.serde_json.specs.View.{view};
 ghost use Rattle.sect_front.specs.FaultPlaces.{IsWithin};
-ghost use Rattle.sect_lint.specs.Details.{IsDetailWithin};
-ghost use Rattle.sect_lint.specs.Json.{list};
-ghost use Rattle.sect_lint.specs.Sarif.{region_json, location_json, related_json, related_call, related_by};
-ghost use Rattle.sect_lint.specs.Sarif.{aside_by, said_by};
-ghost use Rattle.sect_lint.specs.Sarif.{result_json, rule_json, tool_json};
-ghost use Rattle.sect_lint.specs.Sarif.{run_json, log_json, diagnostic_log as log_by, empty_log as empty_by};
+ghost use Rattle.sect_lint.specs.{Details.{IsDetailWithin}, Json.{list}};
+ghost use Rattle.sect_lint.specs.Sarif.{region_json, location_json, related_json, related_call, related_by, aside_by};
+ghost use Rattle.sect_lint.specs.Sarif.{said_by, result_json, rule_json, tool_json, run_json, log_json};
+ghost use Rattle.sect_lint.specs.Sarif.{diagnostic_log as log_by, empty_log as empty_by};
 
 use crate::diagnostic::{Detail, Diagnostic};
 use crate::json::one_of;

@@ -5,8 +5,8 @@ ghost use Rattle.sect_lint.specs.Typing.{shape_of as shape_by, is_in as in_by, v
 ghost use Rattle.sect_lint.specs.Typing.{value_shape as value_shape_by, target_shape as target_shape_by};
 ghost use Rattle.sect_lint.specs.Typing.{field_shape as field_shape_by, typed_by, joined as joined_by, made_by};
 ghost use Rattle.sect_lint.specs.Typing.{value_at as value_by, target_at as target_by, member_at as member_by};
-ghost use Rattle.sect_lint.specs.Typing.{one as one_by, two as two_by, unless_int as unless_by};
-ghost use Rattle.sect_lint.specs.Typing.{loaded as loaded_by, stored as stored_by, types_detail as types_by};
+ghost use Rattle.sect_lint.specs.Typing.{one as one_by, two as two_by, unless_int as unless_by, loaded as loaded_by};
+ghost use Rattle.sect_lint.specs.Typing.{stored as stored_by, types_detail as types_by};
 
 use crate::diagnostic::{Detail, Shape, Typed};
 use crate::form::Form;

@@ -1,7 +1,6 @@
 //! What is declared and never used.
 
-ghost use Rattle.std.specs.Prelude.{◌≡◌, ◌↔◌, ◌⊎◌, IfOk, OnOk, filter};
-ghost use Rattle.std.specs.List.{flat_map};
+ghost use Rattle.std.specs.{Prelude.{◌≡◌, ◌↔◌, ◌⊎◌, IfOk, OnOk, filter}, List.{flat_map}};
 ghost use Rattle.sect_lemmas.specs.Lists.{Has};
 ghost use Rattle.sect_lint.specs.Unused.{mentions, declared_by, referent_of as referent_by, AreUnused};
 ghost use Rattle.sect_lint.specs.steps.Spare.{is_spare as spare_by};

@@ -1,7 +1,6 @@
 //! Which names tell of a mistake.
 
-ghost use Rattle.std.specs.Prelude.{◌≡◌, ◌<◌, IfOk, IfSome, true, length};
-ghost use Rattle.std.specs.List.{list_all};
+ghost use Rattle.std.specs.{Prelude.{◌≡◌, ◌<◌, IfOk, IfSome, true, length}, List.{list_all}};
 ghost use Rattle.sect_places.specs.Declarations.{is_declaration as declaration_by};
 ghost use Rattle.sect_lint.specs.steps.Wishes.{is_settled as settled_by, IsKnownBy, IsWish};
 

@@ -1,20 +1,16 @@
 -- Each request gets one answer.
 use Rattle.std.proofs.Common.{◌≡◌, ℕ, List, [], ◌∷◌, ◌++◌, Option, Some, None, refl, ap, ◌∙◌}
-use Rattle.std.specs.Prelude.{codes}
-use Rattle.std.specs.List.{flat_map}
 use Rattle.std.proofs.lemmas.Grind.{flat_map-append}
-use Rattle.serde_json.specs.Data.{Data, array, no_items}
-use Rattle.serde_json.specs.Find.{get}
-use Rattle.sect_lsp.specs.declared.server.Phase.{Phase}
-use Rattle.sect_lsp.specs.declared.server.Phase.TheVariants as phase
-use Rattle.sect_lsp.specs.declared.server.Told.{Told}
-use Rattle.sect_lsp.specs.declared.server.Told.TheVariants as told
+use Rattle.std.specs.{Prelude.{codes}, List.{flat_map}}
+use Rattle.serde_json.specs.{Data.{Data, array, no_items}, Find.{get}}
+use Rattle.sect_lsp.specs.{declared.server.Phase.{Phase}, declared.server.Told.{Told}}
 use Rattle.sect_lsp.specs.Answered.{ids_by, ids_asked, ids_answered, listed, AreRead}
 use Rattle.sect_lsp.specs.Protocol.{Kind, Request, Notification, Response, Invalid, kind_of, ReplyView, Result, Error}
 use Rattle.sect_lsp.specs.Protocol.{response_json}
-use Rattle.sect_lsp.specs.Server.{ServerView, Takes, Receives, Notes, NotesBy, NotesOf, Keeps}
-use Rattle.sect_lsp.specs.Server.{diagnostics_json, uri_of, text_at_opening, text_after, told_by}
-use Rattle.sect_lsp.specs.Sessions.{Runs}
+use Rattle.sect_lsp.specs.Server.{ServerView, Takes, Receives, Notes, NotesBy, NotesOf, Keeps, diagnostics_json, uri_of}
+use Rattle.sect_lsp.specs.{Server.{text_at_opening, text_after, told_by}, Sessions.{Runs}}
+use Rattle.sect_lsp.specs.declared.server.Phase.TheVariants as phase
+use Rattle.sect_lsp.specs.declared.server.Told.TheVariants as told
 
 -- an answer is one under its number or name, and what is told is none
 answer_id : (id : Data) (reply : ReplyView) → ids_answered (response_json id reply ∷ []) ≡ id ∷ []

@@ -1,9 +1,7 @@
 -- The first place of a word.
-use Rattle.std.proofs.Common.{◌≡◌, ℕ, ◌+◌, ◌<◌, List, ◌∷◌, length, drop, get_or, Option, Some, None, false}
-use Rattle.std.proofs.Common.{cond, nat_eq, refl, sym, ap, subst, ◌∙◌, add-one, arith}
-use Rattle.std.proofs.Math.Seq.{drop-cons}
-use Rattle.std.specs.Prelude.{option_map}
-use Rattle.std.specs.List.{starts_with}
+use Rattle.std.proofs.Common.{◌≡◌, ℕ, ◌+◌, ◌<◌, List, ◌∷◌, length, drop, get_or, Option, Some, None, false, cond}
+use Rattle.std.proofs.{Common.{nat_eq, refl, sym, ap, subst, ◌∙◌, add-one, arith}, Math.Seq.{drop-cons}}
+use Rattle.std.specs.{Prelude.{option_map}, List.{starts_with}}
 use Rattle.sect_lsp.specs.Framing.{place_of}
 
 -- one place counted before, and one behind

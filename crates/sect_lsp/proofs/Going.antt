@@ -1,21 +1,16 @@
 -- A session goes on.
 use Rattle.std.proofs.Common.{◌≡◌, ℕ, ◌+◌, ◌⊎◌, List, [], ◌∷◌, ◌++◌, length, take, drop, Option, Some, None, IfSome}
-use Rattle.std.proofs.Common.{◌<◌, map, get_or, true, false, refl, sym, ap, subst, ◌∙◌, inl, inr}
-use Rattle.std.proofs.Common.{append-nil, append_assoc}
+use Rattle.std.proofs.Common.{◌<◌, map, get_or, true, false, refl, sym, ap, subst, ◌∙◌, inl, inr, append-nil}
+use Rattle.std.proofs.{Common.{append_assoc}, lemmas.List.{take_more, map-append}}
 use Rattle.std.specs.Io.KnownBytes.{Appends, Consumes, IsAtEnd}
-use Rattle.std.proofs.lemmas.List.{take_more, map-append}
-use Rattle.serde_json.specs.Data.{Data}
-use Rattle.serde_json.specs.View.{view}
-use Rattle.serde_json.specs.declared.value.Value.{Value}
+use Rattle.serde_json.specs.{Data.{Data}, View.{view}, declared.value.Value.{Value}}
 use Rattle.sect_lsp.specs.declared.framing.Front.{Front}
-use Rattle.sect_lsp.specs.declared.framing.Front.TheVariants.{Message, Part, Malformed}
-use Rattle.sect_lsp.specs.declared.server.Phase.{Phase}
-use Rattle.sect_lsp.specs.declared.server.Phase.TheVariants as phase
-use Rattle.sect_lsp.specs.Framing.{Spells, front_of, frame}
-use Rattle.sect_lsp.specs.Server.{ServerView, Step, start}
+use Rattle.sect_lsp.specs.{declared.framing.Front.TheVariants.{Message, Part, Malformed}, declared.server.Phase.{Phase}}
+use Rattle.sect_lsp.specs.{Framing.{Spells, front_of, frame}, Server.{ServerView, Step, start}}
 use Rattle.sect_lsp.specs.Sessions.{is_ended, Runs, IsTextOf, AreSent, IsSession, status_by}
 use Rattle.sect_lsp.specs.steps.Underway.{IsUnderway, IsAnswered}
 use Rattle.sect_lsp.proofs.shared.Pieces.{front_more, message_more}
+use Rattle.sect_lsp.specs.declared.server.Phase.TheVariants as phase
 
 -- one message more
 spells_one_more : (bytes : List ℕ) (ms : List (List ℕ)) (rest : List ℕ) (h b : ℕ) → Spells bytes ms rest

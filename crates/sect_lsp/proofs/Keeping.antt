@@ -1,10 +1,8 @@
 -- The texts of documents that were opened and closed.
-use Rattle.std.proofs.Common.{◌≡◌, ◌≢◌, ℕ, List, [], ◌∷◌, ◌++◌, Some, None, Bool, true, false, not, cond}
-use Rattle.std.proofs.Common.{refl, ap, sym, ◌∙◌, Bor, Option, IfSome, filter, map}
-use Rattle.std.specs.Prelude.{All, option_map}
-use Rattle.std.specs.Str.{bytes_eq}
-use Rattle.std.proofs.lemmas.List.Elements.{All-head, All-tail}
+use Rattle.std.proofs.Common.{◌≡◌, ◌≢◌, ℕ, List, [], ◌∷◌, ◌++◌, Some, None, Bool, true, false, not, cond, refl, ap, sym}
+use Rattle.std.proofs.{Common.{◌∙◌, Bor, Option, IfSome, filter, map}, lemmas.List.Elements.{All-head, All-tail}}
 use Rattle.std.proofs.lemmas.Slice.Eq.{bytes_eq-Decides}
+use Rattle.std.specs.{Prelude.{All, option_map}, Str.{bytes_eq}}
 use Rattle.sect_lsp.specs.Documents.{DocumentView, text_of, closed, opened}
 use Rattle.sect_lsp.specs.steps.Keeping.{KeptView, document_of, kept_of}
 

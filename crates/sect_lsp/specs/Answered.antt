@@ -1,8 +1,6 @@
 -- Which answers go out for which messages.
-use Rattle.std.specs.Prelude.{ℕ, List, [], ◌∷◌, Option, Some, None, codes, ⊤}
-use Rattle.std.specs.List.{flat_map}
-use Rattle.serde_json.specs.Data.{Data, null}
-use Rattle.serde_json.specs.Find.{get}
+use Rattle.std.specs.{Prelude.{ℕ, List, [], ◌∷◌, Option, Some, None, codes, ⊤}, List.{flat_map}}
+use Rattle.serde_json.specs.{Data.{Data, null}, Find.{get}}
 use Rattle.sect_lsp.specs.Protocol.{Kind, Request, Notification, Response, Invalid, kind_of, IsRead}
 
 -- under which numbers or names a message wants an answer: a request under its own, what is no message under `null`, and

@@ -1,9 +1,7 @@
 -- Changes of a text, as an editor tells them.
 use Rattle.std.specs.Prelude.{ℕ, max, List, ◌++◌, take, drop, Option, Some, None, option_map, option_and_then, codes}
-use Rattle.serde_json.specs.Data.{Data, Items, no_items, item}
-use Rattle.serde_json.specs.Find.{get, as_str}
-use Rattle.sect_editor.specs.declared.position.Encoding.{Encoding}
-use Rattle.sect_editor.specs.declared.position.Range.{Range}
+use Rattle.serde_json.specs.{Data.{Data, Items, no_items, item}, Find.{get, as_str}}
+use Rattle.sect_editor.specs.{declared.position.Encoding.{Encoding}, declared.position.Range.{Range}}
 use Rattle.sect_editor.specs.Positions.{offset, range_in}
 
 -- the text with other bytes in place of those of a range. A range that ends before it begins is empty

@@ -1,6 +1,5 @@
 -- The documents that are open.
-use Rattle.std.specs.Prelude.{ℕ, not, if◌then◌else◌, List, [], ◌∷◌, ◌++◌, filter, Option, Some, None}
-use Rattle.std.specs.Str.{bytes_eq}
+use Rattle.std.specs.{Prelude.{ℕ, not, if◌then◌else◌, List, [], ◌∷◌, ◌++◌, filter, Option, Some, None}, Str.{bytes_eq}}
 
 -- a document: its name and its text
 pub record DocumentView : Type 0 where

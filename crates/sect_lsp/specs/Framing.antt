@@ -1,13 +1,11 @@
 -- Messages on a stream: header lines, an empty line, and as many bytes as the header says.
-use Rattle.std.specs.Prelude.{◌≡◌, ℕ, ◌+◌, ◌-◌, ◌*◌, ◌==◌, ◌||◌, ◌&&◌, ◌⊎◌, Bool, if◌then◌else◌, nat_lt}
-use Rattle.std.specs.Prelude.{nat_le, nat_eq, List, [], ◌∷◌, ◌++◌, length, take, drop, slice_index, Option, Some, None}
-use Rattle.std.specs.Prelude.{option_map, codes, decimal}
-use Rattle.std.specs.List.{starts_with}
+use Rattle.std.specs.Prelude.{◌≡◌, ℕ, ◌+◌, ◌-◌, ◌*◌, ◌==◌, ◌||◌, ◌&&◌, ◌⊎◌, Bool, if◌then◌else◌, nat_lt, nat_le, nat_eq}
+use Rattle.std.specs.Prelude.{List, [], ◌∷◌, ◌++◌, length, take, drop, slice_index, Option, Some, None, option_map}
+use Rattle.std.specs.{Prelude.{codes, decimal}, List.{starts_with}}
 use Rattle.sect_lsp.specs.declared.framing.Front.{Front}
 use Rattle.sect_lsp.specs.declared.framing.Front.TheVariants.{Message, Part, Malformed}
-use Rattle.sect_lsp.specs.declared.framing.Taken.{Taken}
+use Rattle.sect_lsp.specs.{declared.framing.Taken.{Taken}, declared.framing.TheConstants.{MOST_HEADER, MOST_MESSAGE}}
 use Rattle.sect_lsp.specs.declared.framing.Taken.TheVariants as taken
-use Rattle.sect_lsp.specs.declared.framing.TheConstants.{MOST_HEADER, MOST_MESSAGE}
 
 -- the first place at which the word stands in the bytes
 abbrev pub place_of : List ℕ → List ℕ → Option ℕ

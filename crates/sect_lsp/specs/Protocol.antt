@@ -1,10 +1,8 @@
 -- Messages of JSON-RPC 2.0, as the protocol uses them.
 use Rattle.std.specs.Prelude.{◌≡◌, ℕ, ℤ, negsuc, Bool, true, false, if◌then◌else◌, List, Option, Some, None}
 use Rattle.std.specs.Prelude.{option_and_then, codes, IsUtf8}
-use Rattle.serde_json.specs.Data.{Data, unsigned, negative, number, string, object}
-use Rattle.serde_json.specs.Data.{no_members, member}
-use Rattle.serde_json.specs.Find.{get, as_str}
-use Rattle.serde_json.specs.Read.{read}
+use Rattle.serde_json.specs.Data.{Data, unsigned, negative, number, string, object, no_members, member}
+use Rattle.serde_json.specs.{Find.{get, as_str}, Read.{read}}
 use Rattle.sect_lsp.specs.declared.protocol.RequestError.{RequestError}
 use Rattle.sect_lsp.specs.declared.protocol.RequestError.TheVariants as fault
 

@@ -1,32 +1,24 @@
 -- The server as a machine: what it knows, and what comes of each message.
 use Rattle.std.specs.Prelude.{◌≡◌, ℕ, Bool, true, false, if◌then◌else◌, ◌||◌, nat_le, List, [], ◌∷◌, Option, Some, None}
-use Rattle.std.specs.Prelude.{option_and_then, codes}
-use Rattle.std.specs.Str.{bytes_eq}
+use Rattle.std.specs.{Prelude.{option_and_then, codes}, Str.{bytes_eq}}
 use Rattle.serde_json.specs.Data.{Data, null, boolean, number, unsigned, string, array, object, Items, no_items, item}
-use Rattle.serde_json.specs.Data.{no_members, member}
-use Rattle.serde_json.specs.Find.{pointer, as_str, as_array, as_number, as_u64}
+use Rattle.serde_json.specs.{Data.{no_members, member}, Find.{pointer, as_str, as_array, as_number, as_u64}}
 use Rattle.sect_editor.specs.declared.position.Encoding.{Encoding}
 use Rattle.sect_editor.specs.declared.position.Encoding.TheVariants.{Utf8, Utf16}
-use Rattle.sect_lsp.specs.declared.protocol.RequestError.{RequestError}
-use Rattle.sect_lsp.specs.declared.protocol.RequestError.TheVariants as fault
-use Rattle.sect_editor.specs.declared.query.Query.TheVariants as query
-use Rattle.sect_editor.specs.declared.question.Question.{Question}
-use Rattle.sect_editor.specs.declared.question.Question.TheVariants as question
-use Rattle.sect_editor.specs.declared.text.Reading.{Reading}
-use Rattle.sect_lsp.specs.declared.server.Phase.{Phase}
-use Rattle.sect_lsp.specs.declared.server.Phase.TheVariants as phase
-use Rattle.sect_lsp.specs.declared.server.Asked.{Asked}
-use Rattle.sect_lsp.specs.declared.server.Asked.TheVariants as asked
-use Rattle.sect_lsp.specs.declared.server.Told.{Told}
-use Rattle.sect_lsp.specs.declared.server.Told.TheVariants as told
-use Rattle.sect_lsp.specs.declared.documents.TheConstants.{MOST_K}
-use Rattle.sect_lsp.specs.declared.server.TheConstants.{DEFAULT_K}
-use Rattle.sect_lsp.specs.Changes.{after_changes}
-use Rattle.sect_editor.specs.Diagnosing.{AreDiagnostics}
-use Rattle.sect_lsp.specs.Documents.{DocumentView, text_of, closed, opened}
-use Rattle.sect_editor.specs.Asking.{IsAnswerTo}
+use Rattle.sect_editor.specs.{declared.question.Question.{Question}, declared.text.Reading.{Reading}}
+use Rattle.sect_editor.specs.{Diagnosing.{AreDiagnostics}, Asking.{IsAnswerTo}}
+use Rattle.sect_lsp.specs.{declared.protocol.RequestError.{RequestError}, declared.server.Phase.{Phase}}
+use Rattle.sect_lsp.specs.{declared.server.Asked.{Asked}, declared.server.Told.{Told}}
+use Rattle.sect_lsp.specs.{declared.documents.TheConstants.{MOST_K}, declared.server.TheConstants.{DEFAULT_K}}
+use Rattle.sect_lsp.specs.{Changes.{after_changes}, Documents.{DocumentView, text_of, closed, opened}}
 use Rattle.sect_lsp.specs.Protocol.{Kind, Request, Notification, Response, Invalid, kind_of, ReplyView, Result, Error}
 use Rattle.sect_lsp.specs.Protocol.{IsRead, reply_with, response_json, notification_json}
+use Rattle.sect_lsp.specs.declared.protocol.RequestError.TheVariants as fault
+use Rattle.sect_editor.specs.declared.query.Query.TheVariants as query
+use Rattle.sect_editor.specs.declared.question.Question.TheVariants as question
+use Rattle.sect_lsp.specs.declared.server.Phase.TheVariants as phase
+use Rattle.sect_lsp.specs.declared.server.Asked.TheVariants as asked
+use Rattle.sect_lsp.specs.declared.server.Told.TheVariants as told
 
 -- what the server knows: what may come now, the most fields of a path, how columns are counted, and the open documents
 pub record ServerView : Type 0 where

@@ -1,13 +1,10 @@
 -- A session: the bytes that come, the messages that they spell, and what is written for them.
 use Rattle.std.specs.Prelude.{◌≡◌, ℕ, Bool, true, false, List, [], ◌∷◌, ◌++◌}
-use Rattle.serde_json.specs.Data.{Data}
-use Rattle.serde_json.specs.Written.{IsInOrder, has_float, compact_text}
-use Rattle.sect_lsp.specs.declared.framing.Front.{Front}
+use Rattle.serde_json.specs.{Data.{Data}, Written.{IsInOrder, has_float, compact_text}}
+use Rattle.sect_lsp.specs.{declared.framing.Front.{Front}, declared.server.Phase.{Phase}}
+use Rattle.sect_lsp.specs.{Framing.{Spells, IsRest, front_of, frame}, Server.{ServerView, Step, start}}
 use Rattle.sect_lsp.specs.declared.framing.Front.TheVariants as front
-use Rattle.sect_lsp.specs.declared.server.Phase.{Phase}
 use Rattle.sect_lsp.specs.declared.server.Phase.TheVariants as phase
-use Rattle.sect_lsp.specs.Framing.{Spells, IsRest, front_of, frame}
-use Rattle.sect_lsp.specs.Server.{ServerView, Step, start}
 
 -- nothing more is taken
 abbrev pub is_ended : Phase → Bool

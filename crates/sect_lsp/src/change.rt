@@ -2,9 +2,9 @@
 
 ghost use Rattle.std.specs.Prelude.{◌≡◌, IfOk, option_map};
 ghost use Rattle.serde_json.specs.View.{view, items_view};
-ghost use Rattle.sect_lsp.specs.Changes.{replaced as replaced_by, edited as edited_by};
-ghost use Rattle.sect_lsp.specs.Changes.{text_in as text_by, range_of as range_of_by};
-ghost use Rattle.sect_lsp.specs.Changes.{after_change as after_change_by, after_changes as after_changes_by};
+ghost use Rattle.sect_lsp.specs.Changes.{replaced as replaced_by, edited as edited_by, text_in as text_by};
+ghost use Rattle.sect_lsp.specs.Changes.{range_of as range_of_by, after_change as after_change_by};
+ghost use Rattle.sect_lsp.specs.Changes.{after_changes as after_changes_by};
 
 use sect_editor::{Encoding, Range, offset, range_in};
 use serde_json::Value;

@@ -1,7 +1,6 @@
 //! The documents that are open.
 
-ghost use Rattle.std.specs.Prelude.{◌≡◌, ◌≤◌, OnOk, IfSome, [], filter, not, option_map};
-ghost use Rattle.std.specs.String.{string_bytes};
+ghost use Rattle.std.specs.{Prelude.{◌≡◌, ◌≤◌, OnOk, IfSome, [], filter, not, option_map}, String.{string_bytes}};
 ghost use Rattle.std.specs.Str.{bytes_eq};
 ghost use Rattle.sect_editor.specs.Accepted.{IsCompiledIf};
 ghost use Rattle.sect_lsp.specs.Documents.{text_of, closed, opened};

@@ -3,8 +3,7 @@
 ghost use Rattle.std.specs.Prelude.{◌≡◌, ◌+◌, ◌≤◌, ◌++◌, IfSome, IfOk, OnOk, OnErr, ℕ, List, [], length, take};
 ghost use Rattle.std.specs.String.{string_bytes};
 ghost use Rattle.sect_lsp.specs.Framing.{place_of as place_by, number_from, content_length as length_by};
-ghost use Rattle.sect_lsp.specs.Framing.{front_behind as behind, front_of as front_by, frame, IsTaken};
-ghost use Rattle.sect_lsp.specs.Framing.{Spells, IsRest};
+ghost use Rattle.sect_lsp.specs.Framing.{front_behind as behind, front_of as front_by, frame, IsTaken, Spells, IsRest};
 ghost use Rattle.sect_lsp.specs.steps.Fronts.{IsFrontWithin};
 
 use std::alloc::{AllocError, Global};

@@ -1,11 +1,9 @@
 //! What holds of every session. The functions have empty bodies; the clauses say the laws.
 
-ghost use Rattle.std.specs.Prelude.{◌≡◌, ◌≢◌, ℕ, List, Option, Some, None};
-ghost use Rattle.std.specs.List.{flat_map};
+ghost use Rattle.std.specs.{Prelude.{◌≡◌, ◌≢◌, ℕ, List, Option, Some, None}, List.{flat_map}};
 ghost use Rattle.serde_json.specs.Data.{Data};
 ghost use Rattle.sect_lsp.specs.Answered.{ids_asked, ids_answered, AreRead};
-ghost use Rattle.sect_lsp.specs.Documents.{DocumentView, text_of, closed, opened};
-ghost use Rattle.sect_lsp.specs.Server.{ServerView, Takes};
+ghost use Rattle.sect_lsp.specs.{Documents.{DocumentView, text_of, closed, opened}, Server.{ServerView, Takes}};
 ghost use Rattle.sect_lsp.specs.Sessions.{Runs};
 
 /// Each request gets one answer, under its own number or name, in the order of the requests. What is told gets none.

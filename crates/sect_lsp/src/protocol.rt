@@ -1,10 +1,9 @@
 //! Messages of JSON-RPC 2.0, as the protocol uses them.
 
 ghost use Rattle.std.specs.Prelude.{◌≡◌, IfOk, option_map};
-ghost use Rattle.serde_json.specs.Data.{null};
-ghost use Rattle.serde_json.specs.View.{view};
-ghost use Rattle.sect_lsp.specs.Protocol.{is_id as is_id_by, code_of, words_of, error_json, response_json};
-ghost use Rattle.sect_lsp.specs.Protocol.{IsRead, notification_json, Result as ResultView, Error as ErrorView};
+ghost use Rattle.serde_json.specs.{Data.{null}, View.{view}};
+ghost use Rattle.sect_lsp.specs.Protocol.{is_id as is_id_by, code_of, words_of, error_json, response_json, IsRead};
+ghost use Rattle.sect_lsp.specs.Protocol.{notification_json, Result as ResultView, Error as ErrorView};
 
 use serde_json::{Value, json};
 use std::alloc::{AllocError, Global};

@@ -1,16 +1,14 @@
 //! The server: what it knows, and what comes of each message.
 
 ghost use Rattle.std.specs.Prelude.{◌≡◌, ◌≤◌, ◌∷◌, [], IfOk, IfSome, List, map, option_map, option_and_then};
-ghost use Rattle.serde_json.specs.Find.{pointer as pointer_by, as_str, as_array};
-ghost use Rattle.serde_json.specs.View.{view, items_view};
+ghost use Rattle.serde_json.specs.{Find.{pointer as pointer_by, as_str, as_array}, View.{view, items_view}};
 ghost use Rattle.sect_lsp.specs.Protocol.{kind_of};
 ghost use Rattle.sect_lsp.specs.Server.{asked_by, told_by, has_text as has_text_by, encoding_of as encoding_by};
 ghost use Rattle.sect_lsp.specs.Server.{k_of as k_by, encoding_name, sync_json, completion_json, able_json};
-ghost use Rattle.sect_lsp.specs.Server.{capabilities_json, phase_after_exit};
-ghost use Rattle.sect_lsp.specs.Server.{diagnostics_json, text_at_opening, text_after, uri_of, in_phase, start};
-ghost use Rattle.sect_lsp.specs.Server.{RepliesServing, RepliesBy, Notes, NotesOf, Receives, Step};
-ghost use Rattle.sect_lsp.specs.Documents.{text_of};
-ghost use Rattle.sect_lsp.specs.Server.{Keeps, Begins, Forgets, reading_of, IsTextReply, IsDocumentReply};
+ghost use Rattle.sect_lsp.specs.Server.{capabilities_json, phase_after_exit, diagnostics_json, text_at_opening};
+ghost use Rattle.sect_lsp.specs.Server.{text_after, uri_of, in_phase, start, RepliesServing, RepliesBy, Notes, NotesOf};
+ghost use Rattle.sect_lsp.specs.Server.{Receives, Step, Keeps, Begins, Forgets, reading_of, IsTextReply};
+ghost use Rattle.sect_lsp.specs.{Server.{IsDocumentReply}, Documents.{text_of}};
 ghost use Rattle.sect_lsp.specs.steps.Replying.{reply_view};
 
 use crate::change::after_changes;

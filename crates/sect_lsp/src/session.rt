@@ -1,11 +1,9 @@
 //! A session over any reader and writer.
 
 ghost use Rattle.std.specs.Prelude.{◌≡◌, ◌≤◌, ◌++◌, ℕ, List, false, IfOk, OnOk, IfSome, map};
-ghost use Rattle.std.specs.Io.KnownBytes.{Appends, Consumes, IsAtEnd};
-ghost use Rattle.std.specs.String.{string_bytes};
+ghost use Rattle.std.specs.{Io.KnownBytes.{Appends, Consumes, IsAtEnd}, String.{string_bytes}};
 ghost use Rattle.serde_json.specs.View.{view};
-ghost use Rattle.sect_lsp.specs.Framing.{frame};
-ghost use Rattle.sect_lsp.specs.Sessions.{is_ended, status_by, IsTextOf, AreSent, IsSession};
+ghost use Rattle.sect_lsp.specs.{Framing.{frame}, Sessions.{is_ended, status_by, IsTextOf, AreSent, IsSession}};
 ghost use Rattle.sect_lsp.specs.steps.Underway.{IsAnswered};
 
 use crate::framing::{Front, Inbox, Taken, frame_of};

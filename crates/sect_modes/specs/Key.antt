@@ -1,7 +1,6 @@
 -- The keys that are locked, and their order. Cited by `is_same` and `is_below`.
 use Rattle.std.specs.Prelude.{Bool, true, false, ◌&&◌, ◌||◌, ◌==◌, nat_lt}
-use Rattle.sect_modes.specs.declared.key.Key.{Key}
-use Rattle.sect_modes.specs.declared.key.Key.TheVariants.{All, Class, Global, Made}
+use Rattle.sect_modes.specs.{declared.key.Key.{Key}, declared.key.Key.TheVariants.{All, Class, Global, Made}}
 
 -- the two keys are one
 abbrev pub is_same_key : Key → Key → Bool

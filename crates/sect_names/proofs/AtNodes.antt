@@ -1,28 +1,20 @@
 -- What is needed at a node of a graph is what is needed before the statements that are still to run there.
 use Rattle.std.proofs.Common.{◌≡◌, ◌↔◌, ◌⊎◌, ◌≤◌, ◌<◌, ℕ, zero, suc, List, [], ◌∷◌, length, Some, refl, sym, ap, ◌∙◌}
-use Rattle.std.proofs.Common.{subst, inl, inr, arith}
+use Rattle.std.proofs.{Common.{subst, inl, inr, arith}, lemmas.Bool.{cases_lt}}
 use Rattle.std.specs.Prelude.{slice_get}
-use Rattle.std.proofs.lemmas.Bool.{cases_lt}
 use Rattle.sect_lemmas.specs.Lists.{Has}
 use Rattle.sect_types.specs.Statements.{TextView, Stop, Do, Choose, Loop, Section}
-use Rattle.sect_types.specs.Sections.{SectionView, sections_of}
-use Rattle.sect_types.specs.Traces.{Visit, visit}
+use Rattle.sect_types.specs.{Sections.{SectionView, sections_of}, Traces.{Visit, visit}}
 use Rattle.sect_types.specs.declared.expansion.action.Label.{Label}
-use Rattle.sect_graph.specs.declared.flow.Node.{Node}
-use Rattle.sect_graph.specs.Paths.{IsSuccessor, LeadsTo, IsPath}
-use Rattle.sect_graph.specs.Rests.{rest_at, Begins}
+use Rattle.sect_graph.specs.{declared.flow.Node.{Node}, Paths.{IsSuccessor, LeadsTo, IsPath}, Rests.{rest_at, Begins}}
 use Rattle.sect_graph.specs.Graphs.{IsGraphOf}
-use Rattle.sect_names.specs.declared.lock.Lock.{Lock}
-use Rattle.sect_names.specs.declared.lock.Lock.TheVariants as lock
-use Rattle.sect_names.specs.Schemes.{SchemeView, IsScheme}
-use Rattle.sect_names.specs.Laws.{IsProgramStep}
-use Rattle.sect_names.proofs.shared.SectionSteps.{section_step}
-use Rattle.sect_names.specs.Needed.{IsNeededFrom}
-use Rattle.sect_names.specs.Walks.{labels_of, IsWalk, Leads}
+use Rattle.sect_names.specs.{declared.lock.Lock.{Lock}, Schemes.{SchemeView, IsScheme}, Laws.{IsProgramStep}}
+use Rattle.sect_names.specs.{Needed.{IsNeededFrom}, Walks.{labels_of, IsWalk, Leads}}
 use Rattle.sect_names.specs.Along.{NeededAlong, NeededIn, AreProgramSteps, ReadsBeginnings}
-use Rattle.sect_names.proofs.shared.Beginning.{reads_along}
-use Rattle.sect_names.proofs.Splitting.{split_along}
+use Rattle.sect_names.proofs.shared.{SectionSteps.{section_step}, Beginning.{reads_along}}
 use Rattle.sect_names.proofs.shared.Walking.{StepsOn, leads_walk, walk_leads}
+use Rattle.sect_names.proofs.Splitting.{split_along}
+use Rattle.sect_names.specs.declared.lock.Lock.TheVariants as lock
 
 -- a node stands at each number below their count
 node_there : (g : List Node) (j : ℕ) → j < length g → (x : Node) × (slice_get g j ≡ Some x)

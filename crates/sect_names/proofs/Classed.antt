@@ -1,9 +1,7 @@
 -- The class of a path, as it is looked up.
 use Rattle.std.proofs.Common.{◌≡◌, ℕ, ◌<◌, ◌↔◌, Option, Some, None, IfSome, IfNone, ap, subst, arith}
 use Rattle.std.proofs.lemmas.Option.{slice_get_within}
-use Rattle.sect_points.specs.Paths.{PathView, PathHas}
-use Rattle.sect_points.specs.Sets.{InSets}
-use Rattle.sect_points.specs.Partitions.{ClassesView, IsParted, HasClass}
+use Rattle.sect_points.specs.{Paths.{PathView, PathHas}, Sets.{InSets}, Partitions.{ClassesView, IsParted, HasClass}}
 use Rattle.sect_points.specs.PathClasses.{ArePathClasses}
 
 pub class_tells : (c : ClassesView) (p : PathView) → IsParted c → ArePathClasses c → (r : Option ℕ)

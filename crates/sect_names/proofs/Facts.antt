@@ -1,23 +1,15 @@
 -- The sets of a scheme as a list of facts.
 use Rattle.std.proofs.Common.{◌≡◌, ◌↔◌, ◌⊎◌, inl, inr, ℕ, ◌+◌, ◌*◌, ◌<◌, ◌/◌, ◌%◌, List, [], ◌∷◌, ◌++◌, map, length}
-use Rattle.std.proofs.Common.{refl, ap, subst, arith}
-use Rattle.std.specs.Prelude.{slice_index, slice_index_or}
-use Rattle.std.specs.Int.{bit_at}
-use Rattle.std.specs.List.{flat_map}
-use Rattle.std.proofs.lemmas.Bool.{cases_lt, cases_eq}
-use Rattle.std.proofs.lemmas.List.{get_or_past}
+use Rattle.std.proofs.{Common.{refl, ap, subst, arith}, lemmas.Bool.{cases_lt, cases_eq}, lemmas.List.{get_or_past}}
+use Rattle.std.specs.{Prelude.{slice_index, slice_index_or}, Int.{bit_at}, List.{flat_map}}
 use Rattle.sect_types.specs.declared.declarations.limits.TheConstants.{MOST_FIELDS}
 use Rattle.sect_lemmas.specs.Lists.{Has}
 use Rattle.sect_lemmas.proofs.Membership.{Has-left, Has-right, Has-cases}
-use Rattle.sect_points.specs.declared.holders.Fact.{Fact}
-use Rattle.sect_points.specs.declared.holders.Holder.{Holder}
-use Rattle.sect_points.specs.declared.holders.Holder.TheVariants.{Local, Slot}
-use Rattle.sect_points.specs.Flow.{fact}
-use Rattle.sect_points.specs.Rows.{no_sites}
-use Rattle.sect_points.specs.Sets.{PointsToView, InSets, rows_of, AreBelow}
-use Rattle.sect_points.specs.Partitions.{AreSlotsOfSites}
-use Rattle.sect_points.proofs.shared.SetLaws.{row_past}
 use Rattle.sect_lemmas.proofs.Listing.{below, Has-below, Has-map, Has-flat_map}
+use Rattle.sect_points.specs.{declared.holders.Fact.{Fact}, declared.holders.Holder.{Holder}}
+use Rattle.sect_points.specs.{declared.holders.Holder.TheVariants.{Local, Slot}, Flow.{fact}, Rows.{no_sites}}
+use Rattle.sect_points.specs.{Sets.{PointsToView, InSets, rows_of, AreBelow}, Partitions.{AreSlotsOfSites}}
+use Rattle.sect_points.proofs.shared.SetLaws.{row_past}
 
 -- an element, where something holds
 abbrev pub where_so : {A P : Type 0} → P ⊎ (P → ⊥) → A → List A

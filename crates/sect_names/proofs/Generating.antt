@@ -1,13 +1,9 @@
 -- What a statement needs of itself, as it is found.
 use Rattle.std.proofs.Common.{◌≡◌, ◌↔◌, ℕ, Option, Some, None, sym, ap}
-use Rattle.sect_points.specs.declared.holders.Variable.{Variable}
-use Rattle.sect_points.specs.Paths.{var}
-use Rattle.sect_points.specs.Partitions.{HasClass}
-use Rattle.sect_names.specs.declared.lock.Effect.{Effect}
-use Rattle.sect_names.specs.declared.lock.Lock.{Lock}
-use Rattle.sect_names.specs.declared.lock.Lock.TheVariants as lock
-use Rattle.sect_names.specs.Schemes.{SchemeView, guard_of}
+use Rattle.sect_points.specs.{declared.holders.Variable.{Variable}, Paths.{var}, Partitions.{HasClass}}
+use Rattle.sect_names.specs.{declared.lock.Effect.{Effect}, declared.lock.Lock.{Lock}, Schemes.{SchemeView, guard_of}}
 use Rattle.sect_names.specs.Carrying.{Accesses, locked_for}
+use Rattle.sect_names.specs.declared.lock.Lock.TheVariants as lock
 
 pub no_access : (s : SchemeView) (v : Variable) (r : ℕ) (e : Effect) (o : Option ℕ)
     → ((n : ℕ) → (o ≡ Some n) ↔ HasClass s.classes (var v) n) → o ≡ None → (l : Lock)

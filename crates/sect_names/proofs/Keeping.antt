@@ -1,15 +1,9 @@
 -- What may denote before a step what a path denotes after it has no class but the path's.
 use Rattle.std.proofs.Common.{◌≡◌, ℕ, Option, Some, None, refl, sym, subst, inl, inr}
-use Rattle.sect_types.specs.declared.expansion.action.Field.{Field}
-use Rattle.sect_types.specs.declared.expansion.action.Value.{Value}
-use Rattle.sect_types.specs.declared.expansion.action.Value.TheVariants as value
-use Rattle.sect_types.specs.declared.expansion.action.Action.{Action}
-use Rattle.sect_types.specs.declared.expansion.action.Action.TheVariants as action
-use Rattle.sect_types.specs.declared.expansion.action.Label.{Label}
-use Rattle.sect_types.specs.declared.expansion.action.Label.TheVariants as label
+use Rattle.sect_types.specs.{declared.expansion.action.Field.{Field}, declared.expansion.action.Value.{Value}}
+use Rattle.sect_types.specs.{declared.expansion.action.Action.{Action}, declared.expansion.action.Label.{Label}}
 use Rattle.sect_points.specs.declared.holders.Variable.{Variable}
-use Rattle.sect_points.specs.declared.holders.Variable.TheVariants.{Global, Local}
-use Rattle.sect_points.specs.Paths.{PathView, var, dot}
+use Rattle.sect_points.specs.{declared.holders.Variable.TheVariants.{Global, Local}, Paths.{PathView, var, dot}}
 use Rattle.sect_points.specs.Partitions.{ClassesView, HasClass}
 use Rattle.sect_points.specs.PathClasses.{Agree, ArePathClasses, KeepsClasses, variable_of, variable_in}
 use Rattle.sect_points.specs.Statements.{thread_action, thread_actions}
@@ -17,6 +11,9 @@ use Rattle.sect_names.specs.Schemes.{SchemeView, IsScheme}
 use Rattle.sect_names.specs.Carrying.{Replaced, BeforeStore, BeforeAssignment, BeforeAction}
 use Rattle.sect_names.specs.Laws.{IsProgramStep, KeepsItsClass}
 use Rattle.sect_points.proofs.shared.ClassLaws.{path_classes, keeps_classes}
+use Rattle.sect_types.specs.declared.expansion.action.Value.TheVariants as value
+use Rattle.sect_types.specs.declared.expansion.action.Action.TheVariants as action
+use Rattle.sect_types.specs.declared.expansion.action.Label.TheVariants as label
 
 -- paths go on by one field to one class, where they have one
 pub agree_field : (c : ClassesView) → ArePathClasses c → (q p : PathView) (f : Field) → Agree c q p

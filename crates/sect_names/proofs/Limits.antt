@@ -1,14 +1,10 @@
 -- The lock on a path, as it is found.
 use Rattle.std.proofs.Common.{◌≡◌, ◌↔◌, ℕ, ◌≤◌, ◌<◌, Option, Some, None, sym, ap, ◌∙◌, inl, inr}
 use Rattle.std.proofs.lemmas.Bool.{cases_lt}
-use Rattle.sect_points.specs.Paths.{PathView}
-use Rattle.sect_points.specs.Partitions.{HasClass}
-use Rattle.sect_names.specs.declared.lock.Effect.{Effect}
-use Rattle.sect_names.specs.declared.lock.Lock.{Lock}
+use Rattle.sect_points.specs.{Paths.{PathView}, Partitions.{HasClass}}
+use Rattle.sect_names.specs.{declared.lock.Effect.{Effect}, declared.lock.Lock.{Lock}, Schemes.{SchemeView}}
+use Rattle.sect_names.specs.{Locks.{depth}, Carrying.{LockOn, right_for}}
 use Rattle.sect_names.specs.declared.lock.Lock.TheVariants as lock
-use Rattle.sect_names.specs.Schemes.{SchemeView}
-use Rattle.sect_names.specs.Locks.{depth}
-use Rattle.sect_names.specs.Carrying.{LockOn, right_for}
 
 module _ (s : SchemeView) (e : Effect) (p : PathView) (o : Option ℕ)
     (tells : (n : ℕ) → (o ≡ Some n) ↔ HasClass s.classes p n) where

@@ -1,9 +1,7 @@
 -- The locks that are kept are the maximal ones.
 use Rattle.std.proofs.Common.{◌≡◌, ◌⊎◌, List, refl, subst, sym}
 use Rattle.sect_lemmas.specs.Lists.{Has}
-use Rattle.sect_names.specs.declared.lock.Lock.{Lock}
-use Rattle.sect_names.specs.Schemes.{SchemeView}
-use Rattle.sect_names.specs.Locks.{IsOutdone}
+use Rattle.sect_names.specs.{declared.lock.Lock.{Lock}, Schemes.{SchemeView}, Locks.{IsOutdone}}
 use Rattle.sect_names.specs.Order.{AreInOrder, AreMaximal}
 use Rattle.sect_lemmas.proofs.Making.{Makes}
 use Rattle.sect_names.proofs.shared.Maximals.{covered}

@@ -3,8 +3,7 @@ use Rattle.std.proofs.Common.{◌≡◌, ℕ, ◌<◌, inr, List, ◌∷◌, len
 use Rattle.sect_lemmas.specs.Lists.{Has}
 use Rattle.sect_types.specs.Programs.{ProgramView}
 use Rattle.sect_lemmas.proofs.Membership.{Has-get_or}
-use Rattle.sect_names.specs.declared.lock.Lock.{Lock}
-use Rattle.sect_names.specs.Printing.{IsNamed, AreNamed}
+use Rattle.sect_names.specs.{declared.lock.Lock.{Lock}, Printing.{IsNamed, AreNamed}}
 
 -- each lock of a list behind its first
 pub other_there : (p : ProgramView) (first : Lock) (locks others : List Lock) → locks ≡ first ∷ others

@@ -1,12 +1,8 @@
 use Rattle.std.proofs.Common.{◌≡◌, ◌↔◌, Less, Equal, Greater, refl, sym, ap, ◌∙◌, subst}
-use Rattle.std.specs.declared.cmp.Ordering.{Ordering}
-use Rattle.std.specs.Ordering.{ordering_reverse}
-use Rattle.sect_names.specs.declared.lock.Lock.{Lock}
-use Rattle.sect_names.specs.contracts.lock.LockOrd.TheImpl.{ghosts as the_lock_order}
-use Rattle.sect_names.specs.contracts.lock.LockOrd.TheImpl.Laws.{total-law as the_lock_total}
-use Rattle.sect_names.specs.Order.{LockBefore}
-use Rattle.sect_names.proofs.shared.Ranking.{lock_before, lock_level}
-use Rattle.sect_names.proofs.shared.Uniqueness.{lock_once}
+use Rattle.std.specs.{declared.cmp.Ordering.{Ordering}, Ordering.{ordering_reverse}}
+use Rattle.sect_names.specs.{declared.lock.Lock.{Lock}, contracts.lock.LockOrd.TheImpl.{ghosts as the_lock_order}}
+use Rattle.sect_names.specs.{contracts.lock.LockOrd.TheImpl.Laws.{total-law as the_lock_total}, Order.{LockBefore}}
+use Rattle.sect_names.proofs.shared.{Ranking.{lock_before, lock_level}, Uniqueness.{lock_once}}
 
 -- The derived comparison of locks tells exactly which stands before which.
 

@@ -1,19 +1,16 @@
 -- Which refusals are due, and which are not.
 use Rattle.std.proofs.Common.{◌≡◌, ◌≤◌, ℕ, List, Result, Ok, Err, IsErrAnd, inr, refl, ◌∙◌}
 use Rattle.sect_front.proofs.shared.Only.{only}
-use Rattle.sect_front.specs.TreeView.{TreeView}
-use Rattle.sect_front.specs.Front.{Gives}
-use Rattle.sect_front.specs.declared.parsing.FrontFault.{FrontFault}
-use Rattle.sect_front.specs.declared.parsing.FrontFault.TheVariants as front
+use Rattle.sect_front.specs.{TreeView.{TreeView}, Front.{Gives}, declared.parsing.FrontFault.{FrontFault}}
 use Rattle.sect_types.specs.Programs.{ProgramView}
 use Rattle.sect_names.specs.declared.fault.SchemeFault.{SchemeFault}
 use Rattle.sect_names.specs.declared.fault.SchemeFault.TheVariants.{Memory, BadK, NoSuchGlobal, GuardIsGuarded}
-use Rattle.sect_names.specs.declared.fault.SchemeFault.TheVariants.{HintTwice}
-use Rattle.sect_names.specs.Verdicts.{Judges}
+use Rattle.sect_names.specs.{declared.fault.SchemeFault.TheVariants.{HintTwice}, Verdicts.{Judges}}
 use Rattle.sect_names.specs.declared.refusal.SourceRefusal.{SourceRefusal}
-use Rattle.sect_names.specs.declared.refusal.SourceRefusal.TheVariants as refusal
 use Rattle.sect_names.specs.Sources.{IsTypedText, GivesProgram, IsDue, of_front, of_scheme}
 use Rattle.sect_names.proofs.shared.Refusing.{one_program}
+use Rattle.sect_front.specs.declared.parsing.FrontFault.TheVariants as front
+use Rattle.sect_names.specs.declared.refusal.SourceRefusal.TheVariants as refusal
 
 -- a fault of the scheme of a typed text's program is due where k was found to be small
 pub scheme_due : (bytes : List ℕ) (k : ℕ) (p : ProgramView) → k ≤ 3 → IsTypedText bytes p → (fault : SchemeFault)

@@ -1,24 +1,19 @@
 -- The steps of a section are the program's, and sound.
-use Rattle.std.proofs.Common.{◌≡◌, ℕ, ◌<◌, List, [], ◌∷◌, ◌++◌, length, Bool, true, Some, refl, subst, inl, inr}
-use Rattle.std.proofs.Common.{arith}
+use Rattle.std.proofs.Common.{◌≡◌, ℕ, ◌<◌, List, [], ◌∷◌, ◌++◌, length, Bool, true, Some, refl, subst, inl, inr, arith}
 use Rattle.std.specs.Prelude.{slice_get}
 use Rattle.sect_lemmas.specs.Lists.{Has}
-use Rattle.sect_types.specs.Environments.{Environment}
-use Rattle.sect_types.specs.Statements.{TextView, Stop, Do, Choose, Loop, Section}
-use Rattle.sect_types.specs.Sections.{SectionView, sections_of}
-use Rattle.sect_types.specs.Programs.{environment_at}
+use Rattle.sect_types.specs.{Environments.{Environment}, Statements.{TextView, Stop, Do, Choose, Loop, Section}}
+use Rattle.sect_types.specs.{Sections.{SectionView, sections_of}, Programs.{environment_at}}
 use Rattle.sect_types.specs.Sound.{IsSound, AreSound, IsSoundAction}
 use Rattle.sect_types.specs.declared.declarations.types.ValueType.{ValueType}
-use Rattle.sect_types.specs.declared.expansion.action.Action.{Action}
-use Rattle.sect_types.specs.declared.expansion.action.Label.{Label}
-use Rattle.sect_types.specs.declared.expansion.action.Label.TheVariants as label
+use Rattle.sect_types.specs.{declared.expansion.action.Action.{Action}, declared.expansion.action.Label.{Label}}
 use Rattle.sect_lemmas.proofs.Membership.{Has-cases}
 use Rattle.sect_types.proofs.shared.SectionSound.{section_sound}
 use Rattle.sect_graph.specs.declared.flow.Node.{Node}
 use Rattle.sect_points.specs.Flow.{actions_of}
-use Rattle.sect_names.specs.Schemes.{SchemeView, IsScheme}
-use Rattle.sect_names.specs.Laws.{IsSoundStep, StandsIn}
+use Rattle.sect_names.specs.{Schemes.{SchemeView, IsScheme}, Laws.{IsSoundStep, StandsIn}}
 use Rattle.sect_names.proofs.shared.SectionSteps.{IsAmong, node_among}
+use Rattle.sect_types.specs.declared.expansion.action.Label.TheVariants as label
 
 -- the statements of a sound text are sound
 pub sound_action : (e : Environment) (inside : Bool) (text : TextView) → IsSound e inside text → (a : Action)

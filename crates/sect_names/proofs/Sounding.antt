@@ -1,30 +1,23 @@
 -- What a sound step of a thread needs, and what it carries back, are locks that the thread's sections may take.
-use Rattle.std.proofs.Common.{◌≡◌, ℕ, ◌<◌, length, length-append, Option, Some, None, refl, sym, subst, inl, inr}
-use Rattle.std.proofs.Common.{arith}
-use Rattle.std.specs.Prelude.{slice_index_or}
+use Rattle.std.proofs.Common.{◌≡◌, ℕ, ◌<◌, length, length-append, Option, Some, None, refl, sym, subst, inl, inr, arith}
 use Rattle.std.proofs.lemmas.Option.{slice_get-get_or}
-use Rattle.sect_types.specs.Programs.{environment_at, all_made}
-use Rattle.sect_types.specs.Sound.{IsSoundAction}
-use Rattle.sect_lemmas.proofs.Membership.{Has-slice_get}
-use Rattle.sect_types.specs.declared.expansion.action.Base.{Base}
-use Rattle.sect_types.specs.declared.expansion.action.Action.{Action}
-use Rattle.sect_types.specs.declared.expansion.action.Action.TheVariants as action
+use Rattle.std.specs.Prelude.{slice_index_or}
+use Rattle.sect_types.specs.{Programs.{environment_at, all_made}, Sound.{IsSoundAction}}
+use Rattle.sect_types.specs.{declared.expansion.action.Base.{Base}, declared.expansion.action.Action.{Action}}
 use Rattle.sect_types.specs.declared.expansion.action.Label.{Label}
-use Rattle.sect_types.specs.declared.expansion.action.Label.TheVariants as label
-use Rattle.sect_points.specs.declared.holders.Variable.{Variable}
-use Rattle.sect_points.specs.declared.holders.Variable.TheVariants.{Global}
-use Rattle.sect_points.specs.Paths.{PathView, var}
-use Rattle.sect_points.specs.PathClasses.{variable_of}
-use Rattle.sect_names.specs.declared.lock.Effect.{Effect}
-use Rattle.sect_names.specs.declared.lock.Effect.TheVariants as effect
-use Rattle.sect_names.specs.declared.lock.Lock.{Lock}
-use Rattle.sect_names.specs.declared.lock.Lock.TheVariants as lock
+use Rattle.sect_lemmas.proofs.Membership.{Has-slice_get}
+use Rattle.sect_points.specs.{declared.holders.Variable.{Variable}, declared.holders.Variable.TheVariants.{Global}}
+use Rattle.sect_points.specs.{Paths.{PathView, var}, PathClasses.{variable_of}}
+use Rattle.sect_names.specs.{declared.lock.Effect.{Effect}, declared.lock.Lock.{Lock}}
 use Rattle.sect_names.specs.Schemes.{SchemeView, IsScheme, guard_of}
 use Rattle.sect_names.specs.Locks.{VariableTo, PathTo, IsOwn, IsClassed, IsPathIn, IsLockOf}
 use Rattle.sect_names.specs.Carrying.{locked_for, Accesses, Makes, GeneratedBy, Generated, LockOn, CarriedBack}
 use Rattle.sect_names.specs.Laws.{IsSoundStep}
-use Rattle.sect_names.proofs.shared.Typing.{base_to, path_to}
-use Rattle.sect_names.proofs.shared.Owning.{own_base, own_before}
+use Rattle.sect_names.proofs.shared.{Typing.{base_to, path_to}, Owning.{own_base, own_before}}
+use Rattle.sect_types.specs.declared.expansion.action.Action.TheVariants as action
+use Rattle.sect_types.specs.declared.expansion.action.Label.TheVariants as label
+use Rattle.sect_names.specs.declared.lock.Effect.TheVariants as effect
+use Rattle.sect_names.specs.declared.lock.Lock.TheVariants as lock
 
 module _ (s : SchemeView) (scheme : IsScheme s) where
   -- a global has a class: it is a site, and refers to its own object

@@ -2,12 +2,8 @@
 use Rattle.std.proofs.Common.{◌↔◌, ℕ, List, [], ◌∷◌, ◌++◌, refl, sym, ap, subst, inl, inr}
 use Rattle.sect_lemmas.specs.Lists.{Has}
 use Rattle.sect_types.specs.Traces.{Visit}
-use Rattle.sect_names.specs.declared.lock.Lock.{Lock}
-use Rattle.sect_names.specs.Schemes.{SchemeView}
-use Rattle.sect_names.specs.Carrying.{Generated}
-use Rattle.sect_names.specs.Needed.{CarriedOver, GeneratedFirst, IsNeededOn}
-use Rattle.sect_names.specs.Walks.{labels_of}
-use Rattle.sect_names.specs.Along.{NeededAlong}
+use Rattle.sect_names.specs.{declared.lock.Lock.{Lock}, Schemes.{SchemeView}, Carrying.{Generated}}
+use Rattle.sect_names.specs.{Needed.{CarriedOver, GeneratedFirst, IsNeededOn}, Walks.{labels_of}, Along.{NeededAlong}}
 
 module _ (s : SchemeView) (t : ℕ) (last : List Lock) where
   over_along : (before rest : List Visit) (x l : Lock) → GeneratedFirst s t last rest x → CarriedOver s t before x l

@@ -1,13 +1,11 @@
 -- Paths over a store.
 use Rattle.std.proofs.Common.{◌≡◌, ◌↔◌, List, [], ◌∷◌, ◌++◌, Option, Some, None, sym, ap, ◌∙◌, inl, inr}
 use Rattle.sect_lemmas.specs.Lists.{Has}
-use Rattle.sect_lemmas.proofs.Membership.{Has-cases, Has-left, Has-right}
+use Rattle.sect_lemmas.proofs.{Membership.{Has-cases, Has-left, Has-right}, Making.{one_has}}
 use Rattle.sect_types.specs.declared.expansion.action.Field.{Field}
-use Rattle.sect_points.specs.declared.holders.Variable.{Variable}
-use Rattle.sect_points.specs.Paths.{PathView, var, dot}
+use Rattle.sect_points.specs.{declared.holders.Variable.{Variable}, Paths.{PathView, var, dot}}
 use Rattle.sect_points.specs.Partitions.{ClassesView}
 use Rattle.sect_names.specs.Carrying.{GoesOn, AreOfOneClass, BeforeStore}
-use Rattle.sect_lemmas.proofs.Making.{one_has}
 use Rattle.sect_names.specs.steps.OverStore.{OverField}
 
 module _ (c : ClassesView) (z : Variable) (f : Field) (w : Option Variable) (p : PathView) (g : Field)

@@ -2,13 +2,9 @@
 use Rattle.std.proofs.Common.{◌≡◌, ℕ, List, sym, ◌∙◌, subst}
 use Rattle.sect_lemmas.specs.Lists.{Has}
 use Rattle.sect_types.specs.Statements.{TextView}
-use Rattle.sect_names.specs.declared.lock.Lock.{Lock}
-use Rattle.sect_names.specs.Schemes.{SchemeView}
-use Rattle.sect_names.specs.Locks.{Covers}
-use Rattle.sect_names.specs.Needed.{IsLeast}
+use Rattle.sect_names.specs.{declared.lock.Lock.{Lock}, Schemes.{SchemeView}, Locks.{Covers}, Needed.{IsLeast}}
 use Rattle.sect_names.specs.Order.{AreInOrder}
-use Rattle.sect_names.proofs.shared.Covering.{covers_trans, covers_antisym}
-use Rattle.sect_names.proofs.shared.Uniqueness.{same_lists}
+use Rattle.sect_names.proofs.shared.{Covering.{covers_trans, covers_antisym}, Uniqueness.{same_lists}}
 
 module _ (s : SchemeView) (t : ℕ) (last : List Lock) (body : TextView) where
   -- each lock of one least set is in the other

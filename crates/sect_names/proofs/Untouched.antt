@@ -3,25 +3,20 @@ use Rattle.std.proofs.Common.{◌≡◌, ◌↔◌, ℕ, List, [], ◌∷◌, Op
 use Rattle.std.proofs.Common.{refl, sym, ap, subst, ◌∙◌, inl, inr, arith}
 use Rattle.std.specs.List.{list_any}
 use Rattle.sect_lemmas.specs.Lists.{Has}
-use Rattle.sect_lemmas.proofs.Membership.{Has-left, Has-right}
+use Rattle.sect_lemmas.proofs.{Membership.{Has-left, Has-right}, Finding.{any_tells}}
 use Rattle.sect_types.specs.declared.expansion.action.Field.{Field}
 use Rattle.sect_types.specs.contracts.expansion.action.FieldPartialEq.TheImpl.{ghosts as the_field_eq}
-use Rattle.sect_types.specs.declared.expansion.action.Value.{Value}
-use Rattle.sect_types.specs.declared.expansion.action.Value.TheVariants as value
+use Rattle.sect_types.specs.{declared.expansion.action.Value.{Value}, declared.expansion.action.Label.{Label}}
 use Rattle.sect_points.specs.declared.holders.Variable.{Variable}
 use Rattle.sect_points.specs.declared.holders.Variable.TheVariants.{Global, Local}
-use Rattle.sect_points.specs.Paths.{PathView, var, dot, base_of, fields_of}
-use Rattle.sect_points.specs.Partitions.{ClassesView}
-use Rattle.sect_types.specs.declared.expansion.action.Label.{Label}
-use Rattle.sect_names.specs.declared.lock.Effect.{Effect}
-use Rattle.sect_names.specs.declared.lock.Lock.{Lock}
-use Rattle.sect_names.specs.declared.lock.Lock.TheVariants as lock
-use Rattle.sect_names.specs.Schemes.{SchemeView}
+use Rattle.sect_points.specs.{Paths.{PathView, var, dot, base_of, fields_of}, Partitions.{ClassesView}}
+use Rattle.sect_names.specs.{declared.lock.Effect.{Effect}, declared.lock.Lock.{Lock}, Schemes.{SchemeView}}
 use Rattle.sect_names.specs.Locks.{IsPathIn}
 use Rattle.sect_names.specs.Carrying.{Replaced, BeforeStore, BeforeAssignment, Before, LockOn, CarriedBack}
 use Rattle.sect_names.proofs.Replacing.{replaced_other}
 use Rattle.sect_names.proofs.shared.Telling.{field_tells}
-use Rattle.sect_lemmas.proofs.Finding.{any_tells}
+use Rattle.sect_types.specs.declared.expansion.action.Value.TheVariants as value
+use Rattle.sect_names.specs.declared.lock.Lock.TheVariants as lock
 
 -- what a test tells doesn't hold where the test is false
 pub tells_off : {P : Type 0} {b : Bool} → IsTrue b ↔ P → IsFalse b → P → ⊥

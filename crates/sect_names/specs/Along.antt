@@ -1,20 +1,13 @@
 -- What is needed along steps, one step after another, and the beginnings of needed paths.
 use Rattle.std.specs.Prelude.{◌≡◌, ℕ, ⊤, Option, Some, None, List, [], ◌∷◌, ◌⊎◌}
 use Rattle.sect_lemmas.specs.Lists.{Has}
-use Rattle.sect_types.specs.Statements.{TextView}
-use Rattle.sect_types.specs.declared.expansion.action.Field.{Field}
+use Rattle.sect_types.specs.{Statements.{TextView}, declared.expansion.action.Field.{Field}}
 use Rattle.sect_types.specs.declared.expansion.action.Label.{Label}
-use Rattle.sect_points.specs.declared.holders.Variable.TheVariants.{Global}
-use Rattle.sect_points.specs.Paths.{PathView, var, dot}
-use Rattle.sect_names.specs.declared.lock.Effect.{Effect}
+use Rattle.sect_points.specs.{declared.holders.Variable.TheVariants.{Global}, Paths.{PathView, var, dot}}
+use Rattle.sect_names.specs.{declared.lock.Effect.{Effect}, declared.lock.Lock.{Lock}, Schemes.{SchemeView, guard_of}}
+use Rattle.sect_names.specs.{Locks.{Covers}, Carrying.{Generated, CarriedBack}, Laws.{IsProgramStep}, Walks.{IsWalk}}
 use Rattle.sect_names.specs.declared.lock.Effect.TheVariants as effect
-use Rattle.sect_names.specs.declared.lock.Lock.{Lock}
 use Rattle.sect_names.specs.declared.lock.Lock.TheVariants as lock
-use Rattle.sect_names.specs.Schemes.{SchemeView, guard_of}
-use Rattle.sect_names.specs.Locks.{Covers}
-use Rattle.sect_names.specs.Carrying.{Generated, CarriedBack}
-use Rattle.sect_names.specs.Laws.{IsProgramStep}
-use Rattle.sect_names.specs.Walks.{IsWalk}
 
 -- needed before a step, where these are needed after it: the step generates it, or carries it back from one of these
 abbrev pub NeededBefore : SchemeView → ℕ → Label → (Lock → Type 0) → Lock → Type 0

@@ -1,25 +1,18 @@
 -- What a statement needs of itself, and what is needed before it for what is needed after it.
 use Rattle.std.specs.Prelude.{◌≡◌, ◌≤◌, ◌<◌, ℕ, ◌⊎◌, Option, Some, None, slice_get}
-use Rattle.sect_types.specs.declared.expansion.action.Field.{Field}
-use Rattle.sect_types.specs.declared.expansion.action.Value.{Value}
-use Rattle.sect_types.specs.declared.expansion.action.Value.TheVariants as value
-use Rattle.sect_types.specs.declared.expansion.action.Action.{Action}
-use Rattle.sect_types.specs.declared.expansion.action.Action.TheVariants as action
-use Rattle.sect_types.specs.declared.expansion.action.Label.{Label}
-use Rattle.sect_types.specs.declared.expansion.action.Label.TheVariants as label
+use Rattle.sect_types.specs.{declared.expansion.action.Field.{Field}, declared.expansion.action.Value.{Value}}
+use Rattle.sect_types.specs.{declared.expansion.action.Action.{Action}, declared.expansion.action.Label.{Label}}
 use Rattle.sect_points.specs.declared.holders.Variable.{Variable}
-use Rattle.sect_points.specs.declared.holders.Variable.TheVariants.{Global, Local}
-use Rattle.sect_points.specs.Paths.{PathView, var, dot}
-use Rattle.sect_points.specs.Partitions.{ClassesView, HasClass}
-use Rattle.sect_points.specs.PathClasses.{variable_of, variable_in}
-use Rattle.sect_names.specs.declared.lock.Effect.{Effect}
+use Rattle.sect_points.specs.{declared.holders.Variable.TheVariants.{Global, Local}, Paths.{PathView, var, dot}}
+use Rattle.sect_points.specs.{Partitions.{ClassesView, HasClass}, PathClasses.{variable_of, variable_in}}
+use Rattle.sect_names.specs.{declared.lock.Effect.{Effect}, declared.lock.Right.{Right}, declared.lock.Lock.{Lock}}
+use Rattle.sect_names.specs.{Schemes.{SchemeView, guard_of}, Locks.{depth, IsClassed}}
+use Rattle.sect_types.specs.declared.expansion.action.Value.TheVariants as value
+use Rattle.sect_types.specs.declared.expansion.action.Action.TheVariants as action
+use Rattle.sect_types.specs.declared.expansion.action.Label.TheVariants as label
 use Rattle.sect_names.specs.declared.lock.Effect.TheVariants as effect
-use Rattle.sect_names.specs.declared.lock.Right.{Right}
 use Rattle.sect_names.specs.declared.lock.Right.TheVariants as right
-use Rattle.sect_names.specs.declared.lock.Lock.{Lock}
 use Rattle.sect_names.specs.declared.lock.Lock.TheVariants as lock
-use Rattle.sect_names.specs.Schemes.{SchemeView, guard_of}
-use Rattle.sect_names.specs.Locks.{depth, IsClassed}
 
 -- the variable whose lock stands for an object of record r that the variable v denotes
 abbrev pub locked_for : Option ℕ → Variable → Variable

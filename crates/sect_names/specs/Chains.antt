@@ -1,11 +1,8 @@
 -- Chains: why a lock is needed at the entry of a section.
 use Rattle.std.specs.Prelude.{◌≡◌, ◌⊎◌, ℕ, List, [], ◌∷◌, Some, length, slice_get}
 use Rattle.sect_lemmas.specs.Lists.{Has}
-use Rattle.sect_graph.specs.declared.flow.Node.{Node}
-use Rattle.sect_graph.specs.Paths.{LeadsTo}
-use Rattle.sect_names.specs.declared.link.Link.{Link}
-use Rattle.sect_names.specs.declared.lock.Lock.{Lock}
-use Rattle.sect_names.specs.Schemes.{SchemeView}
+use Rattle.sect_graph.specs.{declared.flow.Node.{Node}, Paths.{LeadsTo}}
+use Rattle.sect_names.specs.{declared.link.Link.{Link}, declared.lock.Lock.{Lock}, Schemes.{SchemeView}}
 use Rattle.sect_names.specs.Carrying.{Generated, CarriedBack}
 
 abbrev pub link : ℕ → Lock → Link

@@ -1,6 +1,5 @@
 -- How paths are compared and hashed: by their variables, and then field by field.
-use Rattle.std.specs.Prelude.{◌≡◌, ◌++◌, Bool, List}
-use Rattle.std.specs.declared.cmp.Ordering.{Ordering}
+use Rattle.std.specs.{Prelude.{◌≡◌, ◌++◌, Bool, List}, declared.cmp.Ordering.{Ordering}}
 use Rattle.std.specs.Ordering.{on, eq_of_both, then_cmp, eq_by_cmp, as_partial_cmp}
 use Rattle.std.specs.Cmp.{IsEquivalence, IsPartialOrder, IsTotalOrder, and_equiv, on_equiv, on_total, both_tied}
 use Rattle.std.specs.Cmp.{partial_order_from_agreeing_total, then_total}

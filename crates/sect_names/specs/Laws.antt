@@ -1,20 +1,13 @@
 -- The steps of a program, and what the carrying of locks over them keeps.
 use Rattle.std.specs.Prelude.{◌≡◌, ◌↔◌, ℕ, ⊤, List, Some, slice_get}
 use Rattle.sect_lemmas.specs.Lists.{Has}
-use Rattle.sect_types.specs.Programs.{ProgramView, environment_at}
-use Rattle.sect_types.specs.Sections.{SectionView, sections_of}
-use Rattle.sect_types.specs.Sound.{IsSoundAction}
-use Rattle.sect_types.specs.declared.expansion.action.Label.{Label}
+use Rattle.sect_types.specs.{Programs.{ProgramView, environment_at}, Sections.{SectionView, sections_of}}
+use Rattle.sect_types.specs.{Sound.{IsSoundAction}, declared.expansion.action.Label.{Label}}
 use Rattle.sect_types.specs.declared.expansion.action.Label.TheVariants.{Act, Test, Section}
 use Rattle.sect_graph.specs.declared.flow.Node.{Node}
-use Rattle.sect_points.specs.Paths.{PathView}
-use Rattle.sect_points.specs.Sets.{InSets}
-use Rattle.sect_points.specs.declared.holders.Holder.{Holder}
-use Rattle.sect_points.specs.PathClasses.{Agree}
+use Rattle.sect_points.specs.{Paths.{PathView}, Sets.{InSets}, declared.holders.Holder.{Holder}, PathClasses.{Agree}}
 use Rattle.sect_points.specs.Statements.{thread_action, thread_actions}
-use Rattle.sect_names.specs.declared.lock.Lock.{Lock}
-use Rattle.sect_names.specs.Schemes.{SchemeView}
-use Rattle.sect_names.specs.Locks.{Covers, IsLockOf}
+use Rattle.sect_names.specs.{declared.lock.Lock.{Lock}, Schemes.{SchemeView}, Locks.{Covers, IsLockOf}}
 use Rattle.sect_names.specs.Carrying.{Before, CarriedBack, Generated}
 
 -- a statement of thread t is one of the program's

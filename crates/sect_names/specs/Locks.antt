@@ -1,22 +1,17 @@
 -- The locks of a program, and which lock covers which.
 use Rattle.std.specs.Prelude.{◌≡◌, ◌≤◌, ◌<◌, ◌+◌, ℕ, ⊤, List, [], length, slice_index_or, slice_get, Some}
 use Rattle.sect_lemmas.specs.Lists.{Has}
-use Rattle.sect_types.specs.Programs.{ProgramView}
-use Rattle.sect_types.specs.declared.expansion.action.Field.{Field}
+use Rattle.sect_types.specs.{Programs.{ProgramView}, declared.expansion.action.Field.{Field}}
 use Rattle.sect_types.specs.declared.declarations.types.ValueType.{ValueType}
-use Rattle.sect_types.specs.declared.declarations.types.ValueType.TheVariants.{Refers}
-use Rattle.sect_types.specs.Sound.{type_in}
+use Rattle.sect_types.specs.{declared.declarations.types.ValueType.TheVariants.{Refers}, Sound.{type_in}}
 use Rattle.sect_points.specs.declared.holders.Variable.{Variable}
-use Rattle.sect_points.specs.declared.holders.Variable.TheVariants.{Global, Local}
-use Rattle.sect_points.specs.Paths.{PathView, var, dot}
+use Rattle.sect_points.specs.{declared.holders.Variable.TheVariants.{Global, Local}, Paths.{PathView, var, dot}}
 use Rattle.sect_points.specs.Partitions.{HasClass}
-use Rattle.sect_names.specs.declared.lock.Effect.{Effect}
-use Rattle.sect_names.specs.declared.lock.Effect.TheVariants as effect
-use Rattle.sect_names.specs.declared.lock.Right.{Right}
-use Rattle.sect_names.specs.declared.lock.Right.TheVariants as right
-use Rattle.sect_names.specs.declared.lock.Lock.{Lock}
-use Rattle.sect_names.specs.declared.lock.Lock.TheVariants as lock
+use Rattle.sect_names.specs.{declared.lock.Effect.{Effect}, declared.lock.Right.{Right}, declared.lock.Lock.{Lock}}
 use Rattle.sect_names.specs.Schemes.{SchemeView}
+use Rattle.sect_names.specs.declared.lock.Effect.TheVariants as effect
+use Rattle.sect_names.specs.declared.lock.Right.TheVariants as right
+use Rattle.sect_names.specs.declared.lock.Lock.TheVariants as lock
 
 -- how many fields a path has
 abbrev pub depth : PathView → ℕ

@@ -1,17 +1,13 @@
 -- The locks that a section needs, and the least set of them.
 use Rattle.std.specs.Prelude.{◌≡◌, ℕ, slice_index_or, List, [], ◌∷◌, ◌++◌}
 use Rattle.sect_front.specs.declared.tree.Locking.{Locking}
-use Rattle.sect_front.specs.declared.tree.Locking.TheVariants as locking
 use Rattle.sect_lemmas.specs.Lists.{Has}
-use Rattle.sect_types.specs.Statements.{TextView}
-use Rattle.sect_types.specs.Traces.{Visit, IsTrace}
-use Rattle.sect_graph.specs.declared.flow.Node.{Node}
-use Rattle.sect_graph.specs.Paths.{IsRestAt}
-use Rattle.sect_names.specs.declared.lock.Lock.{Lock}
-use Rattle.sect_names.specs.declared.lock.Lock.TheVariants as lock
-use Rattle.sect_names.specs.Schemes.{SchemeView}
-use Rattle.sect_names.specs.Locks.{Covers, CoveredBy}
+use Rattle.sect_types.specs.{Statements.{TextView}, Traces.{Visit, IsTrace}}
+use Rattle.sect_graph.specs.{declared.flow.Node.{Node}, Paths.{IsRestAt}}
+use Rattle.sect_names.specs.{declared.lock.Lock.{Lock}, Schemes.{SchemeView}, Locks.{Covers, CoveredBy}}
 use Rattle.sect_names.specs.Carrying.{Generated, CarriedBack}
+use Rattle.sect_front.specs.declared.tree.Locking.TheVariants as locking
+use Rattle.sect_names.specs.declared.lock.Lock.TheVariants as lock
 
 -- the lock x, needed after these steps, is carried back over them, from the last to the first, to the lock l
 abbrev pub CarriedOver : SchemeView → ℕ → List Visit → Lock → Lock → Type 0

@@ -5,14 +5,11 @@ use Rattle.sect_types.specs.declared.expansion.action.Field.{Field}
 use Rattle.sect_points.specs.declared.holders.Variable.{Variable}
 use Rattle.sect_points.specs.declared.holders.Variable.TheVariants.{Global, Local}
 use Rattle.sect_points.specs.Paths.{PathView, base_of, fields_of}
-use Rattle.sect_names.specs.declared.lock.Effect.{Effect}
+use Rattle.sect_names.specs.{declared.lock.Effect.{Effect}, declared.lock.Right.{Right}, declared.lock.Lock.{Lock}}
+use Rattle.sect_names.specs.{Schemes.{SchemeView}, Locks.{IsOutdone, CoveredBy}}
 use Rattle.sect_names.specs.declared.lock.Effect.TheVariants as effect
-use Rattle.sect_names.specs.declared.lock.Right.{Right}
 use Rattle.sect_names.specs.declared.lock.Right.TheVariants as right
-use Rattle.sect_names.specs.declared.lock.Lock.{Lock}
 use Rattle.sect_names.specs.declared.lock.Lock.TheVariants as lock
-use Rattle.sect_names.specs.Schemes.{SchemeView}
-use Rattle.sect_names.specs.Locks.{IsOutdone, CoveredBy}
 
 -- globals in order, then the locals of each thread in order
 abbrev pub VariableBefore : Variable → Variable → Type 0

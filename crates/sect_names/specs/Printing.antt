@@ -1,24 +1,19 @@
 -- Locks as they are printed.
-use Rattle.std.specs.Prelude.{ℕ, ⊤, List, [], ◌∷◌, ◌++◌, None, slice_index_or, codes}
-use Rattle.std.specs.List.{flat_map}
-use Rattle.std.specs.Fmt.{decimal}
+use Rattle.std.specs.{Prelude.{ℕ, ⊤, List, [], ◌∷◌, ◌++◌, None, slice_index_or, codes}, List.{flat_map}, Fmt.{decimal}}
 use Rattle.sect_front.specs.TreeView.{TreeView}
 use Rattle.sect_lemmas.specs.Lists.{Has}
-use Rattle.sect_types.specs.Programs.{ProgramView}
-use Rattle.sect_types.specs.Sight.{names_of_globals, all_fields}
+use Rattle.sect_types.specs.{Programs.{ProgramView}, Sight.{names_of_globals, all_fields}}
 use Rattle.sect_types.specs.declared.expansion.action.Field.{Field}
+use Rattle.sect_types.specs.declared.declarations.local_name.LocalName.{LocalName}
+use Rattle.sect_types.specs.LocalNames.{local_text, all_local_names}
 use Rattle.sect_points.specs.declared.holders.Variable.{Variable}
 use Rattle.sect_points.specs.declared.holders.Variable.TheVariants.{Global, Local}
 use Rattle.sect_points.specs.Paths.{PathView, base_of, fields_of}
-use Rattle.sect_names.specs.declared.lock.Effect.{Effect}
-use Rattle.sect_names.specs.declared.lock.Effect.TheVariants as effect
-use Rattle.sect_names.specs.declared.lock.Right.{Right}
-use Rattle.sect_names.specs.declared.lock.Right.TheVariants as right
-use Rattle.sect_names.specs.declared.lock.Lock.{Lock}
-use Rattle.sect_names.specs.declared.lock.Lock.TheVariants as lock
+use Rattle.sect_names.specs.{declared.lock.Effect.{Effect}, declared.lock.Right.{Right}, declared.lock.Lock.{Lock}}
 use Rattle.sect_names.specs.Locks.{IsPathOf}
-use Rattle.sect_types.specs.declared.declarations.local_name.LocalName.{LocalName}
-use Rattle.sect_types.specs.LocalNames.{local_text, all_local_names}
+use Rattle.sect_names.specs.declared.lock.Effect.TheVariants as effect
+use Rattle.sect_names.specs.declared.lock.Right.TheVariants as right
+use Rattle.sect_names.specs.declared.lock.Lock.TheVariants as lock
 
 -- what the lock names is there
 abbrev pub IsNamed : ProgramView → Lock → Type 0

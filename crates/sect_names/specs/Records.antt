@@ -1,18 +1,13 @@
 -- Sets, classes and carried paths agree with the records of the declarations.
 use Rattle.std.specs.Prelude.{◌≡◌, ⊤, ℕ, Some, None, length, slice_get}
-use Rattle.sect_types.specs.Programs.{ProgramView, sites_of}
-use Rattle.sect_types.specs.Sections.{AllSited}
-use Rattle.sect_types.specs.Sound.{AreSound}
+use Rattle.sect_types.specs.{Programs.{ProgramView, sites_of}, Sections.{AllSited}, Sound.{AreSound}}
 use Rattle.sect_types.specs.declared.expansion.action.Label.{Label}
-use Rattle.sect_points.specs.declared.holders.Holder.TheVariants.{Local, Slot}
-use Rattle.sect_points.specs.declared.holders.Variable.TheVariants as variable
-use Rattle.sect_points.specs.Paths.{PathView, PathHas}
+use Rattle.sect_points.specs.{declared.holders.Holder.TheVariants.{Local, Slot}, Paths.{PathView, PathHas}}
 use Rattle.sect_points.specs.Sets.{InSets}
-use Rattle.sect_names.specs.declared.lock.Lock.{Lock}
+use Rattle.sect_names.specs.{declared.lock.Lock.{Lock}, Schemes.{SchemeView, guard_of}}
+use Rattle.sect_names.specs.{Locks.{VariableTo, FieldTo, PathTo, IsOwn}, Carrying.{Before}}
+use Rattle.sect_points.specs.declared.holders.Variable.TheVariants as variable
 use Rattle.sect_names.specs.declared.lock.Lock.TheVariants as lock
-use Rattle.sect_names.specs.Schemes.{SchemeView, guard_of}
-use Rattle.sect_names.specs.Locks.{VariableTo, FieldTo, PathTo, IsOwn}
-use Rattle.sect_names.specs.Carrying.{Before}
 
 -- the texts agree with the declarations, and sites are numbered in text order
 pub record IsTypedProgram (p : ProgramView) : Type 0 where

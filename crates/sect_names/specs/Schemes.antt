@@ -1,9 +1,7 @@
 -- What lock inference knows of a program.
 use Rattle.std.specs.Prelude.{◌≡◌, ◌≤◌, ℕ, List, Option, None, length, slice_index_or}
 use Rattle.sect_types.specs.Programs.{ProgramView, sites_of}
-use Rattle.sect_points.specs.Partitions.{ClassesView, IsParted}
-use Rattle.sect_points.specs.Sets.{InSets}
-use Rattle.sect_points.specs.Flow.{IsLeastFlow}
+use Rattle.sect_points.specs.{Partitions.{ClassesView, IsParted}, Sets.{InSets}, Flow.{IsLeastFlow}}
 use Rattle.sect_points.specs.Statements.{thread_actions}
 use Rattle.sect_hints.specs.Hints.{AreGuards, AreUnguarded}
 use Rattle.sect_graph.specs.Graphs.{GraphView, AreGraphs}

@@ -1,20 +1,16 @@
 -- Which source texts are accepted, and which refusal is due for the others. `accept` says so of a text.
 use Rattle.std.specs.Prelude.{◌≡◌, ◌≢◌, ◌≤◌, ◌<◌, ◌⊎◌, ℕ, ⊤, List, Result, Ok, Err}
-use Rattle.sect_front.specs.TreeView.{TreeView}
-use Rattle.sect_front.specs.Front.{IsSpelled, IsFault}
-use Rattle.sect_front.specs.declared.parsing.FrontFault.{FrontFault}
+use Rattle.sect_front.specs.{TreeView.{TreeView}, Front.{IsSpelled, IsFault}, declared.parsing.FrontFault.{FrontFault}}
+use Rattle.sect_types.specs.{First.{IsTyped}, Programs.{ProgramView, IsOfTree}}
+use Rattle.sect_types.specs.declared.rules.rule.TypeFault.{TypeFault}
+use Rattle.sect_hints.specs.Hints.{ObeysHints}
+use Rattle.sect_names.specs.{declared.fault.SchemeFault.{SchemeFault}, Schemes.{SchemeView, IsScheme}}
+use Rattle.sect_names.specs.declared.refusal.SourceRefusal.{SourceRefusal}
 use Rattle.sect_front.specs.declared.parsing.FrontFault.TheVariants as front
 use Rattle.sect_types.specs.First as types
-use Rattle.sect_types.specs.First.{IsTyped}
-use Rattle.sect_types.specs.Programs.{ProgramView, IsOfTree}
-use Rattle.sect_types.specs.declared.rules.rule.TypeFault.{TypeFault}
 use Rattle.sect_types.specs.declared.rules.rule.TypeFault.TheVariants as type_fault
-use Rattle.sect_hints.specs.Hints.{ObeysHints}
-use Rattle.sect_names.specs.declared.fault.SchemeFault.{SchemeFault}
 use Rattle.sect_names.specs.declared.fault.SchemeFault.TheVariants as scheme_fault
-use Rattle.sect_names.specs.Schemes.{SchemeView, IsScheme}
 use Rattle.sect_names.specs.Verdicts as schemes
-use Rattle.sect_names.specs.declared.refusal.SourceRefusal.{SourceRefusal}
 use Rattle.sect_names.specs.declared.refusal.SourceRefusal.TheVariants as refusal
 
 -- the text spells a typed tree, and this is its program

@@ -2,10 +2,8 @@
 use Rattle.std.specs.Prelude.{◌≡◌, ◌↔◌, ℕ, ⊤}
 use Rattle.sect_lemmas.specs.Lists.{Has}
 use Rattle.sect_types.specs.declared.expansion.action.Label.{Label}
-use Rattle.sect_points.specs.Paths.{PathView, base_of, fields_of}
-use Rattle.sect_points.specs.Partitions.{ClassesView}
-use Rattle.sect_names.specs.Carrying.{Before}
-use Rattle.sect_names.specs.declared.touching.Change.{Change}
+use Rattle.sect_points.specs.{Paths.{PathView, base_of, fields_of}, Partitions.{ClassesView}}
+use Rattle.sect_names.specs.{Carrying.{Before}, declared.touching.Change.{Change}}
 use Rattle.sect_names.specs.declared.touching.Change.TheVariants as change
 
 -- a path is not among what changes

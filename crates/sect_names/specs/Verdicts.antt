@@ -1,14 +1,12 @@
 -- Whether a program has a scheme for paths of at most k fields.
 use Rattle.std.specs.Prelude.{◌≡◌, ◌≤◌, ◌<◌, ℕ, Result, Ok, Err}
 use Rattle.sect_types.specs.Programs.{ProgramView}
-use Rattle.sect_hints.specs.declared.fault.Rule.TheVariants as rule
-use Rattle.sect_hints.specs.declared.fault.HintFault.{HintFault}
-use Rattle.sect_hints.specs.declared.fault.HintFault.TheVariants as hint
-use Rattle.sect_hints.specs.Hints.{ObeysHints, IsFirstFault}
+use Rattle.sect_hints.specs.{declared.fault.HintFault.{HintFault}, Hints.{ObeysHints, IsFirstFault}}
 use Rattle.sect_names.specs.declared.fault.SchemeFault.{SchemeFault}
 use Rattle.sect_names.specs.declared.fault.SchemeFault.TheVariants.{Memory, BadK, NoSuchGlobal, GuardIsGuarded}
-use Rattle.sect_names.specs.declared.fault.SchemeFault.TheVariants.{HintTwice}
-use Rattle.sect_names.specs.Schemes.{SchemeView}
+use Rattle.sect_names.specs.{declared.fault.SchemeFault.TheVariants.{HintTwice}, Schemes.{SchemeView}}
+use Rattle.sect_hints.specs.declared.fault.Rule.TheVariants as rule
+use Rattle.sect_hints.specs.declared.fault.HintFault.TheVariants as hint
 
 -- a fault of the hints is a fault of the scheme
 abbrev pub fault_of : HintFault → SchemeFault

@@ -1,14 +1,11 @@
 -- What is done along the control paths through a text, without the numbers of nodes, and how a running text goes on.
 use Rattle.std.specs.Prelude.{◌≡◌, ℕ, zero, suc, List, [], ◌∷◌, ◌++◌, ◌⊎◌}
 use Rattle.sect_lemmas.specs.Lists.{Has}
-use Rattle.sect_types.specs.Statements.{TextView, Stop, Do, Choose, Loop, Section, joined}
-use Rattle.sect_types.specs.Traces.{Visit}
-use Rattle.sect_types.specs.declared.expansion.action.Action.{Action}
-use Rattle.sect_types.specs.declared.expansion.action.Condition.{Condition}
+use Rattle.sect_types.specs.{Statements.{TextView, Stop, Do, Choose, Loop, Section, joined}, Traces.{Visit}}
+use Rattle.sect_types.specs.{declared.expansion.action.Action.{Action}, declared.expansion.action.Condition.{Condition}}
 use Rattle.sect_types.specs.declared.expansion.action.Label.{Label}
 use Rattle.sect_types.specs.declared.expansion.action.Label.TheVariants.{Act, Test, Section as WholeSection}
-use Rattle.sect_points.specs.Flow.{actions_of}
-use Rattle.sect_points.specs.Statements.{thread_action, thread_actions}
+use Rattle.sect_points.specs.{Flow.{actions_of}, Statements.{thread_action, thread_actions}}
 use Rattle.sect_names.specs.Schemes.{SchemeView}
 
 -- what the steps do

@@ -2,14 +2,12 @@
 
 ghost use Rattle.std.specs.Prelude.{◌≡◌, ◌≤◌, ◌<◌, ◌↔◌, [], ◌∷◌, Some, None, IfOk, IsTrue};
 ghost use Rattle.sect_lemmas.specs.Lists.{Has};
-ghost use Rattle.sect_points.specs.declared.holders.Variable.{Variable};
-ghost use Rattle.sect_points.specs.Paths.{PathView, var, dot};
-ghost use Rattle.sect_names.specs.declared.lock.Lock.{Lock};
-ghost use Rattle.sect_names.specs.declared.lock.Lock.TheVariants as lock;
-ghost use Rattle.sect_names.specs.Locks.{depth};
+ghost use Rattle.sect_points.specs.{declared.holders.Variable.{Variable}, Paths.{PathView, var, dot}};
+ghost use Rattle.sect_names.specs.{declared.lock.Lock.{Lock}, Locks.{depth}};
 ghost use Rattle.sect_names.specs.Carrying.{Replaced, AreOfOneClass, BeforeStore, BeforeAssignment, Before, GoesOn};
 ghost use Rattle.sect_names.specs.Carrying.{LockOn, CarriedBack, right_for};
 ghost use Rattle.sect_names.specs.steps.OverStore.{OverField};
+ghost use Rattle.sect_names.specs.declared.lock.Lock.TheVariants as lock;
 
 use crate::lock::{Effect, Lock, Right};
 use crate::path::Path;

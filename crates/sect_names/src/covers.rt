@@ -1,8 +1,7 @@
 //! Which lock covers which.
 
 ghost use Rattle.std.specs.Prelude.{◌≡◌, ◌↔◌, IsTrue};
-ghost use Rattle.sect_names.specs.Schemes.{SchemeView};
-ghost use Rattle.sect_names.specs.Locks.{Allows, Grants, Includes, Covers, IsCoverOrder};
+ghost use Rattle.sect_names.specs.{Schemes.{SchemeView}, Locks.{Allows, Grants, Includes, Covers, IsCoverOrder}};
 
 use crate::lock::{Effect, Lock, Right};
 use crate::scheme::Scheme;

@@ -1,8 +1,7 @@
 //! Why a program has no scheme.
 
 ghost use Rattle.std.specs.Prelude.{◌≡◌};
-ghost use Rattle.sect_names.specs.declared.fault.SchemeFault.TheVariants.{Memory};
-ghost use Rattle.sect_names.specs.Verdicts.{fault_of};
+ghost use Rattle.sect_names.specs.{declared.fault.SchemeFault.TheVariants.{Memory}, Verdicts.{fault_of}};
 
 use sect_hints::HintFault;
 use std::alloc::AllocError;

@@ -1,10 +1,8 @@
 //! What the statements of a program need of themselves.
 
 ghost use Rattle.std.specs.Prelude.{◌≡◌, ◌↔◌, [], ◌∷◌, Some, IfNone, IfSome};
-ghost use Rattle.sect_names.specs.declared.lock.Lock.{Lock};
-ghost use Rattle.sect_names.specs.Schemes.{guard_of};
-ghost use Rattle.sect_names.specs.Carrying.{Accesses, Makes, Generated};
-ghost use Rattle.sect_names.specs.Needed.{end_locks};
+ghost use Rattle.sect_names.specs.{declared.lock.Lock.{Lock}, Schemes.{guard_of}};
+ghost use Rattle.sect_names.specs.{Carrying.{Accesses, Makes, Generated}, Needed.{end_locks}};
 
 use crate::lock::{Effect, Lock, Right};
 use crate::path::Path;

@@ -5,21 +5,13 @@ pub mod records;
 
 ghost use Rattle.std.specs.Prelude.{◌≡◌, ◌<◌, ℕ, List, length};
 ghost use Rattle.sect_lemmas.specs.Lists.{Has};
-ghost use Rattle.sect_types.specs.Sections.{SectionView};
-ghost use Rattle.sect_types.specs.Sound.{AreSound};
-ghost use Rattle.sect_types.specs.declared.expansion.action.Label.{Label};
+ghost use Rattle.sect_types.specs.{Sections.{SectionView}, Sound.{AreSound}, declared.expansion.action.Label.{Label}};
+ghost use Rattle.sect_types.specs.{Statements.{TextView}, Programs.{ProgramView}};
 ghost use Rattle.sect_graph.specs.declared.flow.Node.{Node};
-ghost use Rattle.sect_names.specs.declared.lock.Lock.{Lock};
-ghost use Rattle.sect_names.specs.Schemes.{SchemeView, IsScheme};
-ghost use Rattle.sect_names.specs.Locks.{IsLockOf};
-ghost use Rattle.sect_names.specs.Carrying.{Generated, CarriedBack};
-ghost use Rattle.sect_types.specs.Statements.{TextView};
-ghost use Rattle.sect_names.specs.Needed.{IsLeast};
-ghost use Rattle.sect_names.specs.Order.{AreInOrder};
+ghost use Rattle.sect_names.specs.{declared.lock.Lock.{Lock}, Schemes.{SchemeView, IsScheme}, Locks.{IsLockOf}};
+ghost use Rattle.sect_names.specs.{Carrying.{Generated, CarriedBack}, Needed.{IsLeast}, Order.{AreInOrder}};
 ghost use Rattle.sect_names.specs.Laws.{IsProgramStep, IsSoundStep, KeepsItsClass, RespectsCover, StandsIn};
-ghost use Rattle.sect_names.specs.Laws.{AreOneScheme};
-ghost use Rattle.sect_names.specs.Sources.{IsTypedText};
-ghost use Rattle.sect_types.specs.Programs.{ProgramView};
+ghost use Rattle.sect_names.specs.{Laws.{AreOneScheme}, Sources.{IsTypedText}};
 
 /// A path that may denote before a step of the program what another denotes after it has no class but that one's.
 pub fn carried_paths_keep_their_class()

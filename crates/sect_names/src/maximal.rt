@@ -2,12 +2,11 @@
 
 ghost use Rattle.std.specs.Prelude.{◌≡◌, ◌↔◌, ℕ, IfOk, IsTrue};
 ghost use Rattle.sect_lemmas.specs.Lists.{Has};
+ghost use Rattle.sect_names.specs.{declared.lock.Right.{Right}, Locks.{Grants, CoveredBy, IsOutdone}};
+ghost use Rattle.sect_names.specs.Order.{AreMaximal};
+ghost use Rattle.sect_points.specs.Partitions.{HasClass};
 ghost use Rattle.sect_names.specs.declared.lock.Lock.TheVariants as lock;
 ghost use Rattle.sect_names.specs.declared.lock.Effect.TheVariants as effects;
-ghost use Rattle.sect_names.specs.declared.lock.Right.{Right};
-ghost use Rattle.sect_points.specs.Partitions.{HasClass};
-ghost use Rattle.sect_names.specs.Locks.{Grants, CoveredBy, IsOutdone};
-ghost use Rattle.sect_names.specs.Order.{AreMaximal};
 
 use crate::lock::{Effect, Lock, Right};
 use crate::path::Path;

@@ -1,10 +1,8 @@
 //! Paths: how a section names an object that it is to lock.
 
-ghost use Rattle.std.specs.Prelude.{◌≡◌, ◌↔◌, IfOk, OnOk, IsTrue, length};
-ghost use Rattle.std.specs.Ordering.{as_partial_cmp};
+ghost use Rattle.std.specs.{Prelude.{◌≡◌, ◌↔◌, IfOk, OnOk, IsTrue, length}, Ordering.{as_partial_cmp}};
+ghost use Rattle.std.specs.{Cmp.{partial_equiv_from_equiv}, Cmp.Rules.{comparing}};
 ghost use Rattle.sect_lemmas.specs.Lists.{Has};
-ghost use Rattle.std.specs.Cmp.{partial_equiv_from_equiv};
-ghost use Rattle.std.specs.Cmp.Rules.{comparing};
 ghost use Rattle.std.proofs.Common.{rules};
 ghost use Rattle.sect_names.specs.Comparing.{path_eq, path_fed, path_cmp, path_equivalence, path_alike, path_ties};
 ghost use Rattle.sect_names.specs.Comparing.{path_total, path_order, fields_eq, fields_cmp};

@@ -1,7 +1,6 @@
 //! Locks as they are printed.
 
-ghost use Rattle.std.specs.Prelude.{◌≡◌, ◌++◌, OnOk, Some};
-ghost use Rattle.std.specs.String.{string_bytes};
+ghost use Rattle.std.specs.{Prelude.{◌≡◌, ◌++◌, OnOk, Some}, String.{string_bytes}};
 ghost use Rattle.sect_names.specs.Locks.{IsVariable, IsField, IsPathOf};
 ghost use Rattle.sect_names.specs.Printing.{IsNamed, AreNamed, effect_text, right_text, variable_text, field_name};
 ghost use Rattle.sect_names.specs.Printing.{path_text, lock_text, locks_text};

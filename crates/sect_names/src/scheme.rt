@@ -2,15 +2,11 @@
 
 ghost use Rattle.std.specs.Prelude.{◌≡◌, ◌≤◌, ◌↔◌, ◌<◌, ℕ, Some, Err, length, IsOkUnless, IfOk, OnOk, IfErr};
 ghost use Rattle.sect_hints.specs.Hints.{ObeysHints};
-ghost use Rattle.sect_names.specs.declared.fault.SchemeFault.TheVariants.{Memory, BadK};
-ghost use Rattle.sect_points.specs.Paths.{var};
-ghost use Rattle.sect_points.specs.Flow.{IsLeastFlow};
-ghost use Rattle.sect_points.specs.Partitions.{HasClass, IsParted};
-ghost use Rattle.sect_points.specs.Sets.{InSets};
+ghost use Rattle.sect_names.specs.{declared.fault.SchemeFault.TheVariants.{Memory, BadK}, Schemes.{IsScheme}};
+ghost use Rattle.sect_names.specs.Verdicts.{Judges};
+ghost use Rattle.sect_points.specs.{Paths.{var}, Flow.{IsLeastFlow}, Partitions.{HasClass, IsParted}, Sets.{InSets}};
 ghost use Rattle.sect_points.specs.Statements.{thread_actions};
 ghost use Rattle.sect_types.specs.Programs.{sites_of};
-ghost use Rattle.sect_names.specs.Schemes.{IsScheme};
-ghost use Rattle.sect_names.specs.Verdicts.{Judges};
 
 use crate::fault::SchemeFault;
 use crate::path::Path;

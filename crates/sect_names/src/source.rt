@@ -2,8 +2,7 @@
 
 ghost use Rattle.std.specs.Prelude.{IfOk, IfErr, IsOkUnless};
 ghost use Rattle.sect_types.specs.Programs.{ProgramView};
-ghost use Rattle.sect_names.specs.declared.refusal.SourceRefusal.TheVariants.{Memory};
-ghost use Rattle.sect_names.specs.Schemes.{SchemeView};
+ghost use Rattle.sect_names.specs.{declared.refusal.SourceRefusal.TheVariants.{Memory}, Schemes.{SchemeView}};
 ghost use Rattle.sect_names.specs.Sources.{IsTypedText, IsAccepted, GivesProgram, IsRefused, IsDue};
 
 use crate::refusal::SourceRefusal;

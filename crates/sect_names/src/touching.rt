@@ -1,14 +1,10 @@
 //! Paths and locks that a statement leaves alone.
 
 ghost use Rattle.std.specs.Prelude.{◌≡◌, ◌↔◌, ℕ, IsTrue, IsFalse};
-ghost use Rattle.sect_points.specs.declared.holders.Variable.TheVariants.{Local};
-ghost use Rattle.sect_points.specs.Partitions.{ClassesView};
+ghost use Rattle.sect_points.specs.{declared.holders.Variable.TheVariants.{Local}, Partitions.{ClassesView}};
 ghost use Rattle.sect_points.specs.Paths.{PathView, base_of};
-ghost use Rattle.sect_names.specs.declared.lock.Lock.{Lock};
-ghost use Rattle.sect_names.specs.Schemes.{SchemeView};
-ghost use Rattle.sect_names.specs.Locks.{IsLockOf};
-ghost use Rattle.sect_names.specs.Carrying.{Before, CarriedBack};
-ghost use Rattle.sect_names.specs.Touching.{IsOther, LeavesOthers};
+ghost use Rattle.sect_names.specs.{declared.lock.Lock.{Lock}, Schemes.{SchemeView}, Locks.{IsLockOf}};
+ghost use Rattle.sect_names.specs.{Carrying.{Before, CarriedBack}, Touching.{IsOther, LeavesOthers}};
 ghost use Rattle.sect_types.specs.declared.expansion.action.Label.{Label as ALabel};
 
 use crate::lock::Lock;

@@ -2,8 +2,7 @@
 #![tactic(auto)]
 
 ghost use Rattle.std.specs.Prelude.{◌≡◌, IfOk, IsOkAnd};
-ghost use Rattle.serde_json.specs.Data.{no_members, object, put};
-ghost use Rattle.serde_json.specs.View.{view, members_view};
+ghost use Rattle.serde_json.specs.{Data.{no_members, object, put}, View.{view, members_view}};
 
 use serde_json::{Map, ToValue, Value};
 use std::alloc::{AllocError, Global};

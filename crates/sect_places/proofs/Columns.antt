@@ -1,7 +1,6 @@
 -- The column of a place, by the last line feed before it.
-use Rattle.std.proofs.Common.{◌≡◌, ℕ, zero, suc, ◌+◌, ◌-◌, ◌<◌, List, [], ◌∷◌, length, fold}
-use Rattle.std.proofs.Common.{◌==◌, ap, arith, if◌then◌else◌}
-use Rattle.std.proofs.lemmas.Bool.{false_from_ne_true}
+use Rattle.std.proofs.Common.{◌≡◌, ℕ, zero, suc, ◌+◌, ◌-◌, ◌<◌, List, [], ◌∷◌, length, fold, ◌==◌, ap, arith}
+use Rattle.std.proofs.{Common.{if◌then◌else◌}, lemmas.Bool.{false_from_ne_true}}
 use Rattle.memchr.specs.Find.{is_byte, Passes, Nowhere}
 use Rattle.sect_front.specs.Gaps.{line_feed}
 use Rattle.sect_places.specs.Positions.{next_column}

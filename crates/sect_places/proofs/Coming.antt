@@ -1,41 +1,30 @@
 -- The items that nodes come from say what the nodes do.
 use Rattle.std.proofs.Common.{◌≡◌, ℕ, zero, suc, ◌+◌, List, [], ◌∷◌, ◌++◌, length, drop, Option, Some, None, slice_get}
 use Rattle.std.proofs.Common.{refl, sym, ap, ◌∙◌, subst}
-use Rattle.std.specs.Option.{option_or}
-use Rattle.std.specs.Prelude.{slice_index_or}
+use Rattle.std.specs.{Option.{option_or}, Prelude.{slice_index_or}}
 use Rattle.sect_lemmas.proofs.Options.{none_or_some, some_injective}
 use Rattle.sect_front.specs.TreeView.{TreeView}
 use Rattle.sect_front.specs.Syntax.{StatementView, BlockView, Primitive, If, IfElse, While, Atomic, Call, End, Then}
-use Rattle.sect_front.specs.declared.tree.Declaration.{Declaration}
-use Rattle.sect_front.specs.declared.tree.Operand.{Operand}
+use Rattle.sect_front.specs.{declared.tree.Declaration.{Declaration}, declared.tree.Operand.{Operand}}
 use Rattle.sect_front.specs.declared.tree.Procedure.{Procedure}
-use Rattle.sect_types.specs.declared.rules.place.Place.{Place}
-use Rattle.sect_types.specs.declared.rules.place.Place.TheVariants.{InProcedure}
-use Rattle.sect_types.specs.declared.counting.sums.Sums.{Sums}
-use Rattle.sect_types.specs.declared.expansion.action.Label.{Label}
+use Rattle.sect_types.specs.{declared.rules.place.Place.{Place}, declared.rules.place.Place.TheVariants.{InProcedure}}
+use Rattle.sect_types.specs.{declared.counting.sums.Sums.{Sums}, declared.expansion.action.Label.{Label}}
 use Rattle.sect_types.specs.declared.expansion.action.Label.TheVariants.{Act, Test, Section as WholeSection}
-use Rattle.sect_types.specs.declared.expansion.action.Action.TheVariants as action
-use Rattle.sect_types.specs.Rules.{sight}
-use Rattle.sect_types.specs.Sums.{number_of, sums_within}
-use Rattle.sect_types.specs.Numbered.{value_of}
+use Rattle.sect_types.specs.{Rules.{sight}, Sums.{number_of, sums_within}, Numbered.{value_of}}
 use Rattle.sect_types.specs.Statements.{TextView, Stop, Do, Choose, Loop, Section, joined}
-use Rattle.sect_types.specs.Items.{PrimitiveHead, TestHead, AtomicHead, CallHead, ALocal, AStatement}
-use Rattle.sect_types.specs.Items.{Item, deeper, in_section, statement_items, block_items, local_items, variables}
-use Rattle.sect_types.specs.Items.{items}
+use Rattle.sect_types.specs.Items.{PrimitiveHead, TestHead, AtomicHead, CallHead, ALocal, AStatement, Item, deeper}
+use Rattle.sect_types.specs.Items.{in_section, statement_items, block_items, local_items, variables, items}
 use Rattle.sect_types.specs.Expanded.{Scene, NextNumbers, Expander, action_at, condition_at, expanded_statement}
 use Rattle.sect_types.specs.Expanded.{expanded_block, past_block, past_statement, clear_locals, set_parameters}
-use Rattle.sect_types.specs.Expanded.{after_call}
-use Rattle.sect_types.specs.Expanded.{call_of, expand_within, moved_value, cleared}
-use Rattle.sect_places.specs.declared.origin.Origin.{Origin}
-use Rattle.sect_places.specs.ItemCounts.{items_in_statement, items_in_block}
+use Rattle.sect_types.specs.Expanded.{after_call, call_of, expand_within, moved_value, cleared}
+use Rattle.sect_places.specs.{declared.origin.Origin.{Origin}, ItemCounts.{items_in_statement, items_in_block}}
 use Rattle.sect_places.specs.Origins.{Expansion, origin, variable_origins, statement_origins, block_origins}
-use Rattle.sect_places.specs.Origins.{procedure_origins, origins_within}
-use Rattle.sect_places.specs.Origins.{starts_of}
+use Rattle.sect_places.specs.Origins.{procedure_origins, origins_within, starts_of}
 use Rattle.sect_places.specs.NodeOrigins.{labels, Says, IsCall, AreFrom}
 use Rattle.sect_places.proofs.Past.{ahead}
 use Rattle.sect_places.proofs.ItemPast.{items_past_statement, items_past_block, past_parameters, past_variables}
-use Rattle.sect_places.proofs.ItemPast.{tree_procedures_at}
-use Rattle.sect_places.proofs.Parts.{mapped_part, both_parts, all_parts}
+use Rattle.sect_places.proofs.{ItemPast.{tree_procedures_at}, Parts.{mapped_part, both_parts, all_parts}}
+use Rattle.sect_types.specs.declared.expansion.action.Action.TheVariants as action
 
 -- what statements after statements do
 pub labels_joined : (x y : TextView) (w : List Label) → labels (joined x y) w ≡ labels x (labels y w)

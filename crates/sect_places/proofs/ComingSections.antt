@@ -1,27 +1,20 @@
 -- The items that the nodes of sections come from say what the nodes do.
 use Rattle.std.proofs.Common.{◌≡◌, ℕ, zero, suc, ◌+◌, List, [], ◌∷◌, ◌++◌, length, drop, Option, Some, None, slice_get}
 use Rattle.std.proofs.Common.{refl, sym, ap, ◌∙◌, subst, append_assoc}
-use Rattle.std.specs.Option.{option_or}
-use Rattle.std.specs.Prelude.{slice_index_or, ⊤}
+use Rattle.std.specs.{Option.{option_or}, Prelude.{slice_index_or, ⊤}}
 use Rattle.sect_lemmas.proofs.Options.{none_or_some, some_injective}
 use Rattle.sect_front.specs.TreeView.{TreeView}
 use Rattle.sect_front.specs.Syntax.{StatementView, BlockView, Primitive, If, IfElse, While, Atomic, Call, End, Then}
-use Rattle.sect_front.specs.declared.tree.Declaration.{Declaration}
-use Rattle.sect_front.specs.declared.tree.Operand.{Operand}
+use Rattle.sect_front.specs.{declared.tree.Declaration.{Declaration}, declared.tree.Operand.{Operand}}
 use Rattle.sect_front.specs.declared.tree.Procedure.{Procedure}
-use Rattle.sect_types.specs.declared.rules.place.Place.{Place}
-use Rattle.sect_types.specs.declared.rules.place.Place.TheVariants.{InProcedure}
-use Rattle.sect_types.specs.declared.counting.sums.Sums.{Sums}
-use Rattle.sect_types.specs.declared.expansion.action.Action.TheVariants as action
-use Rattle.sect_types.specs.Sums.{number_of, sums_within}
-use Rattle.sect_types.specs.Numbered.{value_of}
+use Rattle.sect_types.specs.{declared.rules.place.Place.{Place}, declared.rules.place.Place.TheVariants.{InProcedure}}
+use Rattle.sect_types.specs.{declared.counting.sums.Sums.{Sums}, Sums.{number_of, sums_within}, Numbered.{value_of}}
 use Rattle.sect_types.specs.Statements.{TextView, Stop, Do, Choose, Loop, Section, joined, section_bodies}
 use Rattle.sect_types.specs.Items.{Item, deeper, in_section, statement_items, block_items, variables, items}
 use Rattle.sect_types.specs.Expanded.{Scene, NextNumbers, Expander, action_at, condition_at, expanded_statement}
 use Rattle.sect_types.specs.Expanded.{expanded_block, past_block, past_statement, clear_locals, set_parameters}
 use Rattle.sect_types.specs.Expanded.{after_call, call_of, expand_within, moved_value}
-use Rattle.sect_places.specs.declared.origin.Origin.{Origin}
-use Rattle.sect_places.specs.ItemCounts.{items_in_statement, items_in_block}
+use Rattle.sect_places.specs.{declared.origin.Origin.{Origin}, ItemCounts.{items_in_statement, items_in_block}}
 use Rattle.sect_places.specs.Origins.{Expansion, block_origins, statement_sections, block_sections, procedure_sections}
 use Rattle.sect_places.specs.Origins.{origins_within, sections_within, starts_of}
 use Rattle.sect_places.specs.NodeOrigins.{labels, IsCall, AreFrom}
@@ -29,6 +22,7 @@ use Rattle.sect_places.proofs.Past.{ahead}
 use Rattle.sect_places.proofs.ItemPast.{items_past_statement, items_past_block, past_variables, tree_procedures_at}
 use Rattle.sect_places.proofs.Parts.{mapped_part, both_parts, all_parts}
 use Rattle.sect_places.proofs.Coming.{CallsFrom, scene_of, still_call, block_from, calls_from}
+use Rattle.sect_types.specs.declared.expansion.action.Action.TheVariants as action
 
 -- the bodies of the sections, before those of what follows
 abbrev pub bodies : TextView → List TextView → List TextView

@@ -1,18 +1,15 @@
 -- How the origins of the nodes of a list of parts are made of those of each part.
 use Rattle.std.proofs.Common.{◌≡◌, ℕ, zero, suc, ◌+◌, ◌-◌, ◌*◌, ◌<◌, ◌≤◌, List, [], ◌∷◌, ◌++◌, length, Option, Some}
-use Rattle.std.proofs.Common.{None, refl, arith, get_or, slice_get, sym, ap, ◌∙◌, subst, suc-mul}
-use Rattle.std.proofs.Common.{append_assoc, append-nil}
+use Rattle.std.proofs.Common.{None, refl, arith, get_or, slice_get, sym, ap, ◌∙◌, subst, suc-mul, append_assoc}
+use Rattle.std.proofs.Common.{append-nil}
 use Rattle.std.specs.Prelude.{slice_index_or}
 use Rattle.sect_lemmas.proofs.Options.{none_or_some, some_injective}
-use Rattle.sect_front.specs.TreeView.{TreeView}
-use Rattle.sect_front.specs.Trees.{statement_of, block_of, block_size}
-use Rattle.sect_front.specs.declared.tree.Statement.{Statement}
-use Rattle.sect_front.specs.declared.tree.Declaration.{Declaration}
-use Rattle.sect_front.specs.declared.tree.Procedure.{Procedure}
-use Rattle.sect_front.specs.declared.tree.Thread.{Thread}
+use Rattle.sect_front.specs.{TreeView.{TreeView}, Trees.{statement_of, block_of, block_size}}
+use Rattle.sect_front.specs.{declared.tree.Statement.{Statement}, declared.tree.Declaration.{Declaration}}
+use Rattle.sect_front.specs.{declared.tree.Procedure.{Procedure}, declared.tree.Thread.{Thread}}
 use Rattle.sect_places.specs.declared.origin.Origin.{Origin}
-use Rattle.sect_places.specs.ItemCounts.{items_in_statement, items_in_block, items_in_thread}
-use Rattle.sect_places.specs.ItemCounts.{items_in_procedure, items_in_procedures}
+use Rattle.sect_places.specs.ItemCounts.{items_in_statement, items_in_block, items_in_thread, items_in_procedure}
+use Rattle.sect_places.specs.ItemCounts.{items_in_procedures}
 use Rattle.sect_places.specs.Origins.{Expansion, statement_origins, block_origins, statement_sections, block_sections}
 use Rattle.sect_places.specs.Origins.{variable_origins, procedure_origins, call_origins, origins_within}
 use Rattle.sect_places.specs.Origins.{procedure_sections, call_sections, sections_within, threads_origins}

@@ -1,23 +1,15 @@
 -- How the tokens of a row are kept and counted one by one.
 use Rattle.std.proofs.Common.{◌≡◌, ℕ, ◌+◌, ◌<◌, ◌≤◌, List, [], ◌∷◌, ◌++◌, length, take, drop, get_or, refl, sym, ◌∙◌}
-use Rattle.std.proofs.Common.{ap, subst, map, arith, inl, inr, length-append, length-drop}
-use Rattle.std.specs.Prelude.{filter}
-use Rattle.std.proofs.lemmas.Bool.{cases_lt}
+use Rattle.std.proofs.{Common.{ap, subst, map, arith, inl, inr, length-append, length-drop}, lemmas.Bool.{cases_lt}}
 use Rattle.std.proofs.lemmas.List.{take_all, drop_all, take-append-le, drop-append-le, length-take-le}
 use Rattle.std.proofs.lemmas.List.Elements.{filter-append}
-use Rattle.sect_front.specs.TreeView.{TreeView}
-use Rattle.sect_front.specs.Front.{IsSpelled}
-use Rattle.sect_front.specs.FaultPlaces.{token_span}
-use Rattle.sect_front.specs.Grammar.{tokens_of}
-use Rattle.sect_front.specs.Gaps.{after_gap}
-use Rattle.sect_front.specs.declared.span.Span.{Span}
-use Rattle.sect_front.specs.declared.token.Token.{Token}
-use Rattle.sect_places.specs.Spans.{no_span, AreInOrder}
-use Rattle.sect_places.specs.Openings.{is_value, values_in, IsOpening}
+use Rattle.std.specs.Prelude.{filter}
+use Rattle.sect_front.specs.{TreeView.{TreeView}, Front.{IsSpelled}, FaultPlaces.{token_span}, Grammar.{tokens_of}}
+use Rattle.sect_front.specs.{Gaps.{after_gap}, declared.span.Span.{Span}, declared.token.Token.{Token}}
+use Rattle.sect_places.specs.{Spans.{no_span, AreInOrder}, Openings.{is_value, values_in, IsOpening}}
 use Rattle.sect_places.specs.steps.Standing.{StandsFrom}
 use Rattle.sect_places.proofs.Standing.{WordsHere, OneRead, words_none, words_more, words_tokens, words_spans}
-use Rattle.sect_places.proofs.Standing.{words_order}
-use Rattle.sect_places.proofs.WantedNames.{shorter}
+use Rattle.sect_places.proofs.{Standing.{words_order}, WantedNames.{shorter}}
 
 pushed_at : {A : Type 0} (xs : List A) (x d : A) → get_or (xs ++ x ∷ []) (length xs) d ≡ x
 pushed_at [] x d = refl

@@ -1,10 +1,7 @@
 -- The tokens of a text lie behind one another.
 use Rattle.std.proofs.Common.{◌≡◌, ℕ, ◌+◌, ◌-◌, List, [], ◌∷◌, length, drop, map, sym, ◌∙◌, ap, arith, length-drop}
 use Rattle.std.proofs.lemmas.List.{length-take-le}
-use Rattle.sect_front.specs.TokenAt.{TokenAt}
-use Rattle.sect_front.specs.Gaps.{after_gap}
-use Rattle.sect_front.specs.Lexing.{Reaches}
-use Rattle.sect_front.specs.Spelling.{spelling_of}
+use Rattle.sect_front.specs.{TokenAt.{TokenAt}, Gaps.{after_gap}, Lexing.{Reaches}, Spelling.{spelling_of}}
 use Rattle.sect_front.specs.FaultPlaces.{token_span}
 use Rattle.sect_front.proofs.shared.Lexings.{gap_fits}
 use Rattle.sect_places.specs.Spans.{AreInOrder}

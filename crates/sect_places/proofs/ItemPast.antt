@@ -1,14 +1,12 @@
 -- What follows the parts of a tree in the list of its items, by how many items they have.
-use Rattle.std.proofs.Common.{◌≡◌, ℕ, zero, suc, ◌+◌, List, [], ◌∷◌, ◌++◌, length, drop, Some, slice_get, arith}
-use Rattle.std.proofs.Common.{refl, subst, false}
+use Rattle.std.proofs.Common.{◌≡◌, ℕ, zero, suc, ◌+◌, List, [], ◌∷◌, ◌++◌, length, drop, Some, slice_get, arith, refl}
+use Rattle.std.proofs.Common.{subst, false}
 use Rattle.std.specs.Prelude.{slice_index_or}
 use Rattle.sect_lemmas.proofs.Options.{none_or_some, some_injective}
 use Rattle.sect_front.specs.TreeView.{TreeView}
 use Rattle.sect_front.specs.Syntax.{StatementView, BlockView, Primitive, If, IfElse, While, Atomic, Call, End, Then}
-use Rattle.sect_front.specs.declared.tree.Declaration.{Declaration}
-use Rattle.sect_front.specs.declared.tree.Record.{Record}
-use Rattle.sect_front.specs.declared.tree.GlobalObject.{GlobalObject}
-use Rattle.sect_front.specs.declared.tree.Procedure.{Procedure}
+use Rattle.sect_front.specs.{declared.tree.Declaration.{Declaration}, declared.tree.Record.{Record}}
+use Rattle.sect_front.specs.{declared.tree.GlobalObject.{GlobalObject}, declared.tree.Procedure.{Procedure}}
 use Rattle.sect_front.specs.declared.tree.Thread.{Thread}
 use Rattle.sect_types.specs.declared.rules.place.Place.{Place}
 use Rattle.sect_types.specs.declared.rules.place.Place.TheVariants.{InThread, InProcedure}
@@ -18,8 +16,8 @@ use Rattle.sect_types.specs.Items.{items}
 use Rattle.sect_places.specs.ItemCounts.{items_in_statement, items_in_block, items_in_records, items_in_procedure}
 use Rattle.sect_places.specs.ItemCounts.{items_in_procedures, items_in_thread}
 use Rattle.sect_places.specs.Origins.{first_procedure, first_thread, starts_of}
-use Rattle.sect_places.specs.Origins as origins
 use Rattle.sect_places.proofs.Past.{ahead, moved}
+use Rattle.sect_places.specs.Origins as origins
 
 mutual
   pub items_past_statement : (all : List Item) (n : ℕ) (s : StatementView) (ls : List Declaration) (at : Place)

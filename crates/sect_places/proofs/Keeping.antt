@@ -1,18 +1,15 @@
 -- Names that are kept as they go by.
-use Rattle.std.proofs.Common.{◌≡◌, ℕ, suc, ◌+◌, ◌≤◌, Bool, true, false, List, [], ◌∷◌, ◌++◌, Some, length}
-use Rattle.std.proofs.Common.{refl, sym, ◌∙◌, ap, arith, append-nil, if◌then◌else◌}
+use Rattle.std.proofs.Common.{◌≡◌, ℕ, suc, ◌+◌, ◌≤◌, Bool, true, false, List, [], ◌∷◌, ◌++◌, Some, length, refl, sym}
+use Rattle.std.proofs.Common.{◌∙◌, ap, arith, append-nil, if◌then◌else◌}
 use Rattle.std.specs.Prelude.{filter, slice_get}
-use Rattle.sect_front.specs.TreeView.{TreeView}
-use Rattle.sect_front.specs.declared.tree.Record.{Record}
-use Rattle.sect_front.specs.declared.tree.GlobalObject.{GlobalObject}
-use Rattle.sect_front.specs.declared.tree.Procedure.{Procedure}
+use Rattle.sect_front.specs.{TreeView.{TreeView}, declared.tree.Record.{Record}}
+use Rattle.sect_front.specs.{declared.tree.GlobalObject.{GlobalObject}, declared.tree.Procedure.{Procedure}}
 use Rattle.sect_front.specs.declared.tree.Thread.{Thread}
 use Rattle.sect_places.specs.ItemCounts.{items_in_records, items_in_procedures}
 use Rattle.sect_places.specs.Origins.{first_procedure, first_thread}
 use Rattle.sect_places.specs.NameUses.{records_uses, globals_uses, procedures_uses, threads_uses, name_uses}
-use Rattle.sect_places.specs.declared.name_use.NameUse.{NameUse}
+use Rattle.sect_places.specs.{declared.name_use.NameUse.{NameUse}, declared.wish.Wish.{Wish}}
 use Rattle.sect_places.specs.steps.Wanting.{KeptView, Passes, behind, nothing_kept, is_taken, numbers_from}
-use Rattle.sect_places.specs.declared.wish.Wish.{Wish}
 use Rattle.sect_places.specs.declared.wish.Wish.TheVariants as wish
 
 -- nothing more goes by

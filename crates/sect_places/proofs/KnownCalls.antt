@@ -1,24 +1,18 @@
 -- In a program all calls come to an end.
-use Rattle.std.proofs.Common.{◌≡◌, ℕ, zero, suc, List, [], ◌∷◌, length, Option, Some, None, slice_get, refl}
+use Rattle.std.proofs.Common.{◌≡◌, ℕ, zero, suc, List, [], ◌∷◌, length, Option, Some, None, slice_get, refl, ◌+◌}
 use Rattle.sect_lemmas.proofs.Options.{none_or_some}
 use Rattle.sect_front.specs.TreeView.{TreeView}
 use Rattle.sect_front.specs.Syntax.{StatementView, BlockView, Primitive, If, IfElse, While, Atomic, Call, End, Then}
-use Rattle.sect_front.specs.declared.tree.Operand.{Operand}
-use Rattle.sect_front.specs.declared.tree.Record.{Record}
-use Rattle.sect_front.specs.declared.tree.GlobalObject.{GlobalObject}
-use Rattle.sect_front.specs.declared.tree.Procedure.{Procedure}
+use Rattle.sect_front.specs.{declared.tree.Operand.{Operand}, declared.tree.Record.{Record}}
+use Rattle.sect_front.specs.{declared.tree.GlobalObject.{GlobalObject}, declared.tree.Procedure.{Procedure}}
 use Rattle.sect_front.specs.declared.tree.Thread.{Thread}
-use Rattle.sect_types.specs.declared.counting.sums.Sums.{Sums}
-use Rattle.sect_types.specs.Sums.{number_of, sums_within}
-use Rattle.sect_types.specs.Rules.{sight}
-use Rattle.sect_types.specs.Items.{variables}
-use Rattle.sect_types.specs.Statements.{TextView, Stop, Choose, Loop, Section, joined}
+use Rattle.sect_types.specs.{declared.counting.sums.Sums.{Sums}, Sums.{number_of, sums_within}, Rules.{sight}}
+use Rattle.sect_types.specs.{Items.{variables}, Statements.{TextView, Stop, Choose, Loop, Section, joined}}
 use Rattle.sect_types.specs.Expanded.{Scene, NextNumbers, Expander, condition_at, expanded_statement, expanded_block}
 use Rattle.sect_types.specs.Expanded.{past_block, past_statement, past_thread, clear_locals, set_parameters, after_call}
 use Rattle.sect_types.specs.Expanded.{call_of, expand_within, expanded_thread, expanded_threads}
 use Rattle.sect_places.specs.steps.Ending.{StatementEnds, BlockEnds, CallEnds, EndsWithin, ThreadsEnd}
 use Rattle.sect_places.proofs.Parts.{mapped_part, both_parts, all_parts}
-use Rattle.std.proofs.Common.{◌+◌}
 
 -- what has a text ends
 abbrev pub CallsKnown : Expander → (Option ℕ → Type 0) → Type 0

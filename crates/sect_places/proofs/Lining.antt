@@ -1,18 +1,11 @@
 -- Items begin in their text, and nodes come from items that are there.
 use Rattle.std.proofs.Common.{◌≡◌, ◌≤◌, ◌<◌, ℕ, zero, suc, List, [], ◌∷◌, length, map, get_or, Option, Some, None, sym}
-use Rattle.std.proofs.Common.{subst}
-use Rattle.std.proofs.Common.{arith}
+use Rattle.std.proofs.{Common.{subst, arith}, lemmas.Option.{slice_get_within, slice_get-get_or}}
 use Rattle.std.specs.Prelude.{slice_get, All}
-use Rattle.std.proofs.lemmas.Option.{slice_get_within, slice_get-get_or}
-use Rattle.sect_front.specs.TreeView.{TreeView}
-use Rattle.sect_front.specs.declared.span.Span.{Span}
-use Rattle.sect_types.specs.Items.{items}
-use Rattle.sect_types.specs.Statements.{TextView, Stop}
-use Rattle.sect_types.specs.Sections.{SectionView, sections_of}
-use Rattle.sect_types.specs.Programs.{ProgramView}
-use Rattle.sect_types.specs.declared.expansion.action.Label.{Label}
-use Rattle.sect_places.specs.Spans.{AreProper}
-use Rattle.sect_places.specs.NodeOrigins.{IsCall, AreFrom, AreOriginsOf, OriginsView, AreOrigins}
+use Rattle.sect_front.specs.{TreeView.{TreeView}, declared.span.Span.{Span}}
+use Rattle.sect_types.specs.{Items.{items}, Statements.{TextView, Stop}, Sections.{SectionView, sections_of}}
+use Rattle.sect_types.specs.{Programs.{ProgramView}, declared.expansion.action.Label.{Label}}
+use Rattle.sect_places.specs.{Spans.{AreProper}, NodeOrigins.{IsCall, AreFrom, AreOriginsOf, OriginsView, AreOrigins}}
 use Rattle.sect_places.specs.declared.origin.Origin.{Origin}
 use Rattle.sect_places.specs.steps.Placed.{IsAmong, IsPlaced}
 

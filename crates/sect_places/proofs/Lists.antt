@@ -1,16 +1,13 @@
 -- How the tokens of a list of parts are made of those of each part.
 use Rattle.std.proofs.Common.{ℕ, ◌*◌, List, ◌∷◌, length, refl, arith}
-use Rattle.sect_front.specs.Trees.{statement_of, block_of}
-use Rattle.sect_front.specs.declared.tree.Statement.{Statement}
-use Rattle.sect_front.specs.declared.tree.Declaration.{Declaration}
-use Rattle.sect_front.specs.declared.tree.GlobalObject.{GlobalObject}
+use Rattle.sect_front.specs.{Trees.{statement_of, block_of}, declared.tree.Statement.{Statement}}
+use Rattle.sect_front.specs.{declared.tree.Declaration.{Declaration}, declared.tree.GlobalObject.{GlobalObject}}
 use Rattle.sect_places.specs.declared.range.TokenRange.{TokenRange}
-use Rattle.sect_places.specs.Ranges.{range}
+use Rattle.sect_places.specs.Ranges.{range, statement_ranges, block_ranges, declarations_ranges, record_ranges}
+use Rattle.sect_places.specs.Ranges.{global_ranges, procedure_ranges, thread_ranges, records_ranges, globals_ranges}
+use Rattle.sect_places.specs.Ranges.{procedures_ranges, threads_ranges}
 use Rattle.sect_places.specs.Counts.{statement_count, block_count, record_count, procedure_count, thread_count}
 use Rattle.sect_places.specs.Counts.{records_count, procedures_count, threads_count}
-use Rattle.sect_places.specs.Ranges.{statement_ranges, block_ranges, declarations_ranges, record_ranges, global_ranges}
-use Rattle.sect_places.specs.Ranges.{procedure_ranges, thread_ranges, records_ranges, globals_ranges}
-use Rattle.sect_places.specs.Ranges.{procedures_ranges, threads_ranges}
 use Rattle.sect_places.proofs.Walked.{IsList}
 
 abbrev pub count_of : Statement → ℕ

@@ -1,56 +1,39 @@
 -- The tokens of a text that are names, and the names of its tree.
-use Rattle.std.proofs.Common.{◌≡◌, ℕ, ◌+◌, Bool, true, false, List, [], ◌∷◌, length, map, refl}
-use Rattle.std.proofs.Common.{subst, sym, ap, ◌∙◌, arith, append-nil, if◌then◌else◌}
+use Rattle.std.proofs.Common.{◌≡◌, ℕ, ◌+◌, Bool, true, false, List, [], ◌∷◌, length, map, refl, subst, sym, ap, ◌∙◌}
+use Rattle.std.proofs.{Common.{arith, append-nil, if◌then◌else◌}, lemmas.List.{length-map}}
 use Rattle.std.specs.Prelude.{filter}
-use Rattle.std.proofs.lemmas.List.{length-map}
-use Rattle.sect_front.specs.TreeView.{TreeView}
-use Rattle.sect_front.specs.TokenAt.{TokenAt}
-use Rattle.sect_front.specs.Front.{IsSpelled}
-use Rattle.sect_front.specs.FaultPlaces.{token_span}
+use Rattle.sect_front.specs.{TreeView.{TreeView}, TokenAt.{TokenAt}, Front.{IsSpelled}, FaultPlaces.{token_span}}
 use Rattle.sect_front.specs.Faults.{tokens_in}
 use Rattle.sect_front.specs.Syntax.{StatementView, BlockView, Primitive, If, IfElse, While, Atomic, Call, End, Then}
 use Rattle.sect_front.specs.Grammar.{tokens_of, operand_token, operator_token, kind_token}
 use Rattle.sect_front.specs.Tokens.{primitive_tokens, test_tokens, locking_tokens, more_operands, operands_tokens}
 use Rattle.sect_front.specs.Tokens.{statement_tokens, block_tokens, declarations_tokens, hints_tokens, records_tokens}
 use Rattle.sect_front.specs.Tokens.{globals_tokens, more_parameters, parameters_tokens, procedures_tokens}
-use Rattle.sect_front.specs.Tokens.{threads_tokens}
-use Rattle.sect_front.specs.declared.span.Span.{Span}
-use Rattle.sect_front.specs.declared.token.Token.{Token}
+use Rattle.sect_front.specs.{Tokens.{threads_tokens}, declared.span.Span.{Span}, declared.token.Token.{Token}}
+use Rattle.sect_front.specs.{declared.tree.Operand.{Operand}, declared.tree.Operator.{Operator}}
+use Rattle.sect_front.specs.{declared.tree.Test.{Test}, declared.tree.Locking.{Locking}, declared.tree.Kind.{Kind}}
+use Rattle.sect_front.specs.{declared.tree.Declaration.{Declaration}, declared.tree.Record.{Record}}
+use Rattle.sect_front.specs.{declared.tree.GlobalObject.{GlobalObject}, declared.tree.Procedure.{Procedure}}
+use Rattle.sect_front.specs.{declared.tree.Thread.{Thread}, NameTokens.{is_name_token}}
+use Rattle.sect_front.proofs.shared.Listed.{tokens_before}
+use Rattle.sect_places.specs.{declared.name_use.NameUse.{NameUse}, declared.name_use.NameSpan.{NameSpan}}
+use Rattle.sect_places.specs.{declared.name_use.Thing.{Thing}, declared.name_use.Role.{Role}}
+use Rattle.sect_places.specs.ItemCounts.{items_in_block, items_in_statement, items_in_records, items_in_procedure}
+use Rattle.sect_places.specs.{ItemCounts.{items_in_thread}, Origins.{first_procedure, first_thread}}
+use Rattle.sect_places.specs.NameUses.{kind_uses, operand_uses, primitive_uses, test_uses, argument_uses}
+use Rattle.sect_places.specs.NameUses.{statement_uses, block_uses, declarations_uses, hints_uses, records_uses}
+use Rattle.sect_places.specs.NameUses.{globals_uses, procedures_uses, threads_uses, name_uses}
+use Rattle.sect_places.specs.{NameSpans.{names_among, AreNameSpans}, Spans.{AreInOrder, IsProper, AreProper}}
+use Rattle.sect_places.proofs.Whole.{spans_order}
 use Rattle.sect_front.specs.declared.token.Token.TheVariants as token
-use Rattle.sect_front.specs.declared.tree.Operand.{Operand}
 use Rattle.sect_front.specs.declared.tree.Operand.TheVariants as operand
-use Rattle.sect_front.specs.declared.tree.Operator.{Operator}
 use Rattle.sect_front.specs.declared.tree.Operator.TheVariants as operator
 use Rattle.sect_front.specs.declared.tree.Primitive as leaf
 use Rattle.sect_front.specs.declared.tree.Primitive.TheVariants as primitive
-use Rattle.sect_front.specs.declared.tree.Test.{Test}
-use Rattle.sect_front.specs.declared.tree.Locking.{Locking}
 use Rattle.sect_front.specs.declared.tree.Locking.TheVariants as locking
-use Rattle.sect_front.specs.declared.tree.Kind.{Kind}
 use Rattle.sect_front.specs.declared.tree.Kind.TheVariants as kind
-use Rattle.sect_front.specs.declared.tree.Declaration.{Declaration}
-use Rattle.sect_front.specs.declared.tree.Record.{Record}
-use Rattle.sect_front.specs.declared.tree.GlobalObject.{GlobalObject}
-use Rattle.sect_front.specs.declared.tree.Procedure.{Procedure}
-use Rattle.sect_front.specs.declared.tree.Thread.{Thread}
-use Rattle.sect_front.proofs.shared.Listed.{tokens_before}
-use Rattle.sect_front.specs.NameTokens.{is_name_token}
-use Rattle.sect_places.specs.declared.name_use.NameUse.{NameUse}
-use Rattle.sect_places.specs.declared.name_use.NameSpan.{NameSpan}
-use Rattle.sect_places.specs.declared.name_use.Thing.{Thing}
 use Rattle.sect_places.specs.declared.name_use.Thing.TheVariants as thing
-use Rattle.sect_places.specs.declared.name_use.Role.{Role}
 use Rattle.sect_places.specs.declared.name_use.Role.TheVariants as role
-use Rattle.sect_places.specs.ItemCounts.{items_in_block, items_in_statement, items_in_records, items_in_procedure}
-use Rattle.sect_places.specs.ItemCounts.{items_in_thread}
-use Rattle.sect_places.specs.Origins.{first_procedure, first_thread}
-use Rattle.sect_places.specs.NameUses.{kind_uses, operand_uses, primitive_uses, test_uses, argument_uses}
-use Rattle.sect_places.specs.NameUses.{statement_uses}
-use Rattle.sect_places.specs.NameUses.{block_uses, declarations_uses, hints_uses, records_uses, globals_uses}
-use Rattle.sect_places.specs.NameUses.{procedures_uses, threads_uses, name_uses}
-use Rattle.sect_places.specs.NameSpans.{names_among, AreNameSpans}
-use Rattle.sect_places.specs.Spans.{AreInOrder, IsProper, AreProper}
-use Rattle.sect_places.proofs.Whole.{spans_order}
 
 -- the token of a name
 abbrev token_of : NameUse → Token

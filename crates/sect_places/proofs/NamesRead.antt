@@ -1,26 +1,17 @@
 -- How the names of a tree are read off a text.
-use Rattle.std.proofs.Common.{◌≡◌, ℕ, zero, suc, ◌+◌, ◌<◌, Bool, true, false, List, [], ◌∷◌, ◌++◌, length, take}
-use Rattle.std.proofs.Common.{drop, map, Some, slice_get, refl, sym, ◌∙◌, ap, subst, arith, append_assoc}
-use Rattle.std.proofs.Common.{length-append, length-drop, if◌then◌else◌}
-use Rattle.std.proofs.lemmas.List.{length-map, map-append, take-append-drop}
-use Rattle.sect_front.specs.TreeView.{TreeView}
-use Rattle.sect_front.specs.TokenAt.{TokenAt}
-use Rattle.sect_front.specs.Front.{IsSpelled}
-use Rattle.sect_front.specs.FaultPlaces.{token_span}
-use Rattle.sect_front.specs.Gaps.{after_gap}
-use Rattle.sect_front.specs.Grammar.{tokens_of}
-use Rattle.sect_front.specs.declared.span.Span.{Span}
-use Rattle.sect_front.specs.declared.token.Token.{Token}
-use Rattle.sect_front.specs.NameTokens.{is_name_token}
+use Rattle.std.proofs.Common.{◌≡◌, ℕ, zero, suc, ◌+◌, ◌<◌, Bool, true, false, List, [], ◌∷◌, ◌++◌, length, take, drop}
+use Rattle.std.proofs.Common.{map, Some, slice_get, refl, sym, ◌∙◌, ap, subst, arith, append_assoc, length-append}
+use Rattle.std.proofs.{Common.{length-drop, if◌then◌else◌}, lemmas.List.{length-map, map-append, take-append-drop}}
+use Rattle.sect_front.specs.{TreeView.{TreeView}, TokenAt.{TokenAt}, Front.{IsSpelled}, FaultPlaces.{token_span}}
+use Rattle.sect_front.specs.{Gaps.{after_gap}, Grammar.{tokens_of}, declared.span.Span.{Span}}
+use Rattle.sect_front.specs.{declared.token.Token.{Token}, NameTokens.{is_name_token}}
 use Rattle.sect_lemmas.proofs.Places.{at_of}
-use Rattle.sect_places.specs.declared.name_use.NameUse.{NameUse}
-use Rattle.sect_places.specs.declared.name_use.NameSpan.{NameSpan}
-use Rattle.sect_places.specs.NameUses.{name_uses}
-use Rattle.sect_places.specs.NameSpans.{names_among, AreNameSpans}
+use Rattle.sect_places.specs.{declared.name_use.NameUse.{NameUse}, declared.name_use.NameSpan.{NameSpan}}
+use Rattle.sect_places.specs.{NameUses.{name_uses}, NameSpans.{names_among, AreNameSpans}}
 use Rattle.sect_places.specs.steps.Standing.{StandsFrom}
 use Rattle.sect_places.proofs.NameTokens.{as_many_names, are_name_spans}
-use Rattle.sect_places.proofs.shared.Naming.{joined, joined_used, joined_spans}
 use Rattle.sect_places.proofs.Standing.{OneRead, stands_none, map_push, places_count, same_places}
+use Rattle.sect_places.proofs.shared.Naming.{joined, joined_used, joined_spans}
 
 -- these names have been read, and here the next token stands
 pub record NamedHere (bytes : List ℕ) (tree : TreeView) (names : List NameSpan) (here : List ℕ) : Type 0 where

@@ -1,12 +1,9 @@
 -- A text has one fault.
 use Rattle.std.proofs.Common.{◌≡◌, ◌≢◌, ℕ, List, Ok, Err, refl, subst}
-use Rattle.sect_front.specs.Front.{IsSpelled, IsFault}
-use Rattle.sect_front.specs.FaultPlaces.{IsFaultSpan}
-use Rattle.sect_front.specs.TreeView.{TreeView}
-use Rattle.sect_front.specs.declared.span.Span.{Span}
-use Rattle.sect_front.specs.declared.parsing.FrontFault.{FrontFault}
-use Rattle.sect_front.specs.declared.parsing.FrontFault.TheVariants as fault
+use Rattle.sect_front.specs.{Front.{IsSpelled, IsFault}, FaultPlaces.{IsFaultSpan}, TreeView.{TreeView}}
+use Rattle.sect_front.specs.{declared.span.Span.{Span}, declared.parsing.FrontFault.{FrontFault}}
 use Rattle.sect_front.proofs.shared.Alone.{refuses}
+use Rattle.sect_front.specs.declared.parsing.FrontFault.TheVariants as fault
 
 pub same_fault : (bytes : List ℕ) (e given : FrontFault) → e ≢ fault.Memory → given ≢ fault.Memory → IsFault bytes e
     → IsFault bytes given → given ≡ e

@@ -4,21 +4,12 @@ use Rattle.std.proofs.Common.{refl, sym, ◌∙◌, ap, arith}
 use Rattle.sect_front.specs.Syntax.{StatementView, BlockView, Primitive, If, IfElse, While, Atomic, Call, End, Then}
 use Rattle.sect_front.specs.TreeView.{TreeView}
 use Rattle.sect_front.specs.Grammar.{tokens_of, operand_token, operand_list, in_parens, separated}
-use Rattle.sect_front.specs.Tokens.{primitive_tokens, operands_tokens}
-use Rattle.sect_front.specs.Tokens.{statement_tokens, block_tokens, declarations_tokens}
-use Rattle.sect_front.specs.Tokens.{more_parameters, parameters_tokens}
-use Rattle.sect_front.specs.Tokens.{records_tokens, globals_tokens, procedures_tokens, threads_tokens}
-use Rattle.sect_front.specs.declared.token.Token.{Token}
-use Rattle.sect_front.specs.declared.token.Token.TheVariants as token
-use Rattle.sect_front.specs.declared.tree.Operand.{Operand}
-use Rattle.sect_front.specs.declared.tree.Primitive as leaf
-use Rattle.sect_front.specs.declared.tree.Primitive.TheVariants as primitive
-use Rattle.sect_front.specs.declared.tree.Locking.TheVariants as locking
-use Rattle.sect_front.specs.declared.tree.Declaration.{Declaration}
-use Rattle.sect_front.specs.declared.tree.Record.{Record}
-use Rattle.sect_front.specs.declared.tree.GlobalObject.{GlobalObject}
-use Rattle.sect_front.specs.declared.tree.Procedure.{Procedure}
-use Rattle.sect_front.specs.declared.tree.Thread.{Thread}
+use Rattle.sect_front.specs.Tokens.{primitive_tokens, operands_tokens, statement_tokens, block_tokens}
+use Rattle.sect_front.specs.Tokens.{declarations_tokens, more_parameters, parameters_tokens, records_tokens}
+use Rattle.sect_front.specs.{Tokens.{globals_tokens, procedures_tokens, threads_tokens}, declared.token.Token.{Token}}
+use Rattle.sect_front.specs.{declared.tree.Operand.{Operand}, declared.tree.Declaration.{Declaration}}
+use Rattle.sect_front.specs.{declared.tree.Record.{Record}, declared.tree.GlobalObject.{GlobalObject}}
+use Rattle.sect_front.specs.{declared.tree.Procedure.{Procedure}, declared.tree.Thread.{Thread}}
 use Rattle.sect_front.proofs.shared.Listed.{tokens_same}
 use Rattle.sect_types.specs.declared.rules.place.Place.{Place}
 use Rattle.sect_types.specs.declared.rules.place.Place.TheVariants.{InThread, InProcedure}
@@ -27,13 +18,16 @@ use Rattle.sect_types.specs.Items.{global_items, local_items, variables, procedu
 use Rattle.sect_places.specs.declared.range.TokenRange.{TokenRange}
 use Rattle.sect_places.specs.Counts.{primitive_count, operands_count, parameters_count, statement_count, block_count}
 use Rattle.sect_places.specs.Counts.{record_count, procedure_count, thread_count}
-use Rattle.sect_places.specs.Ranges.{statement_ranges, block_ranges, declarations_ranges}
-use Rattle.sect_places.specs.Ranges.{records_ranges, globals_ranges}
-use Rattle.sect_places.specs.Ranges.{procedures_ranges, threads_ranges, item_tokens}
+use Rattle.sect_places.specs.Ranges.{statement_ranges, block_ranges, declarations_ranges, records_ranges}
+use Rattle.sect_places.specs.Ranges.{globals_ranges, procedures_ranges, threads_ranges, item_tokens}
 use Rattle.sect_places.specs.Own.{primitive_own, AreOwn}
 use Rattle.sect_places.proofs.Past.{ahead, moved, past_statement, past_block, at_fields, past_record, at_locals}
 use Rattle.sect_places.proofs.Past.{at_body, past_procedure, at_statements, past_thread, past_records, past_globals}
 use Rattle.sect_places.proofs.Past.{past_procedures}
+use Rattle.sect_front.specs.declared.token.Token.TheVariants as token
+use Rattle.sect_front.specs.declared.tree.Primitive as leaf
+use Rattle.sect_front.specs.declared.tree.Primitive.TheVariants as primitive
+use Rattle.sect_front.specs.declared.tree.Locking.TheVariants as locking
 
 own_primitive : (p : leaf.Primitive) (w : List Token)
     → take (primitive_count p - 1) (primitive_tokens p w) ≡ primitive_own p

@@ -1,16 +1,12 @@
 -- Lines and columns, byte by byte.
-use Rattle.std.proofs.Common.{◌≡◌, ◌≤◌, ◌+◌, ◌-◌, ◌∙◌, ℕ, List, [], ◌∷◌, Bool, true, false, take, drop, length}
-use Rattle.std.proofs.Common.{fold, refl, sym, ap, arith}
-use Rattle.std.specs.Prelude.{◌==◌, if◌then◌else◌}
-use Rattle.std.specs.List.{count_by}
-use Rattle.std.proofs.lemmas.List.Sums.{fold-append, count_by-le-length, sum_by-cons}
-use Rattle.std.proofs.lemmas.List.{length-take-le}
-use Rattle.std.proofs.Math.Seq.{take-add}
+use Rattle.std.proofs.Common.{◌≡◌, ◌≤◌, ◌+◌, ◌-◌, ◌∙◌, ℕ, List, [], ◌∷◌, Bool, true, false, take, drop, length, fold}
+use Rattle.std.proofs.{Common.{refl, sym, ap, arith}, lemmas.List.Sums.{fold-append, count_by-le-length, sum_by-cons}}
+use Rattle.std.proofs.{lemmas.List.{length-take-le}, Math.Seq.{take-add}}
+use Rattle.std.specs.{Prelude.{◌==◌, if◌then◌else◌}, List.{count_by}}
 use Rattle.sect_front.specs.Gaps.{line_feed}
-use Rattle.sect_places.specs.Positions.{position, next_column}
-use Rattle.sect_places.specs.steps.Passing.{next_position, IsAt}
-use Rattle.sect_places.specs.declared.position.Position.{Position}
+use Rattle.sect_places.specs.{Positions.{position, next_column}, declared.position.Position.{Position}}
 use Rattle.sect_places.specs.declared.positions.Cursor.{Cursor}
+use Rattle.sect_places.specs.steps.Passing.{next_position, IsAt}
 
 abbrev is_feed : ℕ → Bool
 is_feed b = b == line_feed

@@ -1,30 +1,23 @@
 -- What follows the parts of a tree in a list of tokens, by how many tokens they have.
-use Rattle.std.proofs.Common.{◌≡◌, ℕ, ◌+◌, ◌*◌, List, [], ◌∷◌, ◌++◌, length, drop, sym, ◌∙◌, ap}
-use Rattle.std.proofs.Common.{arith, length-drop, length-append}
-use Rattle.std.proofs.lemmas.List.{drop-drop}
+use Rattle.std.proofs.Common.{◌≡◌, ℕ, ◌+◌, ◌*◌, List, [], ◌∷◌, ◌++◌, length, drop, sym, ◌∙◌, ap, arith, length-drop}
+use Rattle.std.proofs.{Common.{length-append}, lemmas.List.{drop-drop}}
 use Rattle.sect_front.specs.Syntax.{StatementView, BlockView, Primitive, If, IfElse, While, Atomic, Call, End, Then}
-use Rattle.sect_front.specs.TreeView.{TreeView}
-use Rattle.sect_front.specs.Grammar.{tokens_of}
-use Rattle.sect_front.specs.Tokens.{primitive_tokens, more_operands, operands_tokens, statement_tokens}
-use Rattle.sect_front.specs.Tokens.{block_tokens, declarations_tokens, hints_tokens, record_tokens}
-use Rattle.sect_front.specs.Tokens.{more_parameters, parameters_tokens, procedure_tokens, thread_tokens}
-use Rattle.sect_front.specs.Tokens.{records_tokens, globals_tokens, procedures_tokens, threads_tokens}
-use Rattle.sect_front.specs.Tokens.{source_tokens}
-use Rattle.sect_front.specs.declared.token.Token.{Token}
+use Rattle.sect_front.specs.{TreeView.{TreeView}, Grammar.{tokens_of}}
+use Rattle.sect_front.specs.Tokens.{primitive_tokens, more_operands, operands_tokens, statement_tokens, block_tokens}
+use Rattle.sect_front.specs.Tokens.{declarations_tokens, hints_tokens, record_tokens, more_parameters}
+use Rattle.sect_front.specs.Tokens.{parameters_tokens, procedure_tokens, thread_tokens, records_tokens, globals_tokens}
+use Rattle.sect_front.specs.{Tokens.{procedures_tokens, threads_tokens, source_tokens}, declared.token.Token.{Token}}
+use Rattle.sect_front.specs.{declared.tree.Operand.{Operand}, declared.tree.Declaration.{Declaration}}
+use Rattle.sect_front.specs.{declared.tree.Record.{Record}, declared.tree.GlobalObject.{GlobalObject}}
+use Rattle.sect_front.specs.{declared.tree.Procedure.{Procedure}, declared.tree.Thread.{Thread}}
+use Rattle.sect_front.proofs.shared.Listed.{tokens_before}
+use Rattle.sect_places.specs.Counts.{primitive_count, operands_count, parameters_count, statement_count, block_count}
+use Rattle.sect_places.specs.Counts.{record_count, procedure_count, thread_count, records_count, procedures_count}
+use Rattle.sect_places.specs.Counts.{threads_count, tree_count}
 use Rattle.sect_front.specs.declared.token.Token.TheVariants as token
-use Rattle.sect_front.specs.declared.tree.Operand.{Operand}
 use Rattle.sect_front.specs.declared.tree.Primitive as leaf
 use Rattle.sect_front.specs.declared.tree.Primitive.TheVariants as primitive
 use Rattle.sect_front.specs.declared.tree.Locking.TheVariants as locking
-use Rattle.sect_front.specs.declared.tree.Declaration.{Declaration}
-use Rattle.sect_front.specs.declared.tree.Record.{Record}
-use Rattle.sect_front.specs.declared.tree.GlobalObject.{GlobalObject}
-use Rattle.sect_front.specs.declared.tree.Procedure.{Procedure}
-use Rattle.sect_front.specs.declared.tree.Thread.{Thread}
-use Rattle.sect_front.proofs.shared.Listed.{tokens_before}
-use Rattle.sect_places.specs.Counts.{primitive_count, operands_count, parameters_count, statement_count, block_count}
-use Rattle.sect_places.specs.Counts.{record_count, procedure_count, thread_count}
-use Rattle.sect_places.specs.Counts.{records_count, procedures_count, threads_count, tree_count}
 
 -- behind the first k of what stands at n
 pub ahead : {A : Type 0} (all : List A) (n k : ℕ) (w : List A) → drop n all ≡ w → drop (n + k) all ≡ drop k w

@@ -1,16 +1,10 @@
 -- How the bytes of given tokens are found in a text.
 use Rattle.std.proofs.Common.{◌≡◌, ℕ, zero, suc, ◌+◌, ◌-◌, ◌<◌, ◌≤◌, List, [], ◌∷◌, ◌++◌, length, take, drop, map}
-use Rattle.std.proofs.Common.{get_or, refl, sym, ◌∙◌, ap, subst, arith}
-use Rattle.std.proofs.lemmas.List.{length-take-le}
-use Rattle.sect_front.specs.TokenAt.{TokenAt}
-use Rattle.sect_front.specs.Gaps.{after_gap}
-use Rattle.sect_front.specs.Spelling.{spelling_of}
-use Rattle.sect_front.specs.Lexing.{IsFirst, Reaches, Spells}
-use Rattle.sect_front.specs.Faults.{tokens_in}
-use Rattle.sect_front.specs.declared.token.Token.{Token}
+use Rattle.std.proofs.{Common.{get_or, refl, sym, ◌∙◌, ap, subst, arith}, lemmas.List.{length-take-le}}
+use Rattle.sect_front.specs.{TokenAt.{TokenAt}, Gaps.{after_gap}, Spelling.{spelling_of}}
+use Rattle.sect_front.specs.{Lexing.{IsFirst, Reaches, Spells}, Faults.{tokens_in}, declared.token.Token.{Token}}
+use Rattle.sect_front.specs.{declared.span.Span.{Span}, FaultPlaces.{token_span}}
 use Rattle.sect_front.proofs.shared.Lexings.{gap_fits, one_lexing}
-use Rattle.sect_front.specs.declared.span.Span.{Span}
-use Rattle.sect_front.specs.FaultPlaces.{token_span}
 use Rattle.sect_places.specs.steps.Placing.{IsSpelledBy}
 
 -- the first i tokens have their spans, and here the next one stands

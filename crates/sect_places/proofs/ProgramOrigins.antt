@@ -1,32 +1,23 @@
 -- Where the nodes of a whole program come from.
 use Rattle.std.proofs.Common.{◌≡◌, ℕ, zero, suc, ◌+◌, ◌<◌, List, [], ◌∷◌, ◌++◌, length, drop, map, Some, None}
-use Rattle.std.proofs.Common.{slice_get, refl, sym, ap, ◌∙◌, subst, arith, false}
+use Rattle.std.proofs.{Common.{slice_get, refl, sym, ap, ◌∙◌, subst, arith, false}, lemmas.List.{length-map}}
+use Rattle.std.proofs.{lemmas.List.Elements.{All-nil, All-cons}, lemmas.Option.{slice_get_within}}
 use Rattle.std.specs.Prelude.{All}
-use Rattle.std.proofs.lemmas.List.{length-map}
-use Rattle.std.proofs.lemmas.List.Elements.{All-nil, All-cons}
-use Rattle.std.proofs.lemmas.Option.{slice_get_within}
 use Rattle.sect_lemmas.proofs.Options.{none_or_some, some_injective}
-use Rattle.sect_front.specs.TreeView.{TreeView}
-use Rattle.sect_front.specs.declared.tree.Thread.{Thread}
-use Rattle.sect_types.specs.declared.rules.place.Place.TheVariants.{InThread}
-use Rattle.sect_types.specs.declared.expansion.action.Label.{Label}
-use Rattle.sect_types.specs.Items.{items, thread_items}
-use Rattle.sect_types.specs.Sums.{sums}
+use Rattle.sect_front.specs.{TreeView.{TreeView}, declared.tree.Thread.{Thread}}
+use Rattle.sect_types.specs.{declared.rules.place.Place.TheVariants.{InThread}, declared.expansion.action.Label.{Label}}
+use Rattle.sect_types.specs.{Items.{items, thread_items}, Sums.{sums}}
 use Rattle.sect_types.specs.Statements.{TextView, Stop, Do, Choose, Loop, Section, section_bodies}
-use Rattle.sect_types.specs.Sections.{SectionView, sections_of}
-use Rattle.sect_types.specs.Sections as numbered
-use Rattle.sect_types.specs.Traces.{node_count}
-use Rattle.sect_types.specs.Programs.{ProgramView, IsOfTree}
+use Rattle.sect_types.specs.{Sections.{SectionView, sections_of}, Traces.{node_count}, Programs.{ProgramView, IsOfTree}}
 use Rattle.sect_types.specs.Expanded.{NextNumbers, expand_within, expanded_thread, expanded_threads, past_thread}
-use Rattle.sect_places.specs.declared.origin.Origin.{Origin}
-use Rattle.sect_places.specs.ItemCounts.{items_in_thread}
-use Rattle.sect_places.specs.Origins.{expansion, expanded_sections, threads_origins, threads_sections}
-use Rattle.sect_places.specs.Origins.{first_thread, thread_origins_of, section_origins_of}
+use Rattle.sect_places.specs.{declared.origin.Origin.{Origin}, ItemCounts.{items_in_thread}}
+use Rattle.sect_places.specs.Origins.{expansion, expanded_sections, threads_origins, threads_sections, first_thread}
+use Rattle.sect_places.specs.Origins.{thread_origins_of, section_origins_of}
 use Rattle.sect_places.specs.NodeOrigins.{labels, AreFrom, AreOriginsOf, AreOrigins, OriginsView}
-use Rattle.sect_places.proofs.ItemPast.{past_own, tree_threads_at}
-use Rattle.sect_places.proofs.Parts.{both_parts}
+use Rattle.sect_places.proofs.{ItemPast.{past_own, tree_threads_at}, Parts.{both_parts}}
 use Rattle.sect_places.proofs.Coming.{block_from, calls_from}
 use Rattle.sect_places.proofs.ComingSections.{AllFrom, bodies, bodies_are, block_sections_from, sections_from}
+use Rattle.sect_types.specs.Sections as numbered
 
 abbrev all_bodies : List TextView → List TextView
 all_bodies [] = []

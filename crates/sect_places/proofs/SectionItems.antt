@@ -1,18 +1,15 @@
 -- The items of sections are `atomic`s, and there are as many as sections.
-use Rattle.std.proofs.Common.{◌≡◌, ℕ, zero, suc, ◌+◌, List, [], ◌∷◌, ◌++◌, length, drop, All, Some, slice_get, refl}
-use Rattle.std.proofs.Common.{ap, false, arith}
+use Rattle.std.proofs.Common.{◌≡◌, ℕ, zero, suc, ◌+◌, List, [], ◌∷◌, ◌++◌, length, drop, All, Some, slice_get, refl, ap}
+use Rattle.std.proofs.Common.{false, arith}
 use Rattle.sect_front.specs.TreeView.{TreeView}
 use Rattle.sect_front.specs.Syntax.{StatementView, BlockView, Primitive, If, IfElse, While, Atomic, Call, End, Then}
-use Rattle.sect_front.specs.declared.tree.Declaration.{Declaration}
-use Rattle.sect_front.specs.declared.tree.Locking.{Locking}
+use Rattle.sect_front.specs.{declared.tree.Declaration.{Declaration}, declared.tree.Locking.{Locking}}
 use Rattle.sect_front.specs.declared.tree.Thread.{Thread}
-use Rattle.sect_types.specs.declared.rules.place.Place.{Place}
-use Rattle.sect_types.specs.declared.rules.place.Place.TheVariants.{InThread}
+use Rattle.sect_types.specs.{declared.rules.place.Place.{Place}, declared.rules.place.Place.TheVariants.{InThread}}
 use Rattle.sect_types.specs.Items.{Item, AStatement, AtomicHead, deeper, in_section, statement_items, block_items}
 use Rattle.sect_types.specs.Items.{thread_items, items}
 use Rattle.sect_types.specs.Lockings.{statement_lockings, block_lockings, threads_lockings, lockings_of}
-use Rattle.sect_places.specs.ItemCounts.{items_in_block, items_in_statement, items_in_thread}
-use Rattle.sect_places.specs.Origins.{first_thread}
+use Rattle.sect_places.specs.{ItemCounts.{items_in_block, items_in_statement, items_in_thread}, Origins.{first_thread}}
 use Rattle.sect_places.specs.SectionItems.{statement_section_items, block_section_items, threads_section_items}
 use Rattle.sect_places.specs.SectionItems.{section_items_of, IsAtomicItem}
 use Rattle.sect_places.proofs.Past.{ahead}

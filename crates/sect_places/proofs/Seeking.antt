@@ -1,25 +1,16 @@
 -- How one range is found among those of the parts of a tree.
 use Rattle.std.proofs.Common.{◌≡◌, ℕ, zero, suc, ◌+◌, ◌-◌, ◌*◌, ◌<◌, ◌≤◌, List, [], ◌∷◌, Some, length, get_or, drop}
-use Rattle.std.proofs.Common.{slice_get, sym, ◌∙◌, ap, arith}
-use Rattle.std.proofs.Common.{subst}
-use Rattle.std.proofs.lemmas.Option.{slice_get_past}
-use Rattle.sect_lemmas.proofs.Options.{none_or_some}
-use Rattle.sect_lemmas.proofs.Places.{at_of}
-use Rattle.sect_front.specs.TreeView.{TreeView}
-use Rattle.sect_front.specs.Grammar.{tokens_of}
-use Rattle.sect_front.specs.declared.tree.Declaration.{Declaration}
-use Rattle.sect_front.specs.declared.tree.Record.{Record}
-use Rattle.sect_front.specs.declared.tree.Procedure.{Procedure}
-use Rattle.sect_front.specs.declared.tree.Thread.{Thread}
-use Rattle.sect_front.specs.declared.tree.GlobalObject.{GlobalObject}
+use Rattle.std.proofs.{Common.{slice_get, sym, ◌∙◌, ap, arith, subst}, lemmas.Option.{slice_get_past}}
+use Rattle.sect_lemmas.proofs.{Options.{none_or_some}, Places.{at_of}}
+use Rattle.sect_front.specs.{TreeView.{TreeView}, Grammar.{tokens_of}, declared.tree.Declaration.{Declaration}}
+use Rattle.sect_front.specs.{declared.tree.Record.{Record}, declared.tree.Procedure.{Procedure}}
+use Rattle.sect_front.specs.{declared.tree.Thread.{Thread}, declared.tree.GlobalObject.{GlobalObject}}
 use Rattle.sect_places.specs.declared.range.TokenRange.{TokenRange}
-use Rattle.sect_types.specs.Items.{items}
 use Rattle.sect_places.specs.Counts.{records_count, procedures_count, threads_count}
 use Rattle.sect_places.specs.Ranges.{AreAmong, range, declarations_ranges, globals_ranges, item_tokens}
+use Rattle.sect_types.specs.Items.{items}
 use Rattle.sect_places.specs.steps.Seeking.{IsFound, IsBehind, parts_ranges, parts_count}
-use Rattle.sect_places.proofs.Past.{count_is}
-use Rattle.sect_places.proofs.Owned.{are_own, own_many}
-use Rattle.sect_places.proofs.Walked.{IsList, left, drop_all}
+use Rattle.sect_places.proofs.{Past.{count_is}, Owned.{are_own, own_many}, Walked.{IsList, left, drop_all}}
 
 -- of fields, parameters or locals, and of globals
 pub declared_found : (n : ℕ) (ds : List Declaration) (k : ℕ) → k < length ds

@@ -1,18 +1,11 @@
 -- What nodes and sections come from lies in their text.
-use Rattle.std.proofs.Common.{◌≡◌, ◌<◌, ℕ, zero, suc, List, [], ◌∷◌, length, map, get_or, Option, Some, None, sym, subst}
-use Rattle.std.proofs.Common.{arith}
-use Rattle.std.specs.Prelude.{All}
-use Rattle.std.specs.Option.{option_map}
-use Rattle.std.proofs.lemmas.List.{length-map, get_or-map}
-use Rattle.std.proofs.lemmas.Option.{slice_get_within}
-use Rattle.sect_front.specs.FaultPlaces.{IsWithin}
-use Rattle.sect_front.specs.TreeView.{TreeView}
-use Rattle.sect_front.specs.declared.span.Span.{Span}
+use Rattle.std.proofs.Common.{◌≡◌, ◌<◌, ℕ, zero, suc, List, [], ◌∷◌, length, map, get_or, Option, Some, None, sym}
+use Rattle.std.proofs.{Common.{subst, arith}, lemmas.List.{length-map, get_or-map}, lemmas.Option.{slice_get_within}}
+use Rattle.std.specs.{Prelude.{All}, Option.{option_map}}
+use Rattle.sect_front.specs.{FaultPlaces.{IsWithin}, TreeView.{TreeView}, declared.span.Span.{Span}}
 use Rattle.sect_types.specs.Items.{items}
-use Rattle.sect_places.specs.NodeSpans.{item_span, node_span, IsCallWithin, IsNodeWithin}
-use Rattle.sect_places.specs.SectionItems.{IsAtomicItem}
-use Rattle.sect_places.specs.Spans.{AreProper}
-use Rattle.sect_places.specs.declared.origin.Origin.{Origin}
+use Rattle.sect_places.specs.{NodeSpans.{item_span, node_span, IsCallWithin, IsNodeWithin}, SectionItems.{IsAtomicItem}}
+use Rattle.sect_places.specs.{Spans.{AreProper}, declared.origin.Origin.{Origin}}
 use Rattle.sect_places.specs.steps.Placed.{IsAmong, IsPlaced}
 
 item_within : (total : ℕ) (spans : List Span) → AreProper total spans → (n : ℕ) → n < length spans

@@ -1,25 +1,16 @@
 -- How a text is read token by token, where it spells a tree.
-use Rattle.std.proofs.Common.{◌≡◌, ℕ, zero, suc, ◌+◌, ◌-◌, ◌<◌, ◌≤◌, List, [], ◌∷◌, ◌++◌, length}
-use Rattle.std.proofs.Common.{take, drop, map, get_or, Option, Some, None, refl, sym, ◌∙◌, ap, subst, arith}
+use Rattle.std.proofs.Common.{◌≡◌, ℕ, zero, suc, ◌+◌, ◌-◌, ◌<◌, ◌≤◌, List, [], ◌∷◌, ◌++◌, length, take, drop, map}
+use Rattle.std.proofs.Common.{get_or, Option, Some, None, refl, sym, ◌∙◌, ap, subst, arith}
 use Rattle.std.proofs.lemmas.List.{drop_more, drop-drop, take-map, drop-map}
-use Rattle.sect_lemmas.proofs.Options.{none_or_some, some_injective}
-use Rattle.sect_lemmas.proofs.Places.{at_of}
-use Rattle.sect_front.specs.TreeView.{TreeView}
-use Rattle.sect_front.specs.TokenAt.{TokenAt}
-use Rattle.sect_front.specs.Gaps.{after_gap}
-use Rattle.sect_front.specs.Front.{IsSpelled}
-use Rattle.sect_front.specs.FaultPlaces.{token_span}
-use Rattle.sect_front.specs.Grammar.{tokens_of}
-use Rattle.sect_front.specs.Lexing.{IsFirst, Reaches}
-use Rattle.sect_front.specs.Spelling.{spelling_of, IsSpelling}
-use Rattle.sect_front.specs.declared.span.Span.{Span}
+use Rattle.sect_lemmas.proofs.{Options.{none_or_some, some_injective}, Places.{at_of}}
+use Rattle.sect_front.specs.{TreeView.{TreeView}, TokenAt.{TokenAt}, Gaps.{after_gap}, Front.{IsSpelled}}
+use Rattle.sect_front.specs.{FaultPlaces.{token_span}, Grammar.{tokens_of}, Lexing.{IsFirst, Reaches}}
+use Rattle.sect_front.specs.{Spelling.{spelling_of, IsSpelling}, declared.span.Span.{Span}}
 use Rattle.sect_front.specs.declared.token.Token.{Token}
-use Rattle.sect_front.proofs.shared.Lexings.{one_lexing}
-use Rattle.sect_front.proofs.shared.Rests.{rest_all, rest_more, rest_gap}
+use Rattle.sect_front.proofs.shared.{Lexings.{one_lexing}, Rests.{rest_all, rest_more, rest_gap}}
 use Rattle.sect_places.specs.Spans.{AreInOrder}
 use Rattle.sect_places.specs.steps.Standing.{StandsFrom, IsSought}
-use Rattle.sect_places.proofs.Placing.{first_length, span_from}
-use Rattle.sect_places.proofs.Whole.{tokens_length, spans_order}
+use Rattle.sect_places.proofs.{Placing.{first_length, span_from}, Whole.{tokens_length, spans_order}}
 use Rattle.sect_places.proofs.shared.Ordered.{order_within}
 
 -- as many tokens are spelled as the tree has

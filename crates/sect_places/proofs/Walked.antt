@@ -1,8 +1,6 @@
 -- Loops that add what the parts of a list give, one part after another.
 use Rattle.std.proofs.Common.{◌≡◌, ℕ, zero, suc, ◌+◌, ◌<◌, ◌≤◌, List, [], ◌∷◌, ◌++◌, length, get_or, drop, refl, sym}
-use Rattle.std.proofs.Common.{◌∙◌, ap}
-use Rattle.std.proofs.Common.{arith}
-use Rattle.std.proofs.lemmas.List.{drop_more}
+use Rattle.std.proofs.{Common.{◌∙◌, ap, arith}, lemmas.List.{drop_more}}
 use Rattle.sect_places.specs.steps.Adding.{Adds}
 
 -- how what a list gives is made of what its parts give, and how many numbers it takes

@@ -1,36 +1,23 @@
 -- How the wanted names of a tree are read off a text.
 use Rattle.std.proofs.Common.{◌≡◌, ℕ, zero, suc, ◌+◌, ◌<◌, ◌≤◌, Bool, true, false, List, [], ◌∷◌, ◌++◌, length, take}
 use Rattle.std.proofs.Common.{drop, map, Some, slice_get, refl, sym, ◌∙◌, ap, subst, arith, append-nil, if◌then◌else◌}
+use Rattle.std.proofs.{Common.{length-append}, lemmas.List.{length-map, take-append-drop, drop_more, length-take-le}}
+use Rattle.std.proofs.{lemmas.Option.{slice_get_within, get_or_from_slice_get}, lemmas.List.Elements.{filter-append}}
 use Rattle.std.specs.Prelude.{filter}
-use Rattle.std.proofs.lemmas.List.{length-map, take-append-drop, drop_more, length-take-le}
-use Rattle.std.proofs.Common.{length-append}
-use Rattle.std.proofs.lemmas.Option.{slice_get_within, get_or_from_slice_get}
-use Rattle.std.proofs.lemmas.List.Elements.{filter-append}
-use Rattle.sect_lemmas.proofs.Places.{at_of}
-use Rattle.sect_lemmas.proofs.Options.{some_injective}
-use Rattle.sect_front.specs.TreeView.{TreeView}
-use Rattle.sect_front.specs.TokenAt.{TokenAt}
-use Rattle.sect_front.specs.Front.{IsSpelled}
-use Rattle.sect_front.specs.FaultPlaces.{token_span}
-use Rattle.sect_front.specs.Gaps.{after_gap}
-use Rattle.sect_front.specs.Grammar.{tokens_of}
-use Rattle.sect_front.specs.declared.span.Span.{Span}
-use Rattle.sect_front.specs.declared.token.Token.{Token}
-use Rattle.sect_front.specs.NameTokens.{is_name_token}
-use Rattle.sect_places.specs.declared.name_use.NameUse.{NameUse}
-use Rattle.sect_places.specs.declared.name_use.NameSpan.{NameSpan}
-use Rattle.sect_places.specs.NameUses.{name_uses}
-use Rattle.sect_places.specs.NameSpans.{AreNameSpans}
-use Rattle.sect_places.specs.steps.Wanting.{KeptView, behind, nothing_kept, is_taken, numbers_from}
-use Rattle.sect_places.specs.declared.wish.Wish.{Wish}
-use Rattle.sect_places.specs.declared.wish.Wish.TheVariants as wish
+use Rattle.sect_lemmas.proofs.{Places.{at_of}, Options.{some_injective}}
+use Rattle.sect_front.specs.{TreeView.{TreeView}, TokenAt.{TokenAt}, Front.{IsSpelled}, FaultPlaces.{token_span}}
+use Rattle.sect_front.specs.{Gaps.{after_gap}, Grammar.{tokens_of}, declared.span.Span.{Span}}
+use Rattle.sect_front.specs.{declared.token.Token.{Token}, NameTokens.{is_name_token}}
+use Rattle.sect_places.specs.{declared.name_use.NameUse.{NameUse}, declared.name_use.NameSpan.{NameSpan}}
+use Rattle.sect_places.specs.{NameUses.{name_uses}, NameSpans.{AreNameSpans}, declared.wish.Wish.{Wish}}
 use Rattle.sect_places.specs.Mattering.{wanted}
+use Rattle.sect_places.specs.steps.Wanting.{KeptView, behind, nothing_kept, is_taken, numbers_from}
 use Rattle.sect_places.specs.steps.Wanted.{AreWanted}
 use Rattle.sect_places.proofs.Keeping.{kept_of, numbers_behind, no_earlier, kept_all, as_many_numbers}
 use Rattle.sect_places.proofs.NamesRead.{NamedHere, named_none, named_more, named_on, names_left, token_left}
-use Rattle.sect_places.proofs.NameTokens.{as_many_names}
-use Rattle.sect_places.proofs.Standing.{OneRead, places_count}
+use Rattle.sect_places.proofs.{NameTokens.{as_many_names}, Standing.{OneRead, places_count}}
 use Rattle.sect_places.proofs.shared.Fitting.{tokens_fit}
+use Rattle.sect_places.specs.declared.wish.Wish.TheVariants as wish
 
 -- so many names have been read, these are wanted of them, and here the next token stands
 pub record WantedHere (bytes : List ℕ) (tree : TreeView) (which : Wish) (some : List NameSpan) (number : ℕ)

@@ -1,31 +1,17 @@
 -- The items of a whole text.
 use Rattle.std.proofs.Common.{◌≡◌, ℕ, suc, ◌+◌, ◌*◌, List, [], ◌∷◌, length, map, sym, ◌∙◌, ap, subst, arith, append-nil}
-use Rattle.sect_front.specs.TreeView.{TreeView}
-use Rattle.sect_front.specs.TokenAt.{TokenAt}
-use Rattle.sect_front.specs.Front.{IsSpelled}
-use Rattle.sect_front.specs.FaultPlaces.{token_span}
-use Rattle.sect_front.specs.Faults.{tokens_in}
-use Rattle.sect_front.specs.Grammar.{tokens_of}
-use Rattle.sect_front.specs.declared.span.Span.{Span}
-use Rattle.sect_front.specs.declared.token.Token.{Token}
-use Rattle.sect_front.specs.declared.tree.Record.{Record}
-use Rattle.sect_front.specs.declared.tree.GlobalObject.{GlobalObject}
-use Rattle.sect_front.specs.declared.tree.Procedure.{Procedure}
+use Rattle.sect_front.specs.{TreeView.{TreeView}, TokenAt.{TokenAt}, Front.{IsSpelled}, FaultPlaces.{token_span}}
+use Rattle.sect_front.specs.{Faults.{tokens_in}, Grammar.{tokens_of}, declared.span.Span.{Span}}
+use Rattle.sect_front.specs.{declared.token.Token.{Token}, declared.tree.Record.{Record}}
+use Rattle.sect_front.specs.{declared.tree.GlobalObject.{GlobalObject}, declared.tree.Procedure.{Procedure}}
 use Rattle.sect_front.specs.declared.tree.Thread.{Thread}
 use Rattle.sect_types.specs.Items.{items}
-use Rattle.sect_places.specs.declared.range.TokenRange.{TokenRange}
-use Rattle.sect_places.specs.Counts.{records_count, procedures_count}
+use Rattle.sect_places.specs.{declared.range.TokenRange.{TokenRange}, Counts.{records_count, procedures_count}}
 use Rattle.sect_places.specs.Ranges.{AreAmong, records_ranges, globals_ranges, procedures_ranges, threads_ranges}
-use Rattle.sect_places.specs.Ranges.{item_tokens}
-use Rattle.sect_places.specs.Spans.{span_in, AreInOrder, AreProper}
-use Rattle.sect_places.specs.Own.{AreOwn}
+use Rattle.sect_places.specs.{Ranges.{item_tokens}, Spans.{span_in, AreInOrder, AreProper}, Own.{AreOwn}}
 use Rattle.sect_places.specs.Items.{AreItemSpans}
-use Rattle.sect_places.specs.steps.Adding.{Adds}
-use Rattle.sect_places.specs.steps.Placing.{IsSpelledBy}
-use Rattle.sect_places.proofs.Past.{count_is}
-use Rattle.sect_places.proofs.Owned.{own_many}
-use Rattle.sect_places.proofs.Following.{in_order}
-use Rattle.sect_places.proofs.Within.{items_within}
+use Rattle.sect_places.specs.steps.{Adding.{Adds}, Placing.{IsSpelledBy}}
+use Rattle.sect_places.proofs.{Past.{count_is}, Owned.{own_many}, Following.{in_order}, Within.{items_within}}
 use Rattle.sect_places.proofs.shared.Ordered.{spans_proper}
 
 abbrev pub spelled_by : (bytes : List ℕ) (tree : TreeView) (listed : List Token) → IsSpelled bytes tree

@@ -1,22 +1,17 @@
 -- Each item has tokens, and they are the tree's.
-use Rattle.std.proofs.Common.{ℕ, ◌+◌, ◌*◌, ◌<◌, ◌≤◌, List, [], ◌∷◌, length}
-use Rattle.std.proofs.Common.{arith}
+use Rattle.std.proofs.Common.{ℕ, ◌+◌, ◌*◌, ◌<◌, ◌≤◌, List, [], ◌∷◌, length, arith}
 use Rattle.sect_front.specs.Syntax.{StatementView, BlockView, Primitive, If, IfElse, While, Atomic, Call, End, Then}
-use Rattle.sect_front.specs.TreeView.{TreeView}
+use Rattle.sect_front.specs.{TreeView.{TreeView}, declared.tree.Declaration.{Declaration}}
+use Rattle.sect_front.specs.{declared.tree.Record.{Record}, declared.tree.GlobalObject.{GlobalObject}}
+use Rattle.sect_front.specs.{declared.tree.Procedure.{Procedure}, declared.tree.Thread.{Thread}}
+use Rattle.sect_places.specs.declared.range.TokenRange.{TokenRange}
+use Rattle.sect_places.specs.Counts.{primitive_count, locking_count, parameters_count, statement_count, block_count}
+use Rattle.sect_places.specs.Counts.{record_count, procedure_count, thread_count, records_count, procedures_count}
+use Rattle.sect_places.specs.Counts.{threads_count, tree_count}
+use Rattle.sect_places.specs.Ranges.{AreAmong, statement_ranges, block_ranges, declarations_ranges, records_ranges}
+use Rattle.sect_places.specs.Ranges.{globals_ranges, procedures_ranges, threads_ranges, item_tokens}
 use Rattle.sect_front.specs.declared.tree.Primitive as leaf
 use Rattle.sect_front.specs.declared.tree.Primitive.TheVariants as primitive
-use Rattle.sect_front.specs.declared.tree.Declaration.{Declaration}
-use Rattle.sect_front.specs.declared.tree.Record.{Record}
-use Rattle.sect_front.specs.declared.tree.GlobalObject.{GlobalObject}
-use Rattle.sect_front.specs.declared.tree.Procedure.{Procedure}
-use Rattle.sect_front.specs.declared.tree.Thread.{Thread}
-use Rattle.sect_places.specs.declared.range.TokenRange.{TokenRange}
-use Rattle.sect_places.specs.Counts.{primitive_count, locking_count, parameters_count, statement_count}
-use Rattle.sect_places.specs.Counts.{block_count, record_count, procedure_count, thread_count, records_count}
-use Rattle.sect_places.specs.Counts.{procedures_count, threads_count, tree_count}
-use Rattle.sect_places.specs.Ranges.{AreAmong, statement_ranges, block_ranges, declarations_ranges}
-use Rattle.sect_places.specs.Ranges.{records_ranges, globals_ranges}
-use Rattle.sect_places.specs.Ranges.{procedures_ranges, threads_ranges, item_tokens}
 
 primitive_some : (p : leaf.Primitive) → 2 < primitive_count p
 primitive_some (primitive.Assign x v) = omega arith

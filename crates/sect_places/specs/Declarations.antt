@@ -1,10 +1,8 @@
 -- Which declaration a name of a text refers to: the number among the text's names of the name that is declared.
-use Rattle.std.specs.Prelude.{ℕ, Bool, true, false, ◌&&◌, List, Option, nat_eq, position}
-use Rattle.std.specs.Option.{option_or}
+use Rattle.std.specs.{Prelude.{ℕ, Bool, true, false, ◌&&◌, List, Option, nat_eq, position}, Option.{option_or}}
 use Rattle.std.specs.Cmp.Lexicographic.{pointwise}
-use Rattle.sect_places.specs.declared.name_use.NameSpan.{NameSpan}
+use Rattle.sect_places.specs.{declared.name_use.NameSpan.{NameSpan}, declared.name_use.Role.{Role}}
 use Rattle.sect_places.specs.declared.name_use.Thing.TheVariants as thing
-use Rattle.sect_places.specs.declared.name_use.Role.{Role}
 use Rattle.sect_places.specs.declared.name_use.Role.TheVariants as role
 
 abbrev pub is_declaration : Role → Bool

@@ -1,14 +1,9 @@
 -- Where the items of a text stand.
 use Rattle.std.specs.Prelude.{◌≡◌, ℕ, List, map, length}
-use Rattle.sect_front.specs.TreeView.{TreeView}
-use Rattle.sect_front.specs.Front.{IsSpelled}
-use Rattle.sect_front.specs.FaultPlaces.{token_span}
-use Rattle.sect_front.specs.Grammar.{tokens_of}
+use Rattle.sect_front.specs.{TreeView.{TreeView}, Front.{IsSpelled}, FaultPlaces.{token_span}, Grammar.{tokens_of}}
 use Rattle.sect_front.specs.declared.span.Span.{Span}
 use Rattle.sect_types.specs.Items.{items}
-use Rattle.sect_places.specs.Ranges.{item_tokens}
-use Rattle.sect_places.specs.Spans.{span_in, AreProper}
-use Rattle.sect_places.specs.Own.{AreOwn}
+use Rattle.sect_places.specs.{Ranges.{item_tokens}, Spans.{span_in, AreProper}, Own.{AreOwn}}
 
 -- the text spells the tree, and these are the spans of its items, in their order
 pub record AreItemSpans (bytes : List ℕ) (tree : TreeView) (spans : List Span) : Type 0 where

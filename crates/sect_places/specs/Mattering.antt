@@ -1,12 +1,10 @@
 -- Which names are wanted, and which of them matter to what is told of an item.
 use Rattle.std.specs.Prelude.{ℕ, Bool, true, false, not, ◌&&◌, ◌||◌, List, filter, nat_eq, nat_lt}
 use Rattle.std.specs.Cmp.Lexicographic.{pointwise}
-use Rattle.sect_places.specs.declared.name_use.NameSpan.{NameSpan}
-use Rattle.sect_places.specs.declared.name_use.Role.{Role}
+use Rattle.sect_places.specs.{declared.name_use.NameSpan.{NameSpan}, declared.name_use.Role.{Role}}
+use Rattle.sect_places.specs.{declared.wish.Wish.{Wish}, Declarations.{is_declaration, is_procedure, is_call}}
 use Rattle.sect_places.specs.declared.name_use.Role.TheVariants as role
-use Rattle.sect_places.specs.declared.wish.Wish.{Wish}
 use Rattle.sect_places.specs.declared.wish.Wish.TheVariants as wish
-use Rattle.sect_places.specs.Declarations.{is_declaration, is_procedure, is_call}
 
 -- a name that does this may matter to any item: it is declared, the type of what is declared, a guard, or called
 abbrev pub matters_to_all : Role → Bool

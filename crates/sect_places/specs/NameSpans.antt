@@ -1,14 +1,9 @@
 -- Where the names of a text stand.
 use Rattle.std.specs.Prelude.{◌≡◌, ℕ, List, map, filter, length}
-use Rattle.sect_front.specs.TreeView.{TreeView}
-use Rattle.sect_front.specs.TokenAt.{TokenAt}
-use Rattle.sect_front.specs.Front.{IsSpelled}
-use Rattle.sect_front.specs.FaultPlaces.{token_span}
+use Rattle.sect_front.specs.{TreeView.{TreeView}, TokenAt.{TokenAt}, Front.{IsSpelled}, FaultPlaces.{token_span}}
 use Rattle.sect_front.specs.NameTokens.{is_name_token}
+use Rattle.sect_places.specs.{declared.name_use.NameSpan.{NameSpan}, NameUses.{name_uses}, Spans.{AreProper}}
 use Rattle.sect_front.specs.declared.token.Token.TheVariants as token
-use Rattle.sect_places.specs.declared.name_use.NameSpan.{NameSpan}
-use Rattle.sect_places.specs.NameUses.{name_uses}
-use Rattle.sect_places.specs.Spans.{AreProper}
 
 -- the names of a text, with their places
 abbrev pub names_among : List TokenAt → List TokenAt

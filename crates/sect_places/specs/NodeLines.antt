@@ -1,13 +1,9 @@
 -- The lines that the nodes of a program come from.
-use Rattle.std.specs.Prelude.{◌≡◌, ℕ, List, map, get_or}
-use Rattle.std.specs.Option.{option_map}
+use Rattle.std.specs.{Prelude.{◌≡◌, ℕ, List, map, get_or}, Option.{option_map}}
 use Rattle.sect_front.specs.declared.span.Span.{Span}
 use Rattle.sect_types.specs.Programs.{ProgramView}
-use Rattle.sect_places.specs.declared.position.Position.{Position}
-use Rattle.sect_places.specs.declared.origin.Origin.{Origin}
-use Rattle.sect_places.specs.declared.lines.NodeLine.{NodeLine}
-use Rattle.sect_places.specs.Positions.{position}
-use Rattle.sect_places.specs.Items.{AreItemSpans}
+use Rattle.sect_places.specs.{declared.position.Position.{Position}, declared.origin.Origin.{Origin}}
+use Rattle.sect_places.specs.{declared.lines.NodeLine.{NodeLine}, Positions.{position}, Items.{AreItemSpans}}
 use Rattle.sect_places.specs.Origins.{section_origins_of}
 
 -- the line of an item, where items begin at these places

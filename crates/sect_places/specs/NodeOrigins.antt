@@ -1,24 +1,16 @@
 -- What the items that nodes come from say of the nodes.
-use Rattle.std.specs.Prelude.{◌≡◌, ◌<◌, ⊤, ℕ, List, [], ◌∷◌, length, All, Option, Some, None, slice_get}
-use Rattle.std.specs.Prelude.{option_map}
-use Rattle.sect_front.specs.TreeView.{TreeView}
-use Rattle.sect_front.specs.declared.tree.Declaration.{Declaration}
+use Rattle.std.specs.Prelude.{◌≡◌, ◌<◌, ⊤, ℕ, List, [], ◌∷◌, length, All, Option, Some, None, slice_get, option_map}
+use Rattle.sect_front.specs.{TreeView.{TreeView}, declared.tree.Declaration.{Declaration}}
 use Rattle.sect_front.specs.declared.tree.Operand.{Operand}
 use Rattle.sect_types.specs.Items.{Item, ALocal, AStatement, PrimitiveHead, TestHead, AtomicHead, CallHead, items}
-use Rattle.sect_types.specs.declared.rules.place.Place.{Place}
-use Rattle.sect_types.specs.declared.expansion.action.Label.{Label}
+use Rattle.sect_types.specs.{declared.rules.place.Place.{Place}, declared.expansion.action.Label.{Label}}
 use Rattle.sect_types.specs.declared.expansion.action.Label.TheVariants.{Act, Test, Section as WholeSection}
-use Rattle.sect_types.specs.declared.expansion.action.Action.TheVariants as action
-use Rattle.sect_types.specs.declared.expansion.action.Value.{Value}
-use Rattle.sect_types.specs.Rules.{sight}
-use Rattle.sect_types.specs.Numbered.{action_of, condition_of}
+use Rattle.sect_types.specs.{declared.expansion.action.Value.{Value}, Rules.{sight}, Numbered.{action_of, condition_of}}
 use Rattle.sect_types.specs.Expanded.{moved_action, moved_condition}
 use Rattle.sect_types.specs.Statements.{TextView, Stop, Do, Choose, Loop, Section}
-use Rattle.sect_types.specs.Sections.{SectionView, sections_of}
-use Rattle.sect_types.specs.Programs.{ProgramView}
-use Rattle.sect_types.specs.Traces.{node_count}
-use Rattle.sect_places.specs.declared.origin.Origin.{Origin}
-use Rattle.sect_places.specs.Origins.{thread_origins_of, section_origins_of}
+use Rattle.sect_types.specs.{Sections.{SectionView, sections_of}, Programs.{ProgramView}, Traces.{node_count}}
+use Rattle.sect_places.specs.{declared.origin.Origin.{Origin}, Origins.{thread_origins_of, section_origins_of}}
+use Rattle.sect_types.specs.declared.expansion.action.Action.TheVariants as action
 
 -- what the nodes of a text do, in text order, before what those of what follows do
 abbrev pub labels : TextView → List Label → List Label

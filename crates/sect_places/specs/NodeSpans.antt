@@ -1,16 +1,10 @@
 -- The bytes that the nodes of a program come from.
-use Rattle.std.specs.Prelude.{◌≡◌, ⊤, ℕ, List, All, Option, Some, None, map, length, get_or}
-use Rattle.std.specs.Option.{option_map}
-use Rattle.sect_front.specs.FaultPlaces.{IsWithin}
-use Rattle.sect_front.specs.declared.span.Span.{Span}
-use Rattle.sect_types.specs.Programs.{ProgramView}
-use Rattle.sect_types.specs.Sections.{sections_of}
-use Rattle.sect_places.specs.Items.{AreItemSpans}
-use Rattle.sect_places.specs.Origins.{thread_origins_of, section_origins_of}
-use Rattle.sect_places.specs.SectionItems.{section_items_of}
-use Rattle.sect_places.specs.Spans.{no_span}
-use Rattle.sect_places.specs.declared.origin_spans.NodeSpan.{NodeSpan}
-use Rattle.sect_places.specs.declared.origin.Origin.{Origin}
+use Rattle.std.specs.{Prelude.{◌≡◌, ⊤, ℕ, List, All, Option, Some, None, map, length, get_or}, Option.{option_map}}
+use Rattle.sect_front.specs.{FaultPlaces.{IsWithin}, declared.span.Span.{Span}}
+use Rattle.sect_types.specs.{Programs.{ProgramView}, Sections.{sections_of}}
+use Rattle.sect_places.specs.{Items.{AreItemSpans}, Origins.{thread_origins_of, section_origins_of}}
+use Rattle.sect_places.specs.{SectionItems.{section_items_of}, Spans.{no_span}}
+use Rattle.sect_places.specs.{declared.origin_spans.NodeSpan.{NodeSpan}, declared.origin.Origin.{Origin}}
 
 -- the bytes of an item, where items have these
 abbrev pub item_span : List Span → ℕ → Span

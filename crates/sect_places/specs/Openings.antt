@@ -1,9 +1,8 @@
 -- Tokens in a row, of which the first are kept and the others counted.
 use Rattle.std.specs.Prelude.{◌≡◌, ℕ, ◌+◌, Bool, true, false, List, length, filter, take, drop, get_or}
-use Rattle.sect_front.specs.declared.span.Span.{Span}
-use Rattle.sect_front.specs.declared.token.Token.{Token}
-use Rattle.sect_front.specs.declared.token.Token.TheVariants as token
+use Rattle.sect_front.specs.{declared.span.Span.{Span}, declared.token.Token.{Token}}
 use Rattle.sect_places.specs.Spans.{no_span}
+use Rattle.sect_front.specs.declared.token.Token.TheVariants as token
 
 -- a name, an integer or `null`
 abbrev pub is_value : Token → Bool

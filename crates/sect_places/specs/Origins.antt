@@ -5,8 +5,7 @@ use Rattle.std.specs.Prelude.{ℕ, zero, suc, ◌+◌, List, [], ◌∷◌, leng
 use Rattle.std.specs.Option.{option_or}
 use Rattle.sect_front.specs.TreeView.{TreeView}
 use Rattle.sect_front.specs.Syntax.{StatementView, BlockView, Primitive, If, IfElse, While, Atomic, Call, End, Then}
-use Rattle.sect_front.specs.declared.tree.Declaration.{Declaration}
-use Rattle.sect_front.specs.declared.tree.Procedure.{Procedure}
+use Rattle.sect_front.specs.{declared.tree.Declaration.{Declaration}, declared.tree.Procedure.{Procedure}}
 use Rattle.sect_front.specs.declared.tree.Thread.{Thread}
 use Rattle.sect_types.specs.Sums.{number_of}
 use Rattle.sect_places.specs.declared.origin.Origin.{Origin}

@@ -1,14 +1,14 @@
 -- That the tokens of a range are those of an item.
 use Rattle.std.specs.Prelude.{◌≡◌, ◌⊎◌, List, [], ◌∷◌, take, drop, ⊤}
 use Rattle.sect_front.specs.declared.token.Token.{Token}
+use Rattle.sect_front.specs.Grammar.{operand_token, operator_token, kind_token, test_list, in_parens, separated}
+use Rattle.sect_front.specs.Grammar.{operand_list}
+use Rattle.sect_types.specs.Items.{Head, PrimitiveHead, TestHead, AtomicHead, CallHead, Item, ARecord, AField, AGlobal}
+use Rattle.sect_types.specs.Items.{AProcedure, AThread, ALocal, AStatement}
+use Rattle.sect_places.specs.declared.range.TokenRange.{TokenRange}
 use Rattle.sect_front.specs.declared.token.Token.TheVariants as token
 use Rattle.sect_front.specs.declared.tree.Primitive as leaf
 use Rattle.sect_front.specs.declared.tree.Primitive.TheVariants as primitive
-use Rattle.sect_front.specs.Grammar.{operand_token, operator_token, kind_token, test_list, in_parens, separated}
-use Rattle.sect_front.specs.Grammar.{operand_list}
-use Rattle.sect_types.specs.Items.{Head, PrimitiveHead, TestHead, AtomicHead, CallHead}
-use Rattle.sect_types.specs.Items.{Item, ARecord, AField, AGlobal, AProcedure, AThread, ALocal, AStatement}
-use Rattle.sect_places.specs.declared.range.TokenRange.{TokenRange}
 
 -- but for the `;`
 abbrev pub primitive_own : leaf.Primitive → List Token

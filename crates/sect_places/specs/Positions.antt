@@ -1,7 +1,6 @@
 -- Lines and columns.
 use Rattle.std.specs.Prelude.{ℕ, ◌+◌, ◌==◌, if◌then◌else◌, List, take, fold}
-use Rattle.sect_front.specs.Gaps.{line_feed}
-use Rattle.sect_front.specs.Front.{line_of}
+use Rattle.sect_front.specs.{Gaps.{line_feed}, Front.{line_of}}
 use Rattle.sect_places.specs.declared.position.Position.{Position}
 
 -- the column behind a byte that stands in this column

@@ -2,12 +2,9 @@
 use Rattle.std.specs.Prelude.{◌≡◌, ℕ, ◌+◌, List, [], ◌∷◌, length, Some, slice_get}
 use Rattle.sect_front.specs.TreeView.{TreeView}
 use Rattle.sect_front.specs.Syntax.{StatementView, BlockView, Primitive, If, IfElse, While, Atomic, Call, End, Then}
-use Rattle.sect_front.specs.declared.tree.Declaration.{Declaration}
-use Rattle.sect_front.specs.declared.tree.Thread.{Thread}
-use Rattle.sect_types.specs.Items.{AStatement, AtomicHead, items}
-use Rattle.sect_types.specs.declared.rules.place.Place.{Place}
-use Rattle.sect_places.specs.ItemCounts.{items_in_block, items_in_statement, items_in_thread}
-use Rattle.sect_places.specs.Origins.{first_thread}
+use Rattle.sect_front.specs.{declared.tree.Declaration.{Declaration}, declared.tree.Thread.{Thread}}
+use Rattle.sect_types.specs.{Items.{AStatement, AtomicHead, items}, declared.rules.place.Place.{Place}}
+use Rattle.sect_places.specs.{ItemCounts.{items_in_block, items_in_statement, items_in_thread}, Origins.{first_thread}}
 
 abbrev mutual
   -- of the sections of a statement that is the item n, in text order; no section stands in a section

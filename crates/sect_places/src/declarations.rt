@@ -2,11 +2,10 @@
 
 ghost use Rattle.std.specs.Prelude.{◌≡◌, ◌<◌, IfSome, length};
 ghost use Rattle.sect_places.specs.Declarations.{is_record, is_field, is_global, is_procedure, is_local, is_type};
-ghost use Rattle.sect_places.specs.Declarations.{is_base, is_called, is_called_in, does_in};
-ghost use Rattle.sect_places.specs.Declarations.{record_of as record_by, global_of as global_by};
-ghost use Rattle.sect_places.specs.Declarations.{procedure_of as procedure_by, field_of as field_by};
-ghost use Rattle.sect_places.specs.Declarations.{local_of as local_by, variable_of as variable_by};
-ghost use Rattle.sect_places.specs.Declarations.{type_in as type_by, base_in as base_by};
+ghost use Rattle.sect_places.specs.Declarations.{is_base, is_called, is_called_in, does_in, record_of as record_by};
+ghost use Rattle.sect_places.specs.Declarations.{global_of as global_by, procedure_of as procedure_by};
+ghost use Rattle.sect_places.specs.Declarations.{field_of as field_by, local_of as local_by};
+ghost use Rattle.sect_places.specs.Declarations.{variable_of as variable_by, type_in as type_by, base_in as base_by};
 
 use crate::name_use::{NameSpan, Role, Thing};
 use sect_front::Name;

@@ -1,8 +1,7 @@
 //! Where the fault of a text stands.
 
 ghost use Rattle.std.specs.Prelude.{◌≡◌, ◌≢◌, ◌≤◌, IfOk, IfErr, length};
-ghost use Rattle.sect_front.specs.Front.{IsFault};
-ghost use Rattle.sect_front.specs.FaultPlaces.{IsFaultSpan, IsWithin};
+ghost use Rattle.sect_front.specs.{Front.{IsFault}, FaultPlaces.{IsFaultSpan, IsWithin}};
 
 use sect_front::{FrontFault, PlacedFault, Span, parse_placed};
 use std::alloc::Global;

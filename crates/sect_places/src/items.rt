@@ -1,12 +1,9 @@
 //! Where the items of a text stand.
 
 ghost use Rattle.std.specs.Prelude.{◌≡◌, ◌<◌, ◌^◌, IfOk, MatchResult, length, map};
-ghost use Rattle.sect_front.specs.Front.{IsSpelled, IsFault};
-ghost use Rattle.sect_front.specs.Grammar.{tokens_of};
+ghost use Rattle.sect_front.specs.{Front.{IsSpelled, IsFault}, Grammar.{tokens_of}};
 ghost use Rattle.sect_types.specs.Items.{items};
-ghost use Rattle.sect_places.specs.Ranges.{AreAmong, item_tokens};
-ghost use Rattle.sect_places.specs.Spans.{span_in};
-ghost use Rattle.sect_places.specs.Own.{AreOwn};
+ghost use Rattle.sect_places.specs.{Ranges.{AreAmong, item_tokens}, Spans.{span_in}, Own.{AreOwn}};
 ghost use Rattle.sect_places.specs.Items.{AreItemSpans, HasItemSpans};
 
 use crate::range::{TokenRange, range_span};

@@ -1,18 +1,12 @@
 //! Where the names of a text stand.
 
-ghost use Rattle.std.specs.Prelude.{◌≡◌, ◌≤◌, ◌<◌, ◌+◌, ◌++◌, ◌∷◌, [], Some, IfOk, OnOk, MatchResult};
-ghost use Rattle.std.specs.Prelude.{List, length, map, take, drop, slice_get};
-ghost use Rattle.sect_front.specs.Front.{IsSpelled, IsFault};
-ghost use Rattle.sect_front.specs.FaultPlaces.{token_span};
-ghost use Rattle.sect_front.specs.LongGaps.{AreGaps};
+ghost use Rattle.std.specs.Prelude.{◌≡◌, ◌≤◌, ◌<◌, ◌+◌, ◌++◌, ◌∷◌, [], Some, IfOk, OnOk, MatchResult, List, length};
+ghost use Rattle.std.specs.Prelude.{map, take, drop, slice_get};
+ghost use Rattle.sect_front.specs.{Front.{IsSpelled, IsFault}, FaultPlaces.{token_span}, LongGaps.{AreGaps}};
 ghost use Rattle.sect_front.specs.Grammar.{tokens_of};
-ghost use Rattle.sect_places.specs.Spans.{AreInOrder};
-ghost use Rattle.sect_places.specs.steps.Standing.{IsSought};
-ghost use Rattle.sect_places.specs.NameSpans.{AreNameSpans, HasNameSpans};
-ghost use Rattle.sect_places.specs.Mattering.{wanted};
-ghost use Rattle.sect_places.specs.steps.Wanted.{AreWanted};
-ghost use Rattle.sect_places.specs.declared.name_use.NameUse.{NameUse as AUse};
-ghost use Rattle.sect_places.specs.declared.name_use.NameSpan.{NameSpan};
+ghost use Rattle.sect_places.specs.{Spans.{AreInOrder}, NameSpans.{AreNameSpans, HasNameSpans}, Mattering.{wanted}};
+ghost use Rattle.sect_places.specs.{declared.name_use.NameUse.{NameUse as AUse}, declared.name_use.NameSpan.{NameSpan}};
+ghost use Rattle.sect_places.specs.steps.{Standing.{IsSought}, Wanted.{AreWanted}};
 
 use crate::name_use::NameSpan;
 use crate::range::TokenRange;

@@ -8,8 +8,7 @@ ghost use Rattle.sect_places.specs.ItemCounts.{items_in_statement, items_in_bloc
 ghost use Rattle.sect_places.specs.Origins.{variable_origins, statement_origins, block_origins, statement_sections};
 ghost use Rattle.sect_places.specs.Origins.{block_sections, threads_origins, threads_sections, origin};
 ghost use Rattle.sect_places.specs.NodeOrigins.{AreOrigins};
-ghost use Rattle.sect_places.specs.steps.Adding.{Adds};
-ghost use Rattle.sect_places.specs.steps.Ending.{StatementEnds, BlockEnds, EndsWithin, ThreadsEnd};
+ghost use Rattle.sect_places.specs.steps.{Adding.{Adds}, Ending.{StatementEnds, BlockEnds, EndsWithin, ThreadsEnd}};
 ghost use Rattle.sect_places.specs.steps.Calls.{ends, expands, expands_sections};
 
 use crate::inside::Inside;

@@ -1,12 +1,9 @@
 //! The tokens of a part of a text, of which the first are kept and the others counted.
 
 ghost use Rattle.std.specs.Prelude.{◌≡◌, ◌+◌, ◌≤◌, ◌<◌, ◌++◌, ◌∷◌, [], IfOk, length, map, take, drop};
-ghost use Rattle.sect_front.specs.Front.{IsSpelled};
-ghost use Rattle.sect_front.specs.FaultPlaces.{token_span};
-ghost use Rattle.sect_front.specs.LongGaps.{AreGaps};
+ghost use Rattle.sect_front.specs.{Front.{IsSpelled}, FaultPlaces.{token_span}, LongGaps.{AreGaps}};
 ghost use Rattle.sect_front.specs.Grammar.{tokens_of as tokens_by};
-ghost use Rattle.sect_places.specs.Spans.{AreInOrder};
-ghost use Rattle.sect_places.specs.Openings.{values_in, IsOpening};
+ghost use Rattle.sect_places.specs.{Spans.{AreInOrder}, Openings.{values_in, IsOpening}};
 
 use crate::range::TokenRange;
 use crate::words::{Sought, from_token};

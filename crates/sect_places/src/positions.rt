@@ -1,7 +1,6 @@
 //! Lines and columns of many places.
 
-ghost use Rattle.std.specs.Prelude.{◌≡◌, ◌≤◌, ◌<◌, ◌+◌, ◌^◌, ℕ, length, map, fold, IfOk};
-ghost use Rattle.std.specs.List.{All};
+ghost use Rattle.std.specs.{Prelude.{◌≡◌, ◌≤◌, ◌<◌, ◌+◌, ◌^◌, ℕ, length, map, fold, IfOk}, List.{All}};
 ghost use Rattle.sect_places.specs.Positions.{position};
 ghost use Rattle.sect_places.specs.steps.Passing.{next_position, IsAt};
 

@@ -4,8 +4,8 @@ ghost use Rattle.std.specs.Prelude.{◌≡◌, ◌+◌, ◌++◌, ℕ, List, IfO
 ghost use Rattle.sect_front.specs.Trees.{statement_of};
 ghost use Rattle.sect_types.specs.Sections.{sections_of};
 ghost use Rattle.sect_places.specs.ItemCounts.{items_in_statement, items_in_block};
-ghost use Rattle.sect_places.specs.SectionItems.{statement_section_items, block_section_items};
-ghost use Rattle.sect_places.specs.SectionItems.{threads_section_items, section_items_of, IsAtomicItem};
+ghost use Rattle.sect_places.specs.SectionItems.{statement_section_items, block_section_items, threads_section_items};
+ghost use Rattle.sect_places.specs.SectionItems.{section_items_of, IsAtomicItem};
 
 use crate::item_counts::{past, past_block, past_records, procedure_items};
 use sect_front::{Block, Statement, Thread};

@@ -1,15 +1,13 @@
 //! Which tokens one item of a tree has. The items before it are passed with their tokens, and no list is made.
 
 ghost use Rattle.std.specs.Prelude.{◌≡◌, ◌+◌, ◌*◌, ◌^◌, ◌<◌, ◌≤◌, ◌∷◌, IfOk, IfErr, Some, length, slice_get};
-ghost use Rattle.sect_front.specs.Grammar.{tokens_of};
-ghost use Rattle.sect_front.specs.Trees.{statement_of};
+ghost use Rattle.sect_front.specs.{Grammar.{tokens_of}, Trees.{statement_of}};
 ghost use Rattle.sect_types.specs.Items.{items};
 ghost use Rattle.sect_places.specs.Counts.{statement_count, block_count, record_count, procedure_count, thread_count};
 ghost use Rattle.sect_places.specs.Counts.{records_count, procedures_count, threads_count};
-ghost use Rattle.sect_places.specs.Ranges.{range, item_tokens};
-ghost use Rattle.sect_places.specs.Ranges.{statement_ranges, block_ranges, declarations_ranges, record_ranges};
-ghost use Rattle.sect_places.specs.Ranges.{procedure_ranges, thread_ranges, records_ranges, globals_ranges};
-ghost use Rattle.sect_places.specs.Ranges.{procedures_ranges, threads_ranges};
+ghost use Rattle.sect_places.specs.Ranges.{range, item_tokens, statement_ranges, block_ranges, declarations_ranges};
+ghost use Rattle.sect_places.specs.Ranges.{record_ranges, procedure_ranges, thread_ranges, records_ranges};
+ghost use Rattle.sect_places.specs.Ranges.{globals_ranges, procedures_ranges, threads_ranges};
 ghost use Rattle.sect_places.specs.steps.Seeking.{IsFound, IsBehind, parts_count, parts_ranges};
 
 use crate::range::TokenRange;

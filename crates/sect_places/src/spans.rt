@@ -1,10 +1,7 @@
 //! Where the tokens of a text stand.
 
-ghost use Rattle.std.specs.Prelude.{◌≡◌, IfOk, length, map};
-ghost use Rattle.std.specs.Fmt.{decimal};
-ghost use Rattle.sect_front.specs.Front.{IsSpelled};
-ghost use Rattle.sect_front.specs.FaultPlaces.{token_span};
-ghost use Rattle.sect_front.specs.Grammar.{tokens_of as tokens_by};
+ghost use Rattle.std.specs.{Prelude.{◌≡◌, IfOk, length, map}, Fmt.{decimal}};
+ghost use Rattle.sect_front.specs.{Front.{IsSpelled}, FaultPlaces.{token_span}, Grammar.{tokens_of as tokens_by}};
 ghost use Rattle.sect_front.specs.Spelling.{spelling_of};
 ghost use Rattle.sect_places.specs.Spans.{AreInOrder};
 ghost use Rattle.sect_places.specs.steps.Placing.{IsSpelledBy};

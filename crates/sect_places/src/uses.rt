@@ -1,14 +1,12 @@
 //! The names of a tree, in text order.
 
-ghost use Rattle.std.specs.Prelude.{◌≡◌, ◌+◌, ◌∷◌, IfOk, OnOk, List, length, filter};
-ghost use Rattle.std.specs.Prelude.{nat_eq};
+ghost use Rattle.std.specs.Prelude.{◌≡◌, ◌+◌, ◌∷◌, IfOk, OnOk, List, length, filter, nat_eq};
 ghost use Rattle.sect_front.specs.Trees.{statement_of};
 ghost use Rattle.sect_places.specs.ItemCounts.{items_in_statement, items_in_block, items_in_records};
 ghost use Rattle.sect_places.specs.ItemCounts.{items_in_procedure, items_in_procedures, items_in_thread};
-ghost use Rattle.sect_places.specs.NameUses.{used, kind_uses, operand_uses, primitive_uses, test_uses};
-ghost use Rattle.sect_places.specs.NameUses.{argument_uses, statement_uses, block_uses, declarations_uses};
-ghost use Rattle.sect_places.specs.NameUses.{hints_uses, records_uses, globals_uses, procedure_uses};
-ghost use Rattle.sect_places.specs.NameUses.{procedures_uses, thread_uses, threads_uses};
+ghost use Rattle.sect_places.specs.NameUses.{used, kind_uses, operand_uses, primitive_uses, test_uses, argument_uses};
+ghost use Rattle.sect_places.specs.NameUses.{statement_uses, block_uses, declarations_uses, hints_uses, records_uses};
+ghost use Rattle.sect_places.specs.NameUses.{globals_uses, procedure_uses, procedures_uses, thread_uses, threads_uses};
 ghost use Rattle.sect_places.specs.NameUses.{name_uses as name_uses_by};
 ghost use Rattle.sect_places.specs.steps.Wanting.{Passes, behind, nothing_kept};
 

@@ -2,15 +2,14 @@
 
 ghost use Rattle.std.specs.Prelude.{◌≡◌, ◌+◌, ◌*◌, ◌^◌, ◌<◌, ◌≤◌, ◌∷◌, OnOk, IfOk, length};
 ghost use Rattle.sect_front.specs.Trees.{statement_of};
-ghost use Rattle.sect_places.specs.Ranges.{range};
-ghost use Rattle.sect_places.specs.Counts.{primitive_count as primitive_count_by, locking_count as locking_count_by};
-ghost use Rattle.sect_places.specs.Counts.{operands_count as operands_count_by};
-ghost use Rattle.sect_places.specs.Counts.{parameters_count as parameters_count_by};
-ghost use Rattle.sect_places.specs.Counts.{statement_count, block_count, record_count, procedure_count, thread_count};
-ghost use Rattle.sect_places.specs.Counts.{records_count, procedures_count, threads_count};
-ghost use Rattle.sect_places.specs.Ranges.{statement_ranges, block_ranges, declarations_ranges, record_ranges};
+ghost use Rattle.sect_places.specs.Ranges.{range, statement_ranges, block_ranges, declarations_ranges, record_ranges};
 ghost use Rattle.sect_places.specs.Ranges.{procedure_ranges, thread_ranges, records_ranges, globals_ranges};
 ghost use Rattle.sect_places.specs.Ranges.{procedures_ranges, threads_ranges};
+ghost use Rattle.sect_places.specs.Counts.{primitive_count as primitive_count_by, locking_count as locking_count_by};
+ghost use Rattle.sect_places.specs.Counts.{operands_count as operands_count_by};
+ghost use Rattle.sect_places.specs.Counts.{parameters_count as parameters_count_by, statement_count, block_count};
+ghost use Rattle.sect_places.specs.Counts.{record_count, procedure_count, thread_count, records_count};
+ghost use Rattle.sect_places.specs.Counts.{procedures_count, threads_count};
 ghost use Rattle.sect_places.specs.steps.Adding.{Adds};
 
 use crate::range::TokenRange;

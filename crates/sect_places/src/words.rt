@@ -1,11 +1,8 @@
 //! The tokens of a part of a text, read off the text itself.
 
 ghost use Rattle.std.specs.Prelude.{◌≡◌, ◌+◌, ◌≤◌, ◌<◌, IfOk, length, map, take, drop};
-ghost use Rattle.sect_front.specs.Front.{IsSpelled};
-ghost use Rattle.sect_front.specs.FaultPlaces.{token_span};
-ghost use Rattle.sect_front.specs.Gaps.{after_gap as gap_of};
-ghost use Rattle.sect_front.specs.LongGaps.{AreGaps};
-ghost use Rattle.sect_front.specs.Grammar.{tokens_of as tokens_by};
+ghost use Rattle.sect_front.specs.{Front.{IsSpelled}, FaultPlaces.{token_span}, Gaps.{after_gap as gap_of}};
+ghost use Rattle.sect_front.specs.{LongGaps.{AreGaps}, Grammar.{tokens_of as tokens_by}};
 ghost use Rattle.sect_places.specs.Spans.{AreInOrder};
 ghost use Rattle.sect_places.specs.steps.Standing.{StandsFrom, IsSought};
 

@@ -1,40 +1,30 @@
 -- Laws of what grows and of what is moved on.
 use Rattle.std.proofs.Common.{◌≡◌, ℕ, ◌+◌, ◌<◌, ◌≤◌, ◌⊎◌, ◌↔◌, Bool, true, false, true≢false, ◌||◌, List, [], ◌∷◌}
-use Rattle.std.proofs.Common.{length, refl, sym, ap, ◌∙◌, subst, inl, inr, arith}
-use Rattle.std.proofs.Common.{◌++◌, take, get_or, ◌/◌, ◌%◌}
-use Rattle.std.specs.Prelude.{slice_index}
-use Rattle.std.specs.Int.{bit_at}
-use Rattle.std.proofs.lemmas.Bool.{cases_eq, cases_lt}
-use Rattle.std.proofs.lemmas.List.{take_more, take_all}
+use Rattle.std.proofs.Common.{length, refl, sym, ap, ◌∙◌, subst, inl, inr, arith, ◌++◌, take, get_or, ◌/◌, ◌%◌}
+use Rattle.std.proofs.{lemmas.Bool.{cases_eq, cases_lt}, lemmas.List.{take_more, take_all}}
+use Rattle.std.specs.{Prelude.{slice_index}, Int.{bit_at}}
 use Rattle.sect_lemmas.specs.Lists.{Has}
 use Rattle.sect_lemmas.proofs.Membership.{Has-cases}
-use Rattle.sect_points.specs.Sites.{HasSite, IsNext}
-use Rattle.sect_types.specs.declared.expansion.action.Value.{Value}
-use Rattle.sect_types.specs.declared.expansion.action.Value.TheVariants as value
-use Rattle.sect_types.specs.declared.expansion.action.Base.{Base}
-use Rattle.sect_types.specs.declared.expansion.action.Base.TheVariants as base
-use Rattle.sect_types.specs.declared.expansion.action.Action.{Action}
-use Rattle.sect_types.specs.declared.expansion.action.Action.TheVariants as action
-use Rattle.sect_points.specs.declared.holders.ThreadAction.{ThreadAction}
-use Rattle.sect_points.specs.declared.holders.Growth.{Growth}
-use Rattle.sect_points.specs.declared.holders.Growth.TheVariants as growth
-use Rattle.sect_points.specs.Sites.{InBoth}
-use Rattle.sect_points.specs.Partitions.{AreSlotsOfSites}
+use Rattle.sect_points.specs.{Sites.{HasSite, IsNext, InBoth}, declared.holders.ThreadAction.{ThreadAction}}
+use Rattle.sect_points.specs.{declared.holders.Growth.{Growth}, Partitions.{AreSlotsOfSites}}
 use Rattle.sect_points.specs.Flow.{Family, ValueHas, BaseHas, Within, Moved, family_of}
-use Rattle.sect_points.specs.Sets.{PointsToView, InSets, HasSet, SameHolders, Adds, sites_for, spread_to}
-use Rattle.sect_points.specs.Sets.{sets_room}
-use Rattle.sect_points.specs.steps.Solving.{FitsBase, FitsAction, AllFit}
-use Rattle.sect_points.specs.Sets.{AreBelow}
-use Rattle.sect_types.specs.declared.expansion.action.Field.{Field}
-use Rattle.sect_points.specs.steps.Marks.{IsUntouched, MissesBases, Marked, HasMark, Suits, Grows, Grown}
-use Rattle.sect_points.specs.steps.Marks.{grown, GrewBy, Reads, ReadsValue, ReadsBase, ReadsGrowth, IsBase, AreBases}
-use Rattle.sect_points.specs.steps.Marks.{MovedBy, IsGrowth, Handles, Covers, IsThere, IsBaseAlone, IsOnlyBase}
-use Rattle.sect_points.specs.steps.Marks.{IsStretch, IsGoing, IsLeft, IsSpan}
-use Rattle.sect_points.proofs.SetLaws.{both_false, one_true, adds_as, spread_below, spread_more, spread_all}
-use Rattle.sect_points.proofs.shared.SolvingLaws.{moved_more}
-use Rattle.sect_points.proofs.SolvingLaws.{moved_below, base_below, action_same}
-use Rattle.sect_points.specs.declared.holders.Holder.{Holder}
+use Rattle.sect_points.specs.Sets.{PointsToView, InSets, HasSet, SameHolders, Adds, sites_for, spread_to, sets_room}
+use Rattle.sect_points.specs.{Sets.{AreBelow}, declared.holders.Holder.{Holder}}
 use Rattle.sect_points.specs.declared.holders.Holder.TheVariants.{Local, Slot}
+use Rattle.sect_types.specs.{declared.expansion.action.Value.{Value}, declared.expansion.action.Base.{Base}}
+use Rattle.sect_types.specs.{declared.expansion.action.Action.{Action}, declared.expansion.action.Field.{Field}}
+use Rattle.sect_points.specs.steps.Solving.{FitsBase, FitsAction, AllFit}
+use Rattle.sect_points.specs.steps.Marks.{IsUntouched, MissesBases, Marked, HasMark, Suits, Grows, Grown, grown, GrewBy}
+use Rattle.sect_points.specs.steps.Marks.{Reads, ReadsValue, ReadsBase, ReadsGrowth, IsBase, AreBases, MovedBy}
+use Rattle.sect_points.specs.steps.Marks.{IsGrowth, Handles, Covers, IsThere, IsBaseAlone, IsOnlyBase, IsStretch}
+use Rattle.sect_points.specs.steps.Marks.{IsGoing, IsLeft, IsSpan}
+use Rattle.sect_points.proofs.SetLaws.{both_false, one_true, adds_as, spread_below, spread_more, spread_all}
+use Rattle.sect_points.proofs.SolvingLaws.{moved_below, base_below, action_same}
+use Rattle.sect_points.proofs.shared.SolvingLaws.{moved_more}
+use Rattle.sect_types.specs.declared.expansion.action.Value.TheVariants as value
+use Rattle.sect_types.specs.declared.expansion.action.Base.TheVariants as base
+use Rattle.sect_types.specs.declared.expansion.action.Action.TheVariants as action
+use Rattle.sect_points.specs.declared.holders.Growth.TheVariants as growth
 
 -- the places of sets that have the same
 pub place_back : (old new : PointsToView) (h : Holder) → SameHolders old new → HasSet new h → HasSet old h

@@ -1,24 +1,21 @@
 -- TextView are found by what they read.
 use Rattle.std.proofs.Common.{◌≡◌, inl, inr, ℕ, zero, suc, ◌+◌, ◌<◌, List, [], ◌∷◌, ◌++◌, length, get_or, set, take}
 use Rattle.std.proofs.Common.{refl, sym, ◌∙◌, ap, subst, arith}
+use Rattle.std.proofs.{lemmas.List.{take_more, get_or-set_other, get_or-set_same, length-set}, lemmas.Bool.{cases_eq}}
 use Rattle.std.specs.Prelude.{Result, Ok, Err, OnOk}
-use Rattle.std.proofs.lemmas.List.{take_more, get_or-set_other, get_or-set_same, length-set}
-use Rattle.std.proofs.lemmas.Bool.{cases_eq}
 use Rattle.sect_lemmas.specs.Lists.{Has}
 use Rattle.sect_lemmas.proofs.Membership.{Has-left, Has-right, Has-cases}
-use Rattle.sect_types.specs.declared.expansion.action.Value.{Value}
-use Rattle.sect_types.specs.declared.expansion.action.Value.TheVariants as value
-use Rattle.sect_types.specs.declared.expansion.action.Base.{Base}
-use Rattle.sect_types.specs.declared.expansion.action.Base.TheVariants as base
+use Rattle.sect_types.specs.{declared.expansion.action.Value.{Value}, declared.expansion.action.Base.{Base}}
 use Rattle.sect_types.specs.declared.expansion.action.Action.{Action}
-use Rattle.sect_types.specs.declared.expansion.action.Action.TheVariants as action
-use Rattle.sect_points.specs.declared.holders.Holder.TheVariants.{Local, Slot}
-use Rattle.sect_points.specs.declared.holders.Growth.{Growth}
-use Rattle.sect_points.specs.declared.holders.Growth.TheVariants as growth
+use Rattle.sect_points.specs.{declared.holders.Holder.TheVariants.{Local, Slot}, declared.holders.Growth.{Growth}}
 use Rattle.sect_points.specs.declared.holders.ThreadAction.{ThreadAction}
 use Rattle.sect_points.specs.steps.Marks.{Reads, ReadsValue, ReadsBase, ReadsGrowth, grown}
 use Rattle.sect_points.specs.steps.Readers.{local_row_of, field_row_of, row_of, value_rows, base_rows, rows_read}
 use Rattle.sect_points.specs.steps.Readers.{row_at, AreFiled, IsPut}
+use Rattle.sect_types.specs.declared.expansion.action.Value.TheVariants as value
+use Rattle.sect_types.specs.declared.expansion.action.Base.TheVariants as base
+use Rattle.sect_types.specs.declared.expansion.action.Action.TheVariants as action
+use Rattle.sect_points.specs.declared.holders.Growth.TheVariants as growth
 
 -- a statement that reads a local or a field has the row of it
 value_reads : (t : ℕ) (v : Value) (u x : ℕ) → ReadsValue t v (Local u x) → Has (value_rows t v) (local_row_of u x)

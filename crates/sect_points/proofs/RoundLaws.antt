@@ -1,29 +1,22 @@
 -- Rounds over the marks, until nothing grows.
-use Rattle.std.proofs.Common.{◌≡◌, ℕ, ◌+◌, ◌<◌, ◌≤◌, ◌↔◌, Bool, true, false, true≢false, ◌||◌, List, [], ◌∷◌}
-use Rattle.std.proofs.Common.{length, refl, sym, ap, ◌∙◌, subst, inl, inr, arith}
-use Rattle.std.proofs.Common.{◌++◌, take, get_or}
-use Rattle.std.proofs.lemmas.Bool.{cases_eq}
+use Rattle.std.proofs.Common.{◌≡◌, ℕ, ◌+◌, ◌<◌, ◌≤◌, ◌↔◌, Bool, true, false, true≢false, ◌||◌, List, [], ◌∷◌, length}
+use Rattle.std.proofs.{Common.{refl, sym, ap, ◌∙◌, subst, inl, inr, arith, ◌++◌, take, get_or}, lemmas.Bool.{cases_eq}}
 use Rattle.std.proofs.lemmas.List.{take_more, take_all}
 use Rattle.sect_lemmas.specs.Lists.{Has}
 use Rattle.sect_lemmas.proofs.Membership.{Has-cases, Has-get_or}
-use Rattle.sect_points.specs.Sites.{HasSite}
-use Rattle.sect_types.specs.declared.expansion.action.Action.{Action}
-use Rattle.sect_types.specs.declared.expansion.action.Action.TheVariants as action
-use Rattle.sect_points.specs.declared.holders.ThreadAction.{ThreadAction}
-use Rattle.sect_points.specs.declared.holders.Growth.TheVariants as growth
+use Rattle.sect_points.specs.{Sites.{HasSite}, declared.holders.ThreadAction.{ThreadAction}}
 use Rattle.sect_points.specs.Flow.{Within, Moved, IsLeastFlow}
-use Rattle.sect_points.specs.Sets.{PointsToView, InSets, IsEmpty, SameHolders}
-use Rattle.sect_points.specs.Sets.{sets_room}
+use Rattle.sect_points.specs.Sets.{PointsToView, InSets, IsEmpty, SameHolders, sets_room}
+use Rattle.sect_points.specs.{declared.holders.Holder.{Holder}, declared.holders.Holder.TheVariants.{Local, Slot}}
+use Rattle.sect_types.specs.declared.expansion.action.Action.{Action}
 use Rattle.sect_points.specs.steps.Solving.{AllFit}
-use Rattle.sect_points.specs.steps.Marks.{Marked, HasMark, IsMarkable, Suits, Grows, local_row}
-use Rattle.sect_points.specs.steps.Marks.{grown, IsBase}
-use Rattle.sect_points.specs.steps.Marks.{MovedBy}
+use Rattle.sect_points.specs.steps.Marks.{Marked, HasMark, IsMarkable, Suits, Grows, local_row, grown, IsBase, MovedBy}
 use Rattle.sect_points.specs.steps.Marks.{IsStretch, IsGoing, IsLeft, IsSpan}
 use Rattle.sect_points.proofs.SetLaws.{both_false, one_true}
-use Rattle.sect_points.proofs.shared.SolvingLaws.{moved_more}
-use Rattle.sect_points.specs.declared.holders.Holder.{Holder}
-use Rattle.sect_points.specs.declared.holders.Holder.TheVariants.{Local, Slot}
 use Rattle.sect_points.proofs.MarkLaws.{stretch_none, stretch_then, stretch_by, covers_all, fits_after}
+use Rattle.sect_points.proofs.shared.SolvingLaws.{moved_more}
+use Rattle.sect_types.specs.declared.expansion.action.Action.TheVariants as action
+use Rattle.sect_points.specs.declared.holders.Growth.TheVariants as growth
 
 -- the locals of the first t rows of marks and the first f fields had their turns
 pub record IsRounding (t f : ℕ) (list : List ThreadAction) (old now moved : PointsToView) (marks : Marked)

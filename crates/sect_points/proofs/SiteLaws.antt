@@ -1,16 +1,13 @@
 -- Laws of sets of sites.
 use Rattle.std.proofs.Common.{◌≡◌, ℕ, ◌+◌, ◌-◌, ◌*◌, ◌/◌, ◌%◌, ◌^◌, ◌<◌, ◌≤◌, ◌⊎◌, ◌↔◌, Bool, true, false, true≢false}
 use Rattle.std.proofs.Common.{List, length, max, min, get_or, refl, sym, ap, ◌∙◌, inl, inr, arith, slice_set, w64}
-use Rattle.std.specs.Prelude.{bit_or, bit_and}
-use Rattle.std.specs.Int.{bit_at, bit_not, trailing_zeros}
 use Rattle.std.proofs.lemmas.List.{get_or-set_same, get_or-set_other, length-set, get_or_past}
 use Rattle.std.proofs.lemmas.Bool.{cases_eq, cases_lt}
 use Rattle.std.proofs.lemmas.Nat.Bits.{bit_at_set_same, bit_at_set_other, bit_at_or, bit_at_and, bit_at_not}
 use Rattle.std.proofs.lemmas.Nat.Bits.{bit_at_above, bit_at-lt, bit_at-zero, bit_at-trailing_zeros}
-use Rattle.std.proofs.lemmas.Nat.{le_or_l, shr-shr}
-use Rattle.std.proofs.lemmas.List.Sums.{sum_by-set}
-use Rattle.sect_points.specs.declared.sites.TheConstants.{WORDS}
-use Rattle.sect_points.specs.Sites.{HasSite, InBoth, IsNext, room}
+use Rattle.std.proofs.{lemmas.Nat.{le_or_l, shr-shr}, lemmas.List.Sums.{sum_by-set}}
+use Rattle.std.specs.{Prelude.{bit_or, bit_and}, Int.{bit_at, bit_not, trailing_zeros}}
+use Rattle.sect_points.specs.{declared.sites.TheConstants.{WORDS}, Sites.{HasSite, InBoth, IsNext, room}}
 
 -- one more bit
 pub insert_site : (words : List ℕ) (site : ℕ) → site / 64 < length words → (other : ℕ)

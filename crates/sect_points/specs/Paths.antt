@@ -1,14 +1,12 @@
 -- Paths, and the sites whose objects they may denote.
-use Rattle.std.specs.Prelude.{◌≡◌, ℕ, List, [], ◌∷◌, ◌++◌}
+use Rattle.std.specs.{Prelude.{◌≡◌, ℕ, List, [], ◌∷◌, ◌++◌}, Coded.{Coded, code_by, coded×, coded_list}}
 use Rattle.std.proofs.Common.{refl, ap, ◌∙◌}
-use Rattle.std.specs.Coded.{Coded, code_by, coded×, coded_list}
 use Rattle.sect_types.specs.declared.expansion.action.Field.{Field}
+use Rattle.sect_points.specs.declared.holders.Variable.{Variable}
+use Rattle.sect_points.specs.{declared.holders.Variable.TheVariants.{Global, Local}, Flow.{Family}}
 use Rattle.sect_types.specs.contracts.expansion.action.Field as field
 use Rattle.sect_points.specs.declared.holders.Holder.TheVariants as holder
-use Rattle.sect_points.specs.declared.holders.Variable.{Variable}
-use Rattle.sect_points.specs.declared.holders.Variable.TheVariants.{Global, Local}
 use Rattle.sect_points.specs.contracts.holders.Variable as variable
-use Rattle.sect_points.specs.Flow.{Family}
 
 -- a variable, or a shorter path and one more field
 pub data PathView : Type 0 where

@@ -3,14 +3,10 @@
 ghost use Rattle.std.specs.Prelude.{◌≡◌, ◌↔◌, ◌<◌, ◌≤◌, ℕ, List, Some, length, slice_get, slice_index, IfSome, IfNone};
 ghost use Rattle.sect_lemmas.specs.Lists.{Has};
 ghost use Rattle.sect_points.specs.declared.holders.ThreadAction.{ThreadAction};
-ghost use Rattle.sect_points.specs.declared.holders.Holder.TheVariants.{Slot};
-ghost use Rattle.sect_points.specs.Sites.{HasSite};
-ghost use Rattle.sect_points.specs.Flow.{IsClosed};
-ghost use Rattle.sect_points.specs.Sets.{InSets};
-ghost use Rattle.sect_points.specs.Paths.{path_of, VariableHas, PathHas};
+ghost use Rattle.sect_points.specs.{declared.holders.Holder.TheVariants.{Slot}, Sites.{HasSite}, Flow.{IsClosed}};
+ghost use Rattle.sect_points.specs.{Sets.{InSets}, Paths.{path_of, VariableHas, PathHas}};
 ghost use Rattle.sect_points.specs.Partitions.{ClassesView, IsParted, HasClass};
-ghost use Rattle.sect_points.specs.Filled.{IsFilled, AreFilled, FieldHas};
-ghost use Rattle.sect_points.specs.PathClasses.{ArePathClasses, KeepsClasses};
+ghost use Rattle.sect_points.specs.{Filled.{IsFilled, AreFilled, FieldHas}, PathClasses.{ArePathClasses, KeepsClasses}};
 
 use crate::holders::Variable;
 use crate::rows::Rows;

@@ -2,9 +2,7 @@
 
 ghost use Rattle.std.specs.Prelude.{◌≡◌, length, IfOk, OnOk};
 ghost use Rattle.sect_types.specs.Programs.{sites_of};
-ghost use Rattle.sect_points.specs.Flow.{IsLeastFlow};
-ghost use Rattle.sect_points.specs.Sets.{InSets, IsEmpty, SameHolders};
-ghost use Rattle.sect_points.specs.Sets.{AreBelow};
+ghost use Rattle.sect_points.specs.{Flow.{IsLeastFlow}, Sets.{InSets, IsEmpty, SameHolders, AreBelow}};
 ghost use Rattle.sect_points.specs.Statements.{thread_actions, IsRoomFor};
 
 use crate::marks::Marks;

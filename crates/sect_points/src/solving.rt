@@ -1,19 +1,16 @@
 //! The least sets: what grew is moved on by the statements that read it, until nothing grows.
 
 ghost use Rattle.std.specs.Prelude.{◌≡◌, ◌↔◌, ◌≤◌, ◌<◌, ℕ, length, true, false};
-ghost use Rattle.sect_points.specs.Sites.{HasSite};
-ghost use Rattle.sect_points.specs.Flow.{ValueHas, BaseHas, Moved, Within, IsLeastFlow};
+ghost use Rattle.sect_points.specs.{Sites.{HasSite}, Flow.{ValueHas, BaseHas, Moved, Within, IsLeastFlow}};
 ghost use Rattle.sect_points.specs.Sets.{InSets, IsEmpty, HasSet, SameHolders, sets_room, sites_for, spread_to};
-ghost use Rattle.sect_points.specs.Sets.{AreSitesOf};
+ghost use Rattle.sect_points.specs.{Sets.{AreSitesOf, AreBelow}, declared.holders.ThreadAction.{ThreadAction}};
+ghost use Rattle.sect_points.specs.declared.holders.Holder.{Holder};
+ghost use Rattle.sect_points.specs.declared.holders.Holder.TheVariants.{Local, Slot};
 ghost use Rattle.sect_points.specs.steps.Solving.{FitsValue, FitsBase, FitsAction, AllFit};
-ghost use Rattle.sect_points.specs.Sets.{AreBelow};
 ghost use Rattle.sect_points.specs.steps.Marks.{Suits, Grows, AreBases, IsBase, MovedBy, IsOnlyBase, IsThere};
 ghost use Rattle.sect_points.specs.steps.Marks.{IsUntouched, grown, Covers, Handles, IsStretch, IsGoing, IsLeft};
 ghost use Rattle.sect_points.specs.steps.Marks.{IsSpan, HasMark, local_row};
 ghost use Rattle.sect_lemmas.specs.Lists.{Has};
-ghost use Rattle.sect_points.specs.declared.holders.ThreadAction.{ThreadAction};
-ghost use Rattle.sect_points.specs.declared.holders.Holder.{Holder};
-ghost use Rattle.sect_points.specs.declared.holders.Holder.TheVariants.{Local, Slot};
 
 use crate::holders::{Growth, Holder, ThreadAction};
 use crate::marks::{LOCAL_ROWS, Marks};

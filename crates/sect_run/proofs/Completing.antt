@@ -2,8 +2,7 @@
 use Rattle.std.proofs.Common.{◌≡◌, ℕ, sym, ◌∙◌, ap, subst}
 use Rattle.sect_types.specs.Whole.{SerialEndView, RunsWhole}
 use Rattle.sect_emit.specs.Compiled.{CompiledView, program_of}
-use Rattle.sect_world.specs.declared.world.Run.{Run}
-use Rattle.sect_world.specs.Runs.{IsRun, IsComplete, order_of}
+use Rattle.sect_world.specs.{declared.world.Run.{Run}, Runs.{IsRun, IsComplete, order_of}}
 use Rattle.sect_world.specs.Worlds.{WorldView, outcome_at}
 use Rattle.sect_run.specs.Ends.{IsWholeRun}
 

@@ -1,15 +1,11 @@
 -- Whose events the turns of a run are.
 use Rattle.std.proofs.Common.{◌<◌, ℕ, zero, suc, List, [], ◌∷◌, ◌++◌, length, sym, subst, arith}
-use Rattle.std.specs.Prelude.{drop, slice_index_or}
 use Rattle.std.proofs.lemmas.Option.{slice_get_within}
-use Rattle.sect_emit.specs.Compiled.{CompiledView}
-use Rattle.sect_emit.specs.State.{State, start}
-use Rattle.sect_world.specs.declared.event.Event.{Event}
-use Rattle.sect_world.specs.declared.turned.Turned.{Turned}
-use Rattle.sect_world.specs.declared.turned.Turned.TheVariants.{Moved, Waits, Ended}
-use Rattle.sect_world.specs.Runs.{RunsTo, IsRun}
-use Rattle.sect_world.specs.Worlds.{Does, threads_of}
-use Rattle.sect_world.specs.Laws.{StatesAreWellKept}
+use Rattle.std.specs.Prelude.{drop, slice_index_or}
+use Rattle.sect_emit.specs.{Compiled.{CompiledView}, State.{State, start}}
+use Rattle.sect_world.specs.{declared.event.Event.{Event}, declared.turned.Turned.{Turned}}
+use Rattle.sect_world.specs.{declared.turned.Turned.TheVariants.{Moved, Waits, Ended}, Runs.{RunsTo, IsRun}}
+use Rattle.sect_world.specs.{Worlds.{Does, threads_of}, Laws.{StatesAreWellKept}}
 use Rattle.sect_world.proofs.shared.LongerRuns.{leads_more}
 use Rattle.sect_run.specs.steps.Shares.{AreBelow, threads_in}
 

@@ -1,7 +1,6 @@
 -- Turns of one thread in a row.
 use Rattle.std.proofs.Common.{◌≡◌, ◌≤◌, ◌<◌, ◌+◌, ◌-◌, ℕ, zero, suc, Result, Ok, Err, OnErr, refl, arith}
-use Rattle.sect_world.specs.declared.turned.Turned.{Turned}
-use Rattle.sect_world.specs.Worlds.{WorldView, IsTurned}
+use Rattle.sect_world.specs.{declared.turned.Turned.{Turned}, Worlds.{WorldView, IsTurned}}
 use Rattle.sect_run.specs.steps.Turns.{MayGoOn, GoesOn, AreTurns, IsBrokenOff, AreBrokenOff}
 
 -- so many turns of thread t were made, at most as many as may be, and the last came to this

@@ -1,11 +1,8 @@
 -- What running a compiled program by threads comes to. `run_threads` cites it.
 use Rattle.std.specs.Prelude.{◌≡◌, ℕ}
 use Rattle.sect_types.specs.Whole.{SerialEndView, RunsWhole}
-use Rattle.sect_emit.specs.Compiled.{CompiledView, program_of}
-use Rattle.sect_emit.specs.State.{State}
-use Rattle.sect_world.specs.declared.world.Run.{Run}
-use Rattle.sect_world.specs.Runs.{IsRun, IsComplete, order_of}
-use Rattle.sect_world.specs.Worlds.{outcome_at}
+use Rattle.sect_emit.specs.{Compiled.{CompiledView, program_of}, State.{State}}
+use Rattle.sect_world.specs.{declared.world.Run.{Run}, Runs.{IsRun, IsComplete, order_of}, Worlds.{outcome_at}}
 
 -- a complete run of the compiled program with this fuel for each thread: the events lead from the start to a state in
 -- which all threads have ended, the outcome is that state's, and whole sections come to the same, one after another in

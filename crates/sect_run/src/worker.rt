@@ -1,8 +1,7 @@
 //! The workers.
 
 ghost use Rattle.std.specs.Prelude.{◌≡◌, ◌<◌, Some, IfOk, OnOk, length};
-ghost use Rattle.sect_run.specs.steps.Shares.{AreBelow, threads_in};
-ghost use Rattle.sect_run.specs.steps.Turns.{WereTurns};
+ghost use Rattle.sect_run.specs.steps.{Shares.{AreBelow, threads_in}, Turns.{WereTurns}};
 
 use crate::fault::RunFault;
 use crate::gate::{Gate, tell};

@@ -1,13 +1,11 @@
 -- Texts compared statement by statement.
-use Rattle.std.proofs.Common.{true≢false, ◌≡◌, ◌<◌, ◌≤◌, refl, sym, ap, ◌∙◌, arith, ℕ, suc, true, List, [], ◌∷◌}
-use Rattle.std.proofs.Common.{length, ◌-◌, take, drop, Some, slice_get, slice_index_or}
-use Rattle.std.proofs.lemmas.List.{take_all}
+use Rattle.std.proofs.Common.{true≢false, ◌≡◌, ◌<◌, ◌≤◌, refl, sym, ap, ◌∙◌, arith, ℕ, suc, true, List, [], ◌∷◌, length}
+use Rattle.std.proofs.{Common.{◌-◌, take, drop, Some, slice_get, slice_index_or}, lemmas.List.{take_all}}
 use Rattle.sect_types.specs.Statements.{TextView, Stop, Do, Choose, Loop, Section, joined, weight, statement_count}
-use Rattle.sect_types.specs.Texts.{step_then, statements_of}
-use Rattle.sect_types.specs.declared.expansion.text.Step.{Step}
-use Rattle.sect_types.specs.declared.expansion.text.Step.TheVariants as step
+use Rattle.sect_types.specs.{Texts.{step_then, statements_of}, declared.expansion.text.Step.{Step}}
 use Rattle.sect_serial.specs.steps.Rests.{is_stop, after_first, rest_of, AreFull}
 use Rattle.sect_serial.proofs.RestLemmas.{joined_step, rest_last, full_last}
+use Rattle.sect_types.specs.declared.expansion.text.Step.TheVariants as step
 
 -- the first statement alone
 abbrev first_alone : TextView → TextView

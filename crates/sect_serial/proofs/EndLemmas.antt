@@ -1,15 +1,11 @@
 -- The ends of states.
-use Rattle.std.proofs.Common.{◌≡◌, ◌<◌, ◌+◌, inl, inr, ℕ, true, false, List, [], ◌∷◌, ◌++◌, Some, sym, ap, subst}
-use Rattle.std.proofs.Common.{◌∙◌, arith, length, slice_get}
-use Rattle.std.proofs.lemmas.Bool.{cases_lt}
+use Rattle.std.proofs.Common.{◌≡◌, ◌<◌, ◌+◌, inl, inr, ℕ, true, false, List, [], ◌∷◌, ◌++◌, Some, sym, ap, subst, ◌∙◌}
+use Rattle.std.proofs.{Common.{arith, length, slice_get}, lemmas.Bool.{cases_lt}}
 use Rattle.sect_lemmas.specs.Lists.{Has}
-use Rattle.sect_lemmas.proofs.Membership.{Has-cases}
-use Rattle.sect_lemmas.proofs.Options.{some_injective}
-use Rattle.sect_types.specs.Programs.{ProgramView}
-use Rattle.sect_types.specs.Whole.{RunView, SerialEndView, RunsWhole, EndsAs}
+use Rattle.sect_lemmas.proofs.{Membership.{Has-cases}, Options.{some_injective}}
+use Rattle.sect_types.specs.{Programs.{ProgramView}, Whole.{RunView, SerialEndView, RunsWhole, EndsAs}}
 use Rattle.sect_types.proofs.shared.Endings.{whole_comes_to_one}
-use Rattle.sect_serial.specs.Comparing.{end_eq}
-use Rattle.sect_serial.specs.Exploring.{Found, ends_in}
+use Rattle.sect_serial.specs.{Comparing.{end_eq}, Exploring.{Found, ends_in}}
 use Rattle.sect_serial.specs.steps.States.{States, Leads, AreEnds, KeepsEnd}
 use Rattle.sect_serial.proofs.Keys.{key_left, key_last, keys_push, lookup_has, lookup_none}
 use Rattle.sect_serial.proofs.TellLemmas.{serial_end_tells}

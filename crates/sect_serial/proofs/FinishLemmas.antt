@@ -1,9 +1,7 @@
 -- The local code of all threads, run to its end.
 use Rattle.std.proofs.Common.{true≢false, ◌≡◌, ◌<◌, ◌+◌, ℕ, zero, suc, List, [], ◌∷◌, ◌++◌, Option, Some, None, refl}
-use Rattle.std.proofs.Common.{sym, ap, ◌∙◌, arith, map, slice_get, length, take}
-use Rattle.std.proofs.lemmas.List.{map-append}
-use Rattle.sect_types.specs.Programs.{ProgramView}
-use Rattle.sect_types.specs.declared.meaning.store.End.{End}
+use Rattle.std.proofs.{Common.{sym, ap, ◌∙◌, arith, map, slice_get, length, take}, lemmas.List.{map-append}}
+use Rattle.sect_types.specs.{Programs.{ProgramView}, declared.meaning.store.End.{End}}
 use Rattle.sect_types.specs.Whole.{FrameView, RunView, ahead, all_ahead, has_ended}
 use Rattle.sect_lemmas.proofs.Options.{mapped}
 use Rattle.sect_types.proofs.shared.RunningAhead.{get-all_ahead}

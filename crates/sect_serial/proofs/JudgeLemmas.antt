@@ -1,8 +1,7 @@
 -- A refusal excludes an end.
 use Rattle.std.proofs.Common.{true≢false, ◌≡◌, ◌+◌, ℕ, zero, suc, List, [], ◌∷◌, ◌++◌, Option, Some, None, true, refl}
 use Rattle.std.proofs.Common.{sym, ap, ◌∙◌, arith, map, slice_get}
-use Rattle.sect_types.specs.Programs.{ProgramView}
-use Rattle.sect_types.specs.declared.meaning.store.End.{End}
+use Rattle.sect_types.specs.{Programs.{ProgramView}, declared.meaning.store.End.{End}}
 use Rattle.sect_types.specs.Whole.{FrameView, RunView, SerialEndView, ahead, all_ahead, has_ended, run_section}
 use Rattle.sect_types.specs.Whole.{option_then, in_order, begun, EndsAs, RunsWhole}
 use Rattle.sect_serial.specs.Judging.{StopsAt, IsLeastLeft, HasSectionLeft}

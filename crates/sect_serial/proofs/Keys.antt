@@ -1,13 +1,9 @@
 -- Keys that are kept once, each with a value, in order.
 use Rattle.std.proofs.Common.{true≢false, ◌≡◌, ◌⊎◌, inl, inr, Bool, true, false, List, [], ◌∷◌, ◌++◌, Some, cond, refl}
-use Rattle.std.proofs.Common.{sym, ap, ◌∙◌, map, is_some, subst}
-use Rattle.std.specs.Bool.{Decides}
-use Rattle.std.specs.Map.{lookup}
-use Rattle.std.proofs.lemmas.List.{map-append}
-use Rattle.sect_lemmas.specs.Lists.{Has}
-use Rattle.sect_lemmas.specs.Distinct.{AreDistinct}
-use Rattle.sect_lemmas.proofs.Distinct.{distinct_push}
-use Rattle.sect_lemmas.proofs.Membership.{Has-left, Has-right}
+use Rattle.std.proofs.{Common.{sym, ap, ◌∙◌, map, is_some, subst}, lemmas.List.{map-append}}
+use Rattle.std.specs.{Bool.{Decides}, Map.{lookup}}
+use Rattle.sect_lemmas.specs.{Lists.{Has}, Distinct.{AreDistinct}}
+use Rattle.sect_lemmas.proofs.{Distinct.{distinct_push}, Membership.{Has-left, Has-right}}
 
 -- keys that are told apart by what g makes of them
 module _ {K L X : Type 0} (g : K → L) where

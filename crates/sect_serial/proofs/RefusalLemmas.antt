@@ -1,15 +1,14 @@
 -- A refusal that is due is the one that is given.
 use Rattle.std.proofs.Common.{◌≡◌, ℕ, List, [], ◌∷◌, ◌++◌, Option, Some, None, Result, Ok, Err, sym, ap, ◌∙◌, subst}
-use Rattle.std.proofs.Common.{arith, inl, inr}
-use Rattle.std.proofs.lemmas.Bool.{cases_lt}
+use Rattle.std.proofs.{Common.{arith, inl, inr}, lemmas.Bool.{cases_lt}}
 use Rattle.sect_types.specs.Programs.{ProgramView}
 use Rattle.sect_types.specs.Whole.{RunView, SerialEndView, run_section, option_then, in_order, begun, RunsWhole}
 use Rattle.sect_types.proofs.shared.Endings.{whole_comes_to_one}
 use Rattle.sect_lemmas.proofs.Options.{some_injective, none_or_some}
 use Rattle.sect_serial.specs.Judging.{StopsAt, IsLeastLeft, LeavesSections, IsDue, Judges, Gives, Refuses}
-use Rattle.sect_serial.specs.steps.Frames.{Finishes}
 use Rattle.sect_serial.specs.declared.whole.SerialFault.{SerialFault}
 use Rattle.sect_serial.specs.declared.whole.SerialFault.TheVariants.{Memory, NoSection, SectionsLeft}
+use Rattle.sect_serial.specs.steps.Frames.{Finishes}
 use Rattle.sect_serial.proofs.JudgeLemmas.{stops, no_end_at, no_end_left}
 
 -- an order stops at one number alone

@@ -3,11 +3,10 @@ use Rattle.std.proofs.Common.{true≢false, ◌≡◌, ℕ, zero, suc, Bool, tru
 use Rattle.std.proofs.Common.{Option, Some, None, refl, sym, ap, ◌∙◌, arith, slice_get, slice_set, ◌==◌}
 use Rattle.std.proofs.lemmas.Bool.Decides.{Decides-eqb}
 use Rattle.sect_types.specs.Statements.{TextView, Stop, Do, Choose, Loop, Section, joined}
-use Rattle.sect_types.specs.Texts.{step_then, statements_of}
-use Rattle.sect_types.specs.declared.expansion.text.Step.{Step}
-use Rattle.sect_types.specs.declared.expansion.text.Step.TheVariants as step
+use Rattle.sect_types.specs.{Texts.{step_then, statements_of}, declared.expansion.text.Step.{Step}}
 use Rattle.sect_serial.specs.steps.Rests.{rest_of, is_stop, AreFull, after_first, Begins}
 use Rattle.sect_types.proofs.shared.Joining.{joined_stop, joined_again}
+use Rattle.sect_types.specs.declared.expansion.text.Step.TheVariants as step
 
 -- a step comes first in what it begins
 pub joined_step : (s : Step) (k r : TextView) → joined (step_then s k) r ≡ step_then s (joined k r)

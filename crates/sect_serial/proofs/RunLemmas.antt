@@ -1,17 +1,14 @@
 -- The run of a program by whole sections.
-use Rattle.std.proofs.Common.{true≢false, ◌≡◌, ◌<◌, ◌+◌, ℕ, ℤ, zero, suc, List, [], ◌∷◌, ◌++◌, Option, Some, None}
-use Rattle.std.proofs.Common.{Bool, true, false, refl, sym, ap, subst, ◌∙◌, arith, if◌then◌else◌, length, drop, add-one}
+use Rattle.std.proofs.Common.{true≢false, ◌≡◌, ◌<◌, ◌+◌, ℕ, ℤ, zero, suc, List, [], ◌∷◌, ◌++◌, Option, Some, None, Bool}
+use Rattle.std.proofs.Common.{true, false, refl, sym, ap, subst, ◌∙◌, arith, if◌then◌else◌, length, drop, add-one}
 use Rattle.std.proofs.Common.{append_assoc, length-append, slice_get, slice_set, slice_index_or}
 use Rattle.sect_types.specs.Statements.{TextView, Stop, Do, Choose, Loop, Section}
-use Rattle.sect_types.specs.Programs.{ProgramView, environment_at}
-use Rattle.sect_types.specs.Sound.{IsSound}
-use Rattle.sect_types.specs.declared.declarations.types.ValueType.{ValueType}
-use Rattle.sect_types.specs.Store.{StoreView}
-use Rattle.sect_lemmas.specs.Lists.{put_at}
-use Rattle.sect_types.specs.Meaning.{WorkView}
+use Rattle.sect_types.specs.{Programs.{ProgramView, environment_at}, Sound.{IsSound}}
+use Rattle.sect_types.specs.{declared.declarations.types.ValueType.{ValueType}, Store.{StoreView}, Meaning.{WorkView}}
 use Rattle.sect_types.specs.Whole.{FrameView, RunView, settled, first_work, first_frames, ahead, has_ended}
 use Rattle.sect_types.specs.Whole.{begins_section, section_by, section_in, section_of_thread, run_section, option_then}
 use Rattle.sect_types.specs.Whole.{in_order}
+use Rattle.sect_lemmas.specs.Lists.{put_at}
 use Rattle.sect_serial.specs.steps.Frames.{SectionLeaves, HasNone, Ran, RanSection, IsReady, AreReady}
 use Rattle.sect_lemmas.proofs.Changed.{set_put, get_there}
 use Rattle.sect_serial.proofs.SoundLemmas.{ready_settled}

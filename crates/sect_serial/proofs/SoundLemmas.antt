@@ -1,29 +1,21 @@
 -- What a step keeps, and what it takes.
 use Rattle.std.proofs.Common.{true≢false, ◌≡◌, ◌<◌, ◌≤◌, ℕ, ℤ, zero, suc, Option, Some, None, Bool, true, false}
 use Rattle.std.proofs.Common.{is_some, refl, sym, ap, subst, ◌∙◌, arith, if◌then◌else◌}
-use Rattle.sect_types.specs.declared.expansion.action.Action.{Action}
-use Rattle.sect_types.specs.declared.expansion.action.Action.TheVariants as action
-use Rattle.sect_types.specs.Environments.{Environment}
-use Rattle.sect_types.specs.Statements.{TextView, Stop, Do, Choose, Loop, Section, joined}
-use Rattle.sect_types.specs.Programs.{ProgramView}
-use Rattle.sect_types.specs.Sound.{IsSound, StandsRight}
-use Rattle.sect_types.specs.declared.meaning.store.Datum.TheVariants.{Number}
-use Rattle.sect_types.specs.declared.meaning.store.Fault.{Fault}
-use Rattle.sect_types.specs.declared.meaning.store.Fault.TheVariants as fault
-use Rattle.sect_types.specs.declared.meaning.store.End.{End}
+use Rattle.sect_types.specs.{declared.expansion.action.Action.{Action}, Environments.{Environment}}
+use Rattle.sect_types.specs.{Statements.{TextView, Stop, Do, Choose, Loop, Section, joined}, Programs.{ProgramView}}
+use Rattle.sect_types.specs.{Sound.{IsSound, StandsRight}, declared.meaning.store.Datum.TheVariants.{Number}}
+use Rattle.sect_types.specs.{declared.meaning.store.Fault.{Fault}, declared.meaning.store.End.{End}}
 use Rattle.sect_types.specs.Store.{ObjectView, StoreView}
 use Rattle.sect_types.specs.Meaning.{WorkView, Came, Went, Fell, Unchanged, assigned, value_datum, integer_of}
 use Rattle.sect_types.specs.Meaning.{result_of, fits, computed, done, paid, one, looks, found_at, Next, On, Off, going}
 use Rattle.sect_types.specs.Meaning.{taken, next, is_true, begins_step}
 use Rattle.sect_types.specs.Whole.{Left, Broken, body_of, FrameView, settled, failed, frame_after, begins_section}
 use Rattle.sect_types.specs.Whole.{has_ended, is_standing, ahead}
-use Rattle.sect_serial.specs.steps.Moves.{Stepped, stepped, stepped_by}
-use Rattle.sect_serial.specs.steps.Rests.{is_stop}
-use Rattle.sect_serial.specs.steps.Frames.{IsReady}
+use Rattle.sect_serial.specs.steps.{Moves.{Stepped, stepped, stepped_by}, Rests.{is_stop}, Frames.{IsReady}}
 use Rattle.sect_types.proofs.shared.RunningAhead.{LeavesFuel, done_leaves, ahead_after_local}
-use Rattle.sect_types.proofs.shared.BodySteps.{left_after, step_keeps}
-use Rattle.sect_types.proofs.shared.Joining.{sound_joined}
-use Rattle.sect_types.proofs.shared.Starts.{settled_text}
+use Rattle.sect_types.proofs.shared.{BodySteps.{left_after, step_keeps}, Joining.{sound_joined}, Starts.{settled_text}}
+use Rattle.sect_types.specs.declared.expansion.action.Action.TheVariants as action
+use Rattle.sect_types.specs.declared.meaning.store.Fault.TheVariants as fault
 
 -- what follows a step is sound
 pub sound_stepped : (e : Environment) (b : Bool) (p : ProgramView) (t : ℕ) (k : TextView) (found : Option ObjectView)

@@ -1,29 +1,21 @@
 -- States that are kept while outcomes are sought, and all that whole sections lead to.
 use Rattle.std.proofs.Common.{◌≡◌, ◌<◌, ◌≤◌, ◌+◌, ◌⊎◌, inl, inr, ℕ, zero, suc, Bool, true, false, List, [], ◌∷◌, ◌++◌}
 use Rattle.std.proofs.Common.{Option, Some, None, refl, sym, ap, subst, ◌∙◌, arith, length, map, slice_get}
-use Rattle.std.proofs.Common.{length-append}
-use Rattle.std.proofs.lemmas.Bool.{cases_lt}
-use Rattle.std.proofs.lemmas.List.{length-map}
+use Rattle.std.proofs.{Common.{length-append}, lemmas.Bool.{cases_lt}, lemmas.List.{length-map}}
 use Rattle.std.proofs.lemmas.Option.{slice_get_past, slice_get_within}
-use Rattle.sect_lemmas.specs.Lists.{Has}
-use Rattle.sect_lemmas.specs.Distinct.{AreDistinct}
-use Rattle.sect_lemmas.proofs.Distinct.{distinct_none}
-use Rattle.sect_lemmas.proofs.Membership.{Has-cases, Has-slice_get, Has-unmap}
-use Rattle.sect_lemmas.proofs.Options.{some_injective, none_or_some}
-use Rattle.sect_lemmas.proofs.Places.{Has-index, told_at}
+use Rattle.sect_lemmas.specs.{Lists.{Has}, Distinct.{AreDistinct}}
+use Rattle.sect_lemmas.proofs.{Distinct.{distinct_none}, Membership.{Has-cases, Has-slice_get, Has-unmap}}
+use Rattle.sect_lemmas.proofs.{Options.{some_injective, none_or_some}, Places.{Has-index, told_at}}
 use Rattle.sect_types.specs.Programs.{ProgramView}
 use Rattle.sect_types.specs.Whole.{RunView, SerialEndView, begun, in_order, run_section, section_of_thread, option_then}
 use Rattle.sect_types.specs.Whole.{RunsWhole, EndsAs}
-use Rattle.sect_serial.specs.Comparing.{run_eq}
-use Rattle.sect_serial.specs.Exploring.{Found, HasMoreThan, HasStates, IsReached, AreOutcomes}
+use Rattle.sect_serial.specs.{Comparing.{run_eq}, Exploring.{Found, HasMoreThan, HasStates, IsReached, AreOutcomes}}
 use Rattle.sect_serial.specs.Trimming.{trimmed}
 use Rattle.sect_serial.specs.steps.Frames.{AreReady}
 use Rattle.sect_serial.specs.steps.States.{States, states_in, Leads, AreStates, Grows, GoesOn, Keeps, AreAll, AreEnds}
 use Rattle.sect_serial.specs.steps.States.{has_state}
-use Rattle.sect_serial.proofs.Keys.{key_left, key_last, keys_push, lookup_has, lookup_none}
-use Rattle.sect_serial.proofs.RunLemmas.{in_order_more}
-use Rattle.sect_serial.proofs.TellLemmas.{run_tells}
-use Rattle.sect_serial.proofs.Trimmed.{trimmed_section, trimmed_ends}
+use Rattle.sect_serial.proofs.{Keys.{key_left, key_last, keys_push, lookup_has, lookup_none}, RunLemmas.{in_order_more}}
+use Rattle.sect_serial.proofs.{TellLemmas.{run_tells}, Trimmed.{trimmed_section, trimmed_ends}}
 
 -- a section more of a thread leads on
 pub leads_on : (p : ProgramView) (fuel t : ℕ) (order : List ℕ) (s r : RunView) → Leads p fuel order s

@@ -1,21 +1,14 @@
 -- The tests of states and ends tell equality.
-use Rattle.std.proofs.Common.{rules, ◌≡◌, ◌&&◌, Bool, true, false, List, [], ◌∷◌, map, refl, sym, ap, ◌∙◌}
-use Rattle.std.specs.Bool.{Decides}
-use Rattle.std.specs.Ordering.{int_eq}
-use Rattle.std.specs.Cmp.{unsigned_Decides, signed_Decides}
-use Rattle.std.specs.Cmp.Lexicographic.{pointwise, pointwise_decides}
-use Rattle.std.specs.Option.{option_eq}
-use Rattle.std.proofs.Common.{Option, Some, None}
-use Rattle.sect_types.specs.Store.{ObjectView, StoreView}
-use Rattle.sect_types.specs.Meaning.{WorkView}
-use Rattle.sect_types.specs.Whole.{FrameView, RunView, SerialEndView}
-use Rattle.sect_types.specs.declared.meaning.store.ObjectName.{ObjectName}
+use Rattle.std.proofs.Common.{rules, ◌≡◌, ◌&&◌, Bool, true, false, List, [], ◌∷◌, map, refl, sym, ap, ◌∙◌, Option, Some}
+use Rattle.std.proofs.Common.{None}
+use Rattle.std.specs.{Bool.{Decides}, Ordering.{int_eq}, Cmp.{unsigned_Decides, signed_Decides}}
+use Rattle.std.specs.{Cmp.Lexicographic.{pointwise, pointwise_decides}, Option.{option_eq}}
+use Rattle.sect_types.specs.{Store.{ObjectView, StoreView}, Meaning.{WorkView}}
+use Rattle.sect_types.specs.{Whole.{FrameView, RunView, SerialEndView}, declared.meaning.store.ObjectName.{ObjectName}}
 use Rattle.sect_types.specs.declared.meaning.store.ObjectName.TheVariants.{Global, Made}
 use Rattle.sect_types.specs.declared.meaning.store.Datum.{Datum}
 use Rattle.sect_types.specs.declared.meaning.store.Datum.TheVariants.{Number, Null, Refers}
-use Rattle.sect_types.specs.declared.meaning.store.Fault.{Fault}
-use Rattle.sect_types.specs.declared.meaning.store.Fault.TheVariants as fault
-use Rattle.sect_types.specs.declared.meaning.store.End.{End}
+use Rattle.sect_types.specs.{declared.meaning.store.Fault.{Fault}, declared.meaning.store.End.{End}}
 use Rattle.sect_types.specs.declared.meaning.store.End.TheVariants.{Done, Failed}
 use Rattle.sect_types.specs.contracts.meaning.store.ObjectNamePartialEq.TheImpl.{ghosts as the_name_eq}
 use Rattle.sect_types.specs.contracts.meaning.store.DatumPartialEq.TheImpl.{ghosts as the_datum_eq}
@@ -24,6 +17,7 @@ use Rattle.sect_types.specs.contracts.meaning.store.EndPartialEq.TheImpl.{ghosts
 use Rattle.sect_store.specs.Comparing.{object_eq, objects_eq, store_eq, far_eq}
 use Rattle.sect_serial.specs.Trimming.{in_use, trimmed_frame, trimmed}
 use Rattle.sect_serial.specs.Comparing.{text_eq, text_tells, frame_eq, run_eq, end_eq}
+use Rattle.sect_types.specs.declared.meaning.store.Fault.TheVariants as fault
 
 both : {P Q R : Type 0} (x y : Bool) → Decides x P → Decides y Q → (P → Q → R) → (R → P) → (R → Q)
     → Decides (x && y) R

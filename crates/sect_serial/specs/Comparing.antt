@@ -1,31 +1,25 @@
 -- When texts, threads, runs and their ends are equal, and how they are hashed.
-use Rattle.std.specs.Prelude.{◌≡◌, ◌&&◌, ◌++◌, ℕ, ℤ, Bool, true, false, List, [], nat_eq}
-use Rattle.std.specs.Option.{option_eq}
-use Rattle.std.specs.Bool.{Decides}
-use Rattle.std.specs.Ordering.{on, eq_of_both, int_eq}
+use Rattle.std.specs.{Prelude.{◌≡◌, ◌&&◌, ◌++◌, ℕ, ℤ, Bool, true, false, List, [], nat_eq}, Option.{option_eq}}
+use Rattle.std.specs.{Bool.{Decides}, Ordering.{on, eq_of_both, int_eq}}
 use Rattle.std.specs.Cmp.{IsEquivalence, and_equiv, on_equiv, nat_eq_equiv, int_eq_equiv, unsigned_Decides}
-use Rattle.std.specs.Cmp.{signed_Decides}
-use Rattle.std.specs.Cmp.Lexicographic.{pointwise, lists_equiv, options_equiv}
-use Rattle.std.specs.Hash as fed
+use Rattle.std.specs.{Cmp.{signed_Decides}, Cmp.Lexicographic.{pointwise, lists_equiv, options_equiv}}
 use Rattle.std.specs.Hash.{HashWrites, Alike, slice, and-Alike, on_Alike, items_Alike}
 use Rattle.std.proofs.Common.{refl, ap, sym, ◌∙◌}
+use Rattle.std.specs.Hash as fed
 use base.Stored.{Gv, gnil, gnum, gcons}
-use Rattle.sect_types.specs.Coding.{statements_code}
-use Rattle.sect_types.specs.Statements.{TextView}
-use Rattle.sect_types.specs.Whole.{FrameView, RunView, SerialEndView}
+use Rattle.sect_types.specs.{Coding.{statements_code}, Statements.{TextView}, Whole.{FrameView, RunView, SerialEndView}}
 use Rattle.sect_types.specs.declared.meaning.store.End.{End}
 use Rattle.sect_types.specs.contracts.meaning.store.EndPartialEq.TheImpl.{ghosts as the_end_eq}
 use Rattle.sect_types.specs.contracts.meaning.store.EndEq.TheImpl.Laws.{laws-law as the_end_laws}
 use Rattle.sect_types.specs.contracts.meaning.store.EndHash.TheImpl.{ghosts as the_end_hash}
 use Rattle.sect_types.specs.contracts.meaning.store.EndHash.TheImpl.Laws.{respects_eq-law as the_end_alike}
-use Rattle.sect_store.specs.Comparing.{store_eq, store_fed, store_equivalence, store_alike}
-use Rattle.sect_store.specs.Comparing.{far_eq, far_equivalence}
 use Rattle.sect_types.specs.declared.meaning.store.Datum.{Datum}
 use Rattle.sect_types.specs.contracts.meaning.store.DatumPartialEq.TheImpl.{ghosts as the_datum_eq}
 use Rattle.sect_types.specs.contracts.meaning.store.DatumEq.TheImpl.Laws.{laws-law as the_datum_laws}
 use Rattle.sect_types.specs.contracts.meaning.store.DatumHash.TheImpl.{ghosts as the_datum_hash}
 use Rattle.sect_types.specs.contracts.meaning.store.DatumHash.TheImpl.Laws.{respects_eq-law as the_datum_alike}
 use Rattle.sect_types.specs.Meaning.{WorkView}
+use Rattle.sect_store.specs.Comparing.{store_eq, store_fed, store_equivalence, store_alike, far_eq, far_equivalence}
 use Rattle.sect_serial.specs.Trimming.{in_use}
 
 -- trees of numbers

@@ -1,11 +1,8 @@
 -- All outcomes of a program. `outcomes` cites it.
 use Rattle.std.specs.Prelude.{◌≡◌, ◌≤◌, ◌+◌, ◌↔◌, ⊤, ℕ, List, Some, length, map}
-use Rattle.sect_lemmas.specs.Lists.{Has}
-use Rattle.sect_lemmas.specs.Distinct.{AreDistinct}
-use Rattle.sect_types.specs.Programs.{ProgramView}
-use Rattle.sect_types.specs.Whole.{RunView, SerialEndView, begun, in_order, RunsWhole}
-use Rattle.sect_serial.specs.Trimming.{trimmed}
-use Rattle.sect_serial.specs.declared.exploring.OutcomesFault.{OutcomesFault}
+use Rattle.sect_lemmas.specs.{Lists.{Has}, Distinct.{AreDistinct}}
+use Rattle.sect_types.specs.{Programs.{ProgramView}, Whole.{RunView, SerialEndView, begun, in_order, RunsWhole}}
+use Rattle.sect_serial.specs.{Trimming.{trimmed}, declared.exploring.OutcomesFault.{OutcomesFault}}
 use Rattle.sect_serial.specs.declared.exploring.OutcomesFault.TheVariants.{Memory, TooManyStates}
 
 -- ends, each with an order of sections that gives it

@@ -3,8 +3,7 @@ use Rattle.std.specs.Prelude.{◌≡◌, ◌<◌, ⊤, ℕ, false, List, ◌∷�
 use Rattle.std.specs.Prelude.{slice_get}
 use Rattle.sect_types.specs.Programs.{ProgramView}
 use Rattle.sect_types.specs.Whole.{FrameView, RunView, SerialEndView, ahead, has_ended, run_section, in_order, begun}
-use Rattle.sect_types.specs.Whole.{RunsWhole}
-use Rattle.sect_types.specs.declared.meaning.store.End.{End}
+use Rattle.sect_types.specs.{Whole.{RunsWhole}, declared.meaning.store.End.{End}}
 use Rattle.sect_store.specs.Outcomes.{OutcomeView}
 use Rattle.sect_serial.specs.declared.whole.SerialFault.{SerialFault}
 use Rattle.sect_serial.specs.declared.whole.SerialFault.TheVariants.{Memory, NoSection, SectionsLeft}

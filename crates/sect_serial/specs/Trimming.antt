@@ -1,7 +1,6 @@
 -- What tells states between sections apart. `outcomes` cites it.
 use Rattle.std.specs.Prelude.{List, [], Option, Some, None, map}
-use Rattle.sect_types.specs.declared.meaning.store.End.{End}
-use Rattle.sect_types.specs.declared.meaning.store.Datum.{Datum}
+use Rattle.sect_types.specs.{declared.meaning.store.End.{End}, declared.meaning.store.Datum.{Datum}}
 use Rattle.sect_types.specs.Whole.{FrameView, RunView}
 
 -- the locals that are still looked at: none of a thread that has ended

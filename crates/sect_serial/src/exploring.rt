@@ -4,8 +4,8 @@
 
 ghost use Rattle.std.specs.Prelude.{◌≡◌, ◌<◌, length, MatchResult};
 ghost use Rattle.sect_serial.specs.Exploring.{Explores, IsUnlisted};
-ghost use Rattle.sect_serial.specs.steps.States.{AreStates, AreAll, AreEnds, IsFollowed, Keeps, Leads};
 ghost use Rattle.sect_serial.specs.declared.exploring.OutcomesFault.TheVariants.{Memory};
+ghost use Rattle.sect_serial.specs.steps.States.{AreStates, AreAll, AreEnds, IsFollowed, Keeps, Leads};
 
 use crate::run::Run;
 use crate::states::{Ends, Order, Outcomes, States};

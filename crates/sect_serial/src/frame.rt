@@ -1,13 +1,10 @@
 //! A thread between its sections.
 
-ghost use Rattle.std.specs.Prelude.{◌≡◌, true, false, IfOk, OnOk};
-ghost use Rattle.sect_types.specs.Programs.{environment_at};
-ghost use Rattle.sect_types.specs.Sound.{IsSound};
+ghost use Rattle.std.specs.{Prelude.{◌≡◌, true, false, IfOk, OnOk}, Cmp.{partial_equiv_from_equiv}};
+ghost use Rattle.sect_types.specs.{Programs.{environment_at}, Sound.{IsSound}};
 ghost use Rattle.sect_types.specs.Whole.{settled, first_work, is_standing, ahead, body_of};
 ghost use Rattle.sect_store.specs.Working.{left_with};
-ghost use Rattle.std.specs.Cmp.{partial_equiv_from_equiv};
-ghost use Rattle.sect_serial.specs.Comparing.{frame_eq, frame_fed, frame_equivalence, frame_alike};
-ghost use Rattle.sect_serial.specs.Trimming.{in_use};
+ghost use Rattle.sect_serial.specs.{Comparing.{frame_eq, frame_fed, frame_equivalence, frame_alike}, Trimming.{in_use}};
 ghost use Rattle.sect_serial.specs.steps.Frames.{Ran, IsReady};
 
 use crate::rest::Rest;

@@ -1,10 +1,8 @@
 //! What is still to run.
 
-ghost use Rattle.std.specs.Prelude.{◌≡◌, option_copied, OnOk, IfOk};
-ghost use Rattle.std.specs.Cmp.{partial_equiv_from_equiv};
+ghost use Rattle.std.specs.{Prelude.{◌≡◌, option_copied, OnOk, IfOk}, Cmp.{partial_equiv_from_equiv}};
 ghost use Rattle.sect_serial.specs.Comparing.{text_eq, text_equivalence};
-ghost use Rattle.sect_types.specs.Statements.{joined};
-ghost use Rattle.sect_types.specs.Texts.{statements_of};
+ghost use Rattle.sect_types.specs.{Statements.{joined}, Texts.{statements_of}};
 ghost use Rattle.sect_serial.specs.steps.Rests.{Begins, after_first, is_stop, rest_of, AreFull};
 
 use crate::same::{Statements, same_statements};

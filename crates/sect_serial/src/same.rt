@@ -1,8 +1,7 @@
 //! When statements are the same.
 
 ghost use Rattle.std.specs.Prelude.{◌≡◌, ◌↔◌, IsTrue, option_copied};
-ghost use Rattle.sect_types.specs.Statements.{Stop};
-ghost use Rattle.sect_types.specs.Texts.{step_then};
+ghost use Rattle.sect_types.specs.{Statements.{Stop}, Texts.{step_then}};
 ghost use Rattle.sect_serial.specs.steps.Rests.{Begins, after_first};
 
 use crate::rest::{Part, Rest};

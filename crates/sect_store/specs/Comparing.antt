@@ -1,16 +1,14 @@
 -- How objects and stores are compared and hashed, and how far threads are: part by part.
-use Rattle.std.specs.Prelude.{◌≡◌, ◌++◌, ℕ, Bool, List, nat_eq}
-use Rattle.std.specs.Ordering.{on, eq_of_both, int_eq}
+use Rattle.std.specs.{Prelude.{◌≡◌, ◌++◌, ℕ, Bool, List, nat_eq}, Ordering.{on, eq_of_both, int_eq}}
 use Rattle.std.specs.Cmp.{IsEquivalence, and_equiv, on_equiv, nat_eq_equiv, int_eq_equiv}
 use Rattle.std.specs.Cmp.Lexicographic.{pointwise, lists_equiv}
-use Rattle.std.specs.Hash as fed
 use Rattle.std.specs.Hash.{HashWrites, Alike, slice, and-Alike, on_Alike, items_Alike}
-use Rattle.sect_types.specs.Store.{ObjectView, StoreView}
-use Rattle.sect_types.specs.Meaning.{WorkView}
+use Rattle.sect_types.specs.{Store.{ObjectView, StoreView}, Meaning.{WorkView}}
 use Rattle.sect_types.specs.contracts.meaning.store.DatumPartialEq.TheImpl.{ghosts as the_datum_eq}
 use Rattle.sect_types.specs.contracts.meaning.store.DatumEq.TheImpl.Laws.{laws-law as the_datum_laws}
 use Rattle.sect_types.specs.contracts.meaning.store.DatumHash.TheImpl.{ghosts as the_datum_hash}
 use Rattle.sect_types.specs.contracts.meaning.store.DatumHash.TheImpl.Laws.{respects_eq-law as the_datum_alike}
+use Rattle.std.specs.Hash as fed
 
 abbrev pub site_of : ObjectView → ℕ
 site_of o = o.site

@@ -1,7 +1,6 @@
 -- What a run has come to. `Outcome` is seen so; `put_outcome` cites it.
 use Rattle.std.specs.Prelude.{ℕ, ℤ, List, Option}
-use Rattle.sect_types.specs.declared.meaning.store.End.{End}
-use Rattle.sect_types.specs.Store.{StoreView}
+use Rattle.sect_types.specs.{declared.meaning.store.End.{End}, Store.{StoreView}}
 
 -- how each thread has ended, by number, if it has; the threads whose sections ran, in their order; the output; the
 -- store

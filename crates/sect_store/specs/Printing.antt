@@ -1,15 +1,11 @@
 -- An outcome as it is printed. `put_outcome`, `Printer` and `put_object_name` cite it.
 use Rattle.std.specs.Prelude.{ℕ, ℤ, ◌+◌, List, [], ◌∷◌, ◌++◌, Option, Some, None, slice_index_or, codes}
-use Rattle.std.specs.List.{flat_map}
-use Rattle.std.specs.Fmt.{decimal, signed_decimal}
-use Rattle.sect_types.specs.Programs.{ProgramView, sites_of}
-use Rattle.sect_types.specs.Sight.{names_of_globals, all_fields}
-use Rattle.sect_types.specs.declared.meaning.store.End.{End}
-use Rattle.sect_types.specs.declared.meaning.store.ObjectName.{ObjectName}
+use Rattle.std.specs.{List.{flat_map}, Fmt.{decimal, signed_decimal}}
+use Rattle.sect_types.specs.{Programs.{ProgramView, sites_of}, Sight.{names_of_globals, all_fields}}
+use Rattle.sect_types.specs.{declared.meaning.store.End.{End}, declared.meaning.store.ObjectName.{ObjectName}}
 use Rattle.sect_types.specs.declared.meaning.store.ObjectName.TheVariants.{Global, Made}
 use Rattle.sect_types.specs.declared.meaning.store.Datum.{Datum}
-use Rattle.sect_types.specs.declared.meaning.store.Datum.TheVariants.{Number, Null, Refers}
-use Rattle.sect_types.specs.Endings.{end_text}
+use Rattle.sect_types.specs.{declared.meaning.store.Datum.TheVariants.{Number, Null, Refers}, Endings.{end_text}}
 use Rattle.sect_types.specs.Store.{ObjectView, StoreView}
 use Rattle.sect_store.specs.Outcomes.{OutcomeView}
 

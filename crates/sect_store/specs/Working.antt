@@ -1,10 +1,7 @@
 -- What a call does to what a thread works with. `Work::test`, `Work::deliver`, `act` and `Outcome` cite it.
 use Rattle.std.specs.Prelude.{◌≡◌, ℕ, suc, [], Bool, Option, Some, None}
-use Rattle.sect_types.specs.declared.expansion.action.Condition.{Condition}
-use Rattle.sect_types.specs.declared.meaning.store.Fault.{Fault}
-use Rattle.sect_types.specs.Store.{StoreView}
-use Rattle.sect_types.specs.Meaning.{WorkView, is_true}
-use Rattle.sect_types.specs.Whole.{Left, Through, Broken}
+use Rattle.sect_types.specs.{declared.expansion.action.Condition.{Condition}, declared.meaning.store.Fault.{Fault}}
+use Rattle.sect_types.specs.{Store.{StoreView}, Meaning.{WorkView, is_true}, Whole.{Left, Through, Broken}}
 
 -- a unit of fuel is paid and the condition is tested, where one is left
 abbrev pub Tests : Condition → WorkView → WorkView → Option Bool → Type 0

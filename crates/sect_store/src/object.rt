@@ -1,11 +1,9 @@
 //! Objects, and lists of them.
 
-ghost use Rattle.std.specs.Prelude.{◌≡◌, ◌++◌, ◌∷◌, [], map, slice_get, slice_index_or, option_copied};
-ghost use Rattle.std.specs.Prelude.{IfOk, OnOk, OnErr};
+ghost use Rattle.std.specs.Prelude.{◌≡◌, ◌++◌, ◌∷◌, [], map, slice_get, slice_index_or, option_copied, IfOk, OnOk};
+ghost use Rattle.std.specs.{Prelude.{OnErr}, Cmp.{partial_equiv_from_equiv}};
 ghost use Rattle.sect_lemmas.specs.Lists.{changed_at};
-ghost use Rattle.sect_types.specs.Store.{with_field};
-ghost use Rattle.sect_types.specs.Meaning.{datum_or_null, first_datum, fresh};
-ghost use Rattle.std.specs.Cmp.{partial_equiv_from_equiv};
+ghost use Rattle.sect_types.specs.{Store.{with_field}, Meaning.{datum_or_null, first_datum, fresh}};
 ghost use Rattle.sect_store.specs.Undoing.{without_end};
 ghost use Rattle.sect_store.specs.Comparing.{object_eq, object_fed, object_equivalence, object_alike, objects_eq};
 ghost use Rattle.sect_store.specs.Comparing.{objects_fed, objects_equivalence, objects_alike};

@@ -1,7 +1,6 @@
 //! Several outcomes of one program as they are printed.
 
-ghost use Rattle.std.specs.Prelude.{◌≡◌, ◌++◌, IfOk, OnOk};
-ghost use Rattle.std.specs.String.{string_bytes};
+ghost use Rattle.std.specs.{Prelude.{◌≡◌, ◌++◌, IfOk, OnOk}, String.{string_bytes}};
 ghost use Rattle.sect_types.specs.Sight.{names_of_declared};
 ghost use Rattle.sect_store.specs.Printing.{fields_at, numbered_text};
 

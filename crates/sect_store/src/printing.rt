@@ -1,12 +1,9 @@
 //! An outcome as it is printed.
 
-ghost use Rattle.std.specs.Prelude.{◌≡◌, ◌++◌, OnOk, [], slice_index_or};
-ghost use Rattle.std.specs.String.{string_bytes};
-ghost use Rattle.std.specs.List.{flat_map};
-ghost use Rattle.sect_types.specs.Programs.{sites_of};
-ghost use Rattle.sect_types.specs.Sight.{names_of_globals, names_of_declared};
-ghost use Rattle.sect_store.specs.Printing.{by_place, thread_line, order_line, out_line, datum_text};
-ghost use Rattle.sect_store.specs.Printing.{fields_at, field_text, fields_text, made_lines, store_lines, outcome_text};
+ghost use Rattle.std.specs.{Prelude.{◌≡◌, ◌++◌, OnOk, [], slice_index_or}, String.{string_bytes}, List.{flat_map}};
+ghost use Rattle.sect_types.specs.{Programs.{sites_of}, Sight.{names_of_globals, names_of_declared}};
+ghost use Rattle.sect_store.specs.Printing.{by_place, thread_line, order_line, out_line, datum_text, fields_at};
+ghost use Rattle.sect_store.specs.Printing.{field_text, fields_text, made_lines, store_lines, outcome_text};
 ghost use Rattle.sect_store.specs.Printing.{object_name};
 
 use crate::object::Object;

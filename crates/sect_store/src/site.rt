@@ -1,9 +1,7 @@
 //! The records of sites.
 
 ghost use Rattle.std.specs.Prelude.{◌≡◌, ◌++◌, IfOk, OnOk};
-ghost use Rattle.sect_types.specs.Statements.{Stop, made_in};
-ghost use Rattle.sect_types.specs.Texts.{step_then};
-ghost use Rattle.sect_types.specs.Programs.{sites_of};
+ghost use Rattle.sect_types.specs.{Statements.{Stop, made_in}, Texts.{step_then}, Programs.{sites_of}};
 
 use sect_types::{Action, Program, Step, Text};
 use std::alloc::{AllocError, Global};

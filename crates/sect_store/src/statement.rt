@@ -3,8 +3,7 @@
 ghost use Rattle.std.specs.Prelude.{◌≡◌, ◌<◌, ◌+◌, ◌^◌, ℕ, [], Option, slice_index_or, IfOk, OnErr};
 ghost use Rattle.sect_types.specs.declared.expansion.action.Action.TheVariants.{New};
 ghost use Rattle.sect_types.specs.declared.meaning.store.Datum.TheVariants.{Refers};
-ghost use Rattle.sect_types.specs.declared.meaning.store.ObjectName.TheVariants.{Made};
-ghost use Rattle.sect_types.specs.Programs.{ProgramView};
+ghost use Rattle.sect_types.specs.{declared.meaning.store.ObjectName.TheVariants.{Made}, Programs.{ProgramView}};
 ghost use Rattle.sect_types.specs.Store.{ObjectView};
 ghost use Rattle.sect_types.specs.Meaning.{one, done, looked, found_at, assigned, fresh, Went, Added};
 ghost use Rattle.sect_types.specs.Whole.{left_by};

@@ -3,8 +3,7 @@
 ghost use Rattle.std.specs.Prelude.{◌≡◌, ◌<◌, ◌+◌, ◌^◌, ◌++◌, IfOk, OnOk, OnErr};
 ghost use Rattle.sect_types.specs.Meaning.{value_datum, base_datum, is_true, assigned, local_datum};
 ghost use Rattle.sect_types.specs.Whole.{first_work};
-ghost use Rattle.sect_store.specs.Working.{Tests, delivered};
-ghost use Rattle.sect_store.specs.Comparing.{far_eq};
+ghost use Rattle.sect_store.specs.{Working.{Tests, delivered}, Comparing.{far_eq}};
 ghost use Rattle.sect_store.specs.steps.Paying.{Pays, given_back, counted, with_print};
 
 use crate::object::first_data;

@@ -1,20 +1,16 @@
 -- Lists of claims and of holds.
 use Rattle.std.proofs.Common.{◌≡◌, inl, inr, ℕ, ◌+◌, ◌<◌, ◌≤◌, List, [], ◌∷◌, ◌++◌, Bool, true, false, not, Some, None}
-use Rattle.std.proofs.Common.{refl, sym, ◌∙◌, ap, subst, arith}
+use Rattle.std.proofs.{Common.{refl, sym, ◌∙◌, ap, subst, arith}, lemmas.Bool.{and_parts, cases_Bool, or_right}}
 use Rattle.std.specs.Prelude.{◌==◌, ◌||◌, ◌&&◌, if◌then◌else◌}
-use Rattle.std.proofs.lemmas.Bool.{and_parts, cases_Bool, or_right}
-use Rattle.sect_modes.specs.declared.mode.Mode.{Mode}
-use Rattle.sect_modes.specs.declared.key.Key.{Key}
-use Rattle.sect_modes.specs.Mode.{are_compatible, is_at_least}
+use Rattle.sect_modes.specs.{declared.mode.Mode.{Mode}, declared.key.Key.{Key}, Mode.{are_compatible, is_at_least}}
 use Rattle.sect_modes.specs.Key.{is_same_key}
-use Rattle.sect_table.specs.declared.claims.Claim.{Claim}
-use Rattle.sect_table.specs.declared.claims.Hold.{Hold}
+use Rattle.sect_table.specs.{declared.claims.Claim.{Claim}, declared.claims.Hold.{Hold}}
 use Rattle.sect_table.specs.Contents.{is_among, mode_in, mode_for, may_join, first_of, stay, AreApart}
 use Rattle.sect_table.specs.Sound.{SharesWith, AreTogether, AreKeysApart, claims_by, one_if, AreThreadsBelow}
 use Rattle.sect_table.proofs.shared.Shown.{same_key, key_itself}
-use Rattle.sect_lemmas.proofs.Booleans.{neither}
 use Rattle.sect_table.proofs.shared.Claiming.{true_or_false, among-append, among_append, mode_for-here, mode_for-later}
 use Rattle.sect_table.proofs.shared.Claiming.{mode_in-here, mode_in-later}
+use Rattle.sect_lemmas.proofs.Booleans.{neither}
 
 pub apart_insert : (xs : List Claim) (w : Claim) (ys : List Claim) → AreApart (xs ++ ys)
     → is_among w.thread (xs ++ ys) ≡ false → AreApart (xs ++ w ∷ ys)

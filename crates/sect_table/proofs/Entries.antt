@@ -1,15 +1,12 @@
 -- Entries by their keys.
 use Rattle.std.proofs.Common.{◌≡◌, inl, inr, suc, ◌<◌, ◌≤◌, List, [], ◌∷◌, ◌++◌, length, true, false, refl, sym, ◌∙◌}
-use Rattle.std.proofs.Common.{ap, subst, arith}
+use Rattle.std.proofs.{Common.{ap, subst, arith}, lemmas.Bool.{cases_Bool}}
 use Rattle.std.specs.Prelude.{if◌then◌else◌}
-use Rattle.sect_modes.specs.declared.key.Key.{Key}
-use Rattle.sect_modes.specs.Key.{is_same_key}
-use Rattle.sect_table.specs.Contents.{Entry, number_of, entry_of, no_entry, put}
-use Rattle.sect_table.specs.Sound.{AreEntriesApart}
+use Rattle.sect_modes.specs.{declared.key.Key.{Key}, Key.{is_same_key}}
+use Rattle.sect_table.specs.{Contents.{Entry, number_of, entry_of, no_entry, put}, Sound.{AreEntriesApart}}
 use Rattle.sect_table.proofs.shared.Shown.{same_key, key_itself, entry_of-here, entry_of-later}
-use Rattle.sect_table.proofs.Shown.{put-here, put-later}
-use Rattle.std.proofs.lemmas.Bool.{cases_Bool}
 use Rattle.sect_table.proofs.shared.Entries.{entry_key, entry-new}
+use Rattle.sect_table.proofs.Shown.{put-here, put-later}
 
 pub number-here : (k : Key) (e : Entry) (es : List Entry) → is_same_key k e.key ≡ true → number_of k (e ∷ es) ≡ 0
 number-here k e es is = ap (λ b. if b then 0 else suc (number_of k es)) is

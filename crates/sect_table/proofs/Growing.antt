@@ -1,22 +1,16 @@
 -- What a new key or a new node makes of an arena.
 use Rattle.std.proofs.Common.{◌≡◌, ◌≢◌, ◌⊎◌, inl, inr, ℕ, zero, suc, ◌+◌, ◌<◌, ◌≤◌, ◌^◌, List, [], ◌∷◌, ◌++◌, length}
 use Rattle.std.proofs.Common.{get_or, refl, sym, ◌∙◌, ap, subst, arith, get_or-set_same, get_or-set_other}
-use Rattle.std.proofs.Common.{length-append}
-use Rattle.std.specs.Prelude.{replicate}
-use Rattle.std.proofs.lemmas.Bool.{cases_eq, cases_lt, cases_Bool}
+use Rattle.std.proofs.{Common.{length-append}, lemmas.Bool.{cases_eq, cases_lt, cases_Bool}}
 use Rattle.std.proofs.lemmas.List.{length-set, get_or_past, get_or_append_left, get_or_at}
-use Rattle.sect_modes.specs.declared.key.Key.{Key}
-use Rattle.sect_modes.specs.Key.{is_same_key}
-use Rattle.sect_table.specs.declared.claims.Hold.{Hold}
-use Rattle.sect_table.specs.declared.claims.Claim.{Claim}
-use Rattle.sect_table.specs.declared.claims.Grant.{Grant}
+use Rattle.std.specs.Prelude.{replicate}
+use Rattle.sect_modes.specs.{declared.key.Key.{Key}, Key.{is_same_key}}
+use Rattle.sect_table.specs.{declared.claims.Hold.{Hold}, declared.claims.Claim.{Claim}, declared.claims.Grant.{Grant}}
 use Rattle.sect_table.specs.Contents.{no_entry, hold_of, claim_of}
-use Rattle.sect_table.specs.steps.Keys.{place_in}
-use Rattle.sect_table.specs.steps.Links.{Shape, list_at, label_at, Each, ArePlaced}
-use Rattle.sect_table.specs.steps.Arena.{SameLists, NumberAdded, node_at, no_node, claims, holds_at, queue_at}
-use Rattle.sect_table.specs.steps.Arena.{chain_at, entry_at, entries_from, held_from, shown, HasRole, IsArena}
-use Rattle.sect_table.proofs.Runs.{each_map}
-use Rattle.sect_table.proofs.Shown.{entries-kept, held-kept, place-here, place-later}
+use Rattle.sect_table.specs.steps.{Keys.{place_in}, Links.{Shape, list_at, label_at, Each, ArePlaced}}
+use Rattle.sect_table.specs.steps.Arena.{SameLists, NumberAdded, node_at, no_node, claims, holds_at, queue_at, chain_at}
+use Rattle.sect_table.specs.steps.Arena.{entry_at, entries_from, held_from, shown, HasRole, IsArena}
+use Rattle.sect_table.proofs.{Runs.{each_map}, Shown.{entries-kept, held-kept, place-here, place-later}}
 
 pub arena_same : (nodes nodes' : List Grant) (keys : List Key) (threads : ℕ) (q c q' c' : Shape) → nodes' ≡ nodes
     → SameLists q q' → SameLists c c' → IsArena nodes keys threads q c → IsArena nodes' keys threads q' c'

@@ -1,26 +1,20 @@
 -- What each call keeps.
 use Rattle.std.proofs.Common.{◌≡◌, inl, inr, ℕ, zero, suc, ◌<◌, List, [], ◌∷◌, ◌++◌, length, get_or, true, false, not}
-use Rattle.std.proofs.Common.{Option, Some, None, refl, sym, ◌∙◌, ap, subst, arith}
+use Rattle.std.proofs.{Common.{Option, Some, None, refl, sym, ◌∙◌, ap, subst, arith}, lemmas.Bool.{cases_lt, and_parts}}
 use Rattle.std.specs.Prelude.{◌&&◌, is_some, replicate}
-use Rattle.std.proofs.lemmas.Bool.{cases_lt, and_parts}
-use Rattle.sect_modes.specs.declared.mode.Mode.{Mode}
-use Rattle.sect_modes.specs.declared.key.Key.{Key}
-use Rattle.sect_table.specs.declared.claims.Claim.{Claim}
-use Rattle.sect_table.specs.declared.claims.Hold.{Hold}
+use Rattle.sect_modes.specs.{declared.mode.Mode.{Mode}, declared.key.Key.{Key}}
+use Rattle.sect_table.specs.{declared.claims.Claim.{Claim}, declared.claims.Hold.{Hold}}
 use Rattle.sect_table.specs.Contents.{Entry, Contents, number_of, entry_of, no_entry, put, held_by, is_among}
-use Rattle.sect_table.specs.Contents.{is_waiting, is_free, holds, mode_in, mode_for, may_join, first_of, give}
-use Rattle.sect_table.specs.Contents.{claim_of, with_holder, with_waiter, IsEmptyFor}
+use Rattle.sect_table.specs.Contents.{is_waiting, is_free, holds, mode_in, mode_for, may_join, first_of, give, claim_of}
+use Rattle.sect_table.specs.Contents.{with_holder, with_waiter, IsEmptyFor}
 use Rattle.sect_table.specs.Sound.{AreTogether, IsFirstBlocked, AreKeysApart, AreEntriesApart, waits_of, IsSound}
-use Rattle.sect_table.specs.Sound.{IsKept}
-use Rattle.sect_table.specs.declared.claims.Answer.{Answer}
-use Rattle.sect_table.specs.declared.claims.Answer.TheVariants.{Granted, Queued}
-use Rattle.sect_table.specs.Answers.{IsAnswered}
-use Rattle.sect_table.proofs.Entries.{number_of-le, put_apart}
+use Rattle.sect_table.specs.{Sound.{IsKept}, declared.claims.Answer.{Answer}}
+use Rattle.sect_table.specs.{declared.claims.Answer.TheVariants.{Granted, Queued}, Answers.{IsAnswered}}
+use Rattle.sect_table.proofs.{Entries.{number_of-le, put_apart}, Claiming.{missing-mode_for}}
+use Rattle.sect_table.proofs.Sounding.{sound_of, holder_sound, waiter_sound}
 use Rattle.sect_table.proofs.shared.Entries.{entry_key, entry-new, entry_of-put, put-put}
 use Rattle.sect_table.proofs.shared.Claiming.{true_or_false, among_append, missing-claims_by}
-use Rattle.sect_table.proofs.Claiming.{missing-mode_for}
 use Rattle.sect_table.proofs.shared.Sounding.{put_all, waits_at-le, waits_for_none}
-use Rattle.sect_table.proofs.Sounding.{sound_of, holder_sound, waiter_sound}
 
 -- a thread that neither waits nor holds the key has no claim on it
 no_claim : (c : Contents) (t : ℕ) (k : Key) → IsSound c → is_waiting t c ≡ false → mode_in k (held_by c t) ≡ None

@@ -1,14 +1,11 @@
 -- What a move of one node makes of the table that an arena shows.
 use Rattle.std.proofs.Common.{◌≡◌, ◌≢◌, ◌⊎◌, inl, inr, ℕ, ◌+◌, ◌<◌, List, [], ◌∷◌, ◌++◌, length, map, drop, get_or, set}
 use Rattle.std.proofs.Common.{Bool, true, false, not, None, Some, refl, sym, ◌∙◌, ap, subst, arith, get_or-set_same}
-use Rattle.std.proofs.Common.{get_or-set_other, length-append}
-use Rattle.std.specs.Prelude.{◌==◌, ◌||◌, if◌then◌else◌}
-use Rattle.std.proofs.lemmas.Bool.{cases_eq, cases_lt, eq-eqb}
+use Rattle.std.proofs.{Common.{get_or-set_other, length-append}, lemmas.Bool.{cases_eq, cases_lt, eq-eqb}}
 use Rattle.std.proofs.lemmas.List.{length-set, get_or_past, map_push}
+use Rattle.std.specs.Prelude.{◌==◌, ◌||◌, if◌then◌else◌}
 use Rattle.sect_modes.specs.declared.key.Key.{Key}
-use Rattle.sect_table.specs.declared.claims.Hold.{Hold}
-use Rattle.sect_table.specs.declared.claims.Claim.{Claim}
-use Rattle.sect_table.specs.declared.claims.Grant.{Grant}
+use Rattle.sect_table.specs.{declared.claims.Hold.{Hold}, declared.claims.Claim.{Claim}, declared.claims.Grant.{Grant}}
 use Rattle.sect_table.specs.Contents.{Entry, Contents, number_of, entry_of, first_of, put, is_among, AreApart, stay}
 use Rattle.sect_table.specs.Contents.{give, hold_of, claim_of, with_holder, with_waiter, with_grant, without_holder}
 use Rattle.sect_table.specs.steps.Keys.{place_in}
@@ -16,8 +13,7 @@ use Rattle.sect_table.specs.steps.Links.{Shape, head_or, list_at, label_at, Amon
 use Rattle.sect_table.specs.steps.Links.{without, Goes}
 use Rattle.sect_table.specs.steps.Arena.{node_at, no_node, claims, holds_at, queue_at, chain_at, entry_at, entries_from}
 use Rattle.sect_table.specs.steps.Arena.{held_from, shown, HasRole, IsArena}
-use Rattle.sect_table.proofs.Runs.{each_map, without-same, without-other, without_absent}
-use Rattle.sect_table.proofs.Whole.{length-without}
+use Rattle.sect_table.proofs.{Runs.{each_map, without-same, without-other, without_absent}, Whole.{length-without}}
 use Rattle.sect_table.proofs.Shown.{seen, entries-put, entries-kept, held-set, held-kept, queues-seen, chain-seen}
 use Rattle.sect_table.proofs.Shown.{one_place, uncons}
 use Rattle.sect_table.proofs.Roles.{arena_moved, labelled_first, WaitsFor, waiter_role, HoldsBy, holding_role}

@@ -1,13 +1,9 @@
 -- The numbers of keys.
 use Rattle.std.proofs.Common.{◌≡◌, ℕ, suc, ◌+◌, ◌≤◌, List, [], ◌∷◌, length, Bool, true, false, Some, None, refl, sym}
-use Rattle.std.proofs.Common.{◌∙◌, ap, arith, rules}
-use Rattle.std.specs.Prelude.{if◌then◌else◌, nat_lt}
-use Rattle.std.specs.List.{position, position_or_len, list_any}
-use Rattle.std.proofs.lemmas.List.Recursion.{is_position_or_len}
-use Rattle.sect_modes.specs.declared.key.Key.{Key}
-use Rattle.sect_modes.specs.declared.key.Key.TheVariants.{All, Class, Global, Made}
-use Rattle.sect_modes.specs.Key.{is_same_key}
-use Rattle.sect_modes.specs.contracts.key.KeyPartialEq.TheImpl.{eq-value}
+use Rattle.std.proofs.{Common.{◌∙◌, ap, arith, rules}, lemmas.List.Recursion.{is_position_or_len}}
+use Rattle.std.specs.{Prelude.{if◌then◌else◌, nat_lt}, List.{position, position_or_len, list_any}}
+use Rattle.sect_modes.specs.{declared.key.Key.{Key}, declared.key.Key.TheVariants.{All, Class, Global, Made}}
+use Rattle.sect_modes.specs.{Key.{is_same_key}, contracts.key.KeyPartialEq.TheImpl.{eq-value}}
 use Rattle.sect_table.specs.steps.Keys.{place_in}
 
 -- the derived comparison of keys

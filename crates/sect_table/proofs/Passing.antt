@@ -1,26 +1,20 @@
 -- Letting waiters in, one by one.
-use Rattle.std.proofs.Common.{◌≡◌, inl, inr, ℕ, suc, ◌+◌, ◌<◌, ◌≤◌, List, [], ◌∷◌, ◌++◌, length, map, drop, get_or}
-use Rattle.std.proofs.Common.{set, true, false, Some, None, refl, sym, ◌∙◌, ap, subst, arith, append_assoc}
-use Rattle.std.proofs.Common.{length-append, get_or-set_other}
+use Rattle.std.proofs.Common.{◌≡◌, inl, inr, ℕ, suc, ◌+◌, ◌<◌, ◌≤◌, List, [], ◌∷◌, ◌++◌, length, map, drop, get_or, set}
+use Rattle.std.proofs.Common.{true, false, Some, None, refl, sym, ◌∙◌, ap, subst, arith, append_assoc, length-append}
+use Rattle.std.proofs.{Common.{get_or-set_other}, lemmas.List.{length-set, append-nil, set_comm}}
+use Rattle.std.proofs.lemmas.Bool.{cases_Bool}
 use Rattle.std.specs.Prelude.{◌==◌, ◌||◌, if◌then◌else◌}
-use Rattle.std.proofs.lemmas.List.{length-set, append-nil, set_comm}
-use Rattle.sect_modes.specs.declared.key.Key.{Key}
-use Rattle.sect_modes.specs.Key.{is_same_key}
-use Rattle.sect_table.specs.declared.claims.Claim.{Claim}
-use Rattle.sect_table.specs.declared.claims.Hold.{Hold}
-use Rattle.sect_table.specs.declared.claims.Grant.{Grant}
+use Rattle.sect_modes.specs.{declared.key.Key.{Key}, Key.{is_same_key}}
+use Rattle.sect_table.specs.{declared.claims.Claim.{Claim}, declared.claims.Hold.{Hold}, declared.claims.Grant.{Grant}}
 use Rattle.sect_table.specs.Contents.{Entry, Contents, number_of, entry_of, put, is_among, may_join, first_of, give}
 use Rattle.sect_table.specs.Contents.{hold_of, grant_of, with_grant, let_in, let_through, give_all}
 use Rattle.sect_table.specs.Sound.{waiting_count}
 use Rattle.sect_table.specs.steps.Letting.{LettingIn}
-use Rattle.sect_table.proofs.shared.Shown.{key_itself}
-use Rattle.sect_table.proofs.Shown.{put-here, put-later}
-use Rattle.sect_table.proofs.Entries.{number-here, number-later, put-itself}
-use Rattle.sect_table.proofs.shared.Entries.{entry_key, entry_of-put, put-put}
-use Rattle.sect_table.proofs.Sounding.{waiting_count-put, sound_of, grant_sound, apart_threads, other_way}
-use Rattle.std.proofs.lemmas.Bool.{cases_Bool}
-use Rattle.sect_lemmas.proofs.Booleans.{neither}
+use Rattle.sect_table.proofs.shared.{Shown.{key_itself}, Entries.{entry_key, entry_of-put, put-put}}
 use Rattle.sect_table.proofs.shared.Passing.{let_through-yes, let_through-no}
+use Rattle.sect_table.proofs.{Shown.{put-here, put-later}, Entries.{number-here, number-later, put-itself}}
+use Rattle.sect_table.proofs.Sounding.{waiting_count-put, sound_of, grant_sound, apart_threads, other_way}
+use Rattle.sect_lemmas.proofs.Booleans.{neither}
 
 -- a known key keeps its number
 pub length-put : (e : Entry) (es : List Entry) → number_of e.key es < length es → length (put e es) ≡ length es

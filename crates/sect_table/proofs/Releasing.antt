@@ -1,31 +1,23 @@
 -- Giving keys back, one by one.
 use Rattle.std.proofs.Common.{◌≡◌, ℕ, suc, ◌+◌, ◌<◌, ◌≤◌, List, [], ◌∷◌, ◌++◌, length, map, drop, get_or, set, false}
 use Rattle.std.proofs.Common.{Some, None, refl, sym, ◌∙◌, ap, subst, arith, length-append, get_or-set_same}
+use Rattle.std.proofs.{lemmas.Bool.{eq-eqb}, lemmas.List.{length-set, set-set, length-map}}
 use Rattle.std.specs.Prelude.{◌==◌, is_some}
-use Rattle.std.proofs.lemmas.Bool.{eq-eqb}
-use Rattle.std.proofs.lemmas.List.{length-set, set-set, length-map}
 use Rattle.sect_modes.specs.declared.key.Key.{Key}
-use Rattle.sect_table.specs.declared.claims.Claim.{Claim}
-use Rattle.sect_table.specs.declared.claims.Hold.{Hold}
-use Rattle.sect_table.specs.declared.claims.Grant.{Grant}
+use Rattle.sect_table.specs.{declared.claims.Claim.{Claim}, declared.claims.Hold.{Hold}, declared.claims.Grant.{Grant}}
 use Rattle.sect_table.specs.Contents.{Entry, Contents, Released, number_of, entry_of, put, held_by, mode_in, is_among}
 use Rattle.sect_table.specs.Contents.{is_waiting, first_hold, grant_of, without_holder, let_in, let_through, give_all}
 use Rattle.sect_table.specs.Contents.{release_key, release_each, AreApart}
 use Rattle.sect_table.specs.Sound.{IsFirstBlocked, AreEntriesApart, claims_by, one_if, waits_of, waiting_count}
 use Rattle.sect_table.specs.Sound.{AreThreadsBelow, AreWaitersBelow, IsSound, IsKept}
-use Rattle.sect_table.specs.steps.Links.{Each, IsAbsent, AreDistinct}
-use Rattle.sect_table.specs.steps.Letting.{Releasing}
-use Rattle.sect_table.proofs.Whole.{few_distinct}
-use Rattle.sect_table.proofs.shared.Shown.{key_itself}
-use Rattle.sect_table.proofs.shared.Entries.{entry_key, put-put}
-use Rattle.sect_table.proofs.Entries.{put_apart}
-use Rattle.sect_table.proofs.shared.Claiming.{apart_left, mode_in-here, claims_by-drop, missing-claims_by}
-use Rattle.sect_table.proofs.shared.Sounding.{put_all, waits_of-put, waits_at-le, waits_for_none}
-use Rattle.sect_table.proofs.Sounding.{waiting_count-put, sound_of}
-use Rattle.sect_table.proofs.Sounding.{release_sound}
-use Rattle.sect_table.proofs.Keeping.{held_known}
+use Rattle.sect_table.specs.steps.{Links.{Each, IsAbsent, AreDistinct}, Letting.{Releasing}}
+use Rattle.sect_table.proofs.{Whole.{few_distinct}, Entries.{put_apart}}
+use Rattle.sect_table.proofs.{Sounding.{waiting_count-put, sound_of, release_sound}, Keeping.{held_known}}
 use Rattle.sect_table.proofs.Passing.{length-put, number_of-put, entry-put, among_through, give_all-other}
 use Rattle.sect_table.proofs.Passing.{length-give_all, set-give_all}
+use Rattle.sect_table.proofs.shared.{Shown.{key_itself}, Entries.{entry_key, put-put}}
+use Rattle.sect_table.proofs.shared.Claiming.{apart_left, mode_in-here, claims_by-drop, missing-claims_by}
+use Rattle.sect_table.proofs.shared.Sounding.{put_all, waits_of-put, waits_at-le, waits_for_none}
 
 -- as many wait as there are threads at most
 abbrev times : ℕ → List ℕ → ℕ

@@ -1,19 +1,14 @@
 -- Where the nodes of an arena stand.
 use Rattle.std.proofs.Common.{◌≡◌, ◌≢◌, inl, inr, ℕ, zero, suc, ◌+◌, ◌<◌, List, [], ◌∷◌, length, get_or, set, Bool}
-use Rattle.std.proofs.Common.{true, false, None, Some, refl, sym, ◌∙◌, ap, subst, arith, get_or-set_same, get_or-set_other}
-use Rattle.std.specs.Prelude.{◌==◌, ◌||◌, is_some}
-use Rattle.std.specs.List.{list_any}
-use Rattle.std.proofs.lemmas.Bool.{cases_eq, eq-eqb}
+use Rattle.std.proofs.Common.{true, false, None, Some, refl, sym, ◌∙◌, ap, subst, arith, get_or-set_same}
+use Rattle.std.proofs.{Common.{get_or-set_other}, lemmas.Bool.{cases_eq, eq-eqb}}
+use Rattle.std.specs.{Prelude.{◌==◌, ◌||◌, is_some}, List.{list_any}}
 use Rattle.sect_modes.specs.declared.key.Key.{Key}
-use Rattle.sect_table.specs.declared.claims.Claim.{Claim}
-use Rattle.sect_table.specs.declared.claims.Grant.{Grant}
-use Rattle.sect_table.specs.declared.claims.Hold.{Hold}
+use Rattle.sect_table.specs.{declared.claims.Claim.{Claim}, declared.claims.Grant.{Grant}, declared.claims.Hold.{Hold}}
 use Rattle.sect_table.specs.Contents.{Contents, is_among, is_waiting, number_of, held_by, first_hold, hold_of}
-use Rattle.sect_table.specs.steps.Keys.{place_in}
-use Rattle.sect_table.specs.steps.Links.{Shape, head_or, list_at, label_at, Each, Among, ArePlaced}
+use Rattle.sect_table.specs.steps.{Keys.{place_in}, Links.{Shape, head_or, list_at, label_at, Each, Among, ArePlaced}}
 use Rattle.sect_table.specs.steps.Arena.{node_at, claims, holds_at, queue_at, entries_from, shown, HasRole, IsArena}
-use Rattle.sect_table.proofs.Runs.{each_map}
-use Rattle.sect_table.proofs.Shown.{seen, chain-seen, uncons}
+use Rattle.sect_table.proofs.{Runs.{each_map}, Shown.{seen, chain-seen, uncons}}
 
 -- a move of one node to lists that fit its request
 pub arena_moved : (nodes : List Grant) (keys : List Key) (threads : ℕ) (q c q' c' : Shape) (x l m : ℕ)

@@ -1,10 +1,8 @@
 -- What `detach` and `append` make of a list.
 use Rattle.std.proofs.Common.{◌≡◌, ◌≢◌, inl, inr, ℕ, ◌<◌, List, [], ◌∷◌, ◌++◌, length, Option, Some, None, false, refl}
-use Rattle.std.proofs.Common.{sym, ◌∙◌, ap, subst, arith}
+use Rattle.std.proofs.{Common.{sym, ◌∙◌, ap, subst, arith}, lemmas.Bool.{cases_eq, eq-eqb}}
 use Rattle.std.specs.Prelude.{◌==◌, if◌then◌else◌}
-use Rattle.std.proofs.lemmas.Bool.{cases_eq, eq-eqb}
-use Rattle.sect_table.specs.declared.links.Link.{Link}
-use Rattle.sect_table.specs.declared.links.Ends.{Ends}
+use Rattle.sect_table.specs.{declared.links.Link.{Link}, declared.links.Ends.{Ends}}
 use Rattle.sect_table.specs.steps.Links.{link_at, walk, Run, head_or, last_or, Each, IsAbsent, Among, AreDistinct}
 use Rattle.sect_table.specs.steps.Links.{without, IsDetached, IsAppended}
 

@@ -1,18 +1,13 @@
 -- What an arena shows of its lists.
 use Rattle.std.proofs.Common.{◌≡◌, ◌≢◌, inl, inr, ℕ, zero, suc, ◌+◌, ◌<◌, ◌≤◌, ◌^◌, List, [], ◌∷◌, length, get_or, set}
 use Rattle.std.proofs.Common.{true, false, Option, Some, None, refl, sym, ◌∙◌, ap, subst, arith, rules}
-use Rattle.std.specs.Prelude.{if◌then◌else◌, IsSome}
-use Rattle.std.specs.Option.{option_map}
 use Rattle.std.proofs.lemmas.Bool.{cases_Bool}
-use Rattle.sect_modes.specs.declared.key.Key.{Key}
-use Rattle.sect_modes.specs.Key.{is_same_key}
-use Rattle.sect_table.specs.declared.claims.Hold.{Hold}
-use Rattle.sect_table.specs.declared.claims.Claim.{Claim}
-use Rattle.sect_table.specs.declared.claims.Grant.{Grant}
+use Rattle.std.specs.{Prelude.{if◌then◌else◌, IsSome}, Option.{option_map}}
+use Rattle.sect_modes.specs.{declared.key.Key.{Key}, Key.{is_same_key}}
+use Rattle.sect_table.specs.{declared.claims.Hold.{Hold}, declared.claims.Claim.{Claim}, declared.claims.Grant.{Grant}}
 use Rattle.sect_table.specs.Contents.{Entry, Contents, number_of, entry_of, put, first_of, first_hold, claim_of}
 use Rattle.sect_table.specs.Contents.{hold_of}
-use Rattle.sect_table.specs.steps.Keys.{place_in}
-use Rattle.sect_table.specs.steps.Links.{Shape, head_or}
+use Rattle.sect_table.specs.steps.{Keys.{place_in}, Links.{Shape, head_or}}
 use Rattle.sect_table.specs.steps.Arena.{node_at, claims, holds_at, queue_at, chain_at, entry_at, entries_from}
 use Rattle.sect_table.specs.steps.Arena.{held_from, shown, IsArena}
 use Rattle.sect_table.proofs.shared.Shown.{same_key, entry_of-here, entry_of-later}

@@ -1,29 +1,23 @@
 -- What each step of a call keeps.
 use Rattle.std.proofs.Common.{◌≡◌, ◌≢◌, inl, inr, ℕ, ◌+◌, ◌<◌, ◌≤◌, List, [], ◌∷◌, ◌++◌, length, drop, get_or, set}
 use Rattle.std.proofs.Common.{true, false, None, refl, sym, ◌∙◌, ap, subst, arith, append_assoc, get_or-set_same}
-use Rattle.std.proofs.Common.{get_or-set_other}
-use Rattle.std.specs.Prelude.{◌==◌, if◌then◌else◌}
-use Rattle.std.proofs.lemmas.Bool.{eqb-true, eq-eqb, cases_Bool}
+use Rattle.std.proofs.{Common.{get_or-set_other}, lemmas.Bool.{eqb-true, eq-eqb, cases_Bool}}
 use Rattle.std.proofs.lemmas.List.{length-set, append-nil}
-use Rattle.sect_modes.specs.declared.mode.Mode.{Mode}
-use Rattle.sect_modes.specs.declared.key.Key.{Key}
-use Rattle.sect_modes.specs.Key.{is_same_key}
-use Rattle.sect_table.specs.declared.claims.Claim.{Claim}
-use Rattle.sect_table.specs.declared.claims.Hold.{Hold}
-use Rattle.sect_table.specs.Contents.{Entry, Contents, entry_of, put, is_among, mode_in, mode_for, may_join, stay}
-use Rattle.sect_table.specs.Contents.{give, hold_of, claim_of, with_holder, with_waiter, with_grant, without_holder}
-use Rattle.sect_table.specs.Contents.{AreApart}
+use Rattle.std.specs.Prelude.{◌==◌, if◌then◌else◌}
+use Rattle.sect_modes.specs.{declared.mode.Mode.{Mode}, declared.key.Key.{Key}, Key.{is_same_key}}
+use Rattle.sect_table.specs.{declared.claims.Claim.{Claim}, declared.claims.Hold.{Hold}}
+use Rattle.sect_table.specs.Contents.{Entry, Contents, entry_of, put, is_among, mode_in, mode_for, may_join, stay, give}
+use Rattle.sect_table.specs.Contents.{hold_of, claim_of, with_holder, with_waiter, with_grant, without_holder, AreApart}
 use Rattle.sect_table.specs.Sound.{AreTogether, AreKeysApart, claims_by, waits_of, waiting_count, AreThreadsBelow}
 use Rattle.sect_table.specs.Sound.{AreWaitersBelow, IsSound}
 use Rattle.sect_table.proofs.shared.Shown.{same_key, key_itself, entry_of-here, entry_of-later}
-use Rattle.sect_table.proofs.Shown.{put-here, put-later}
 use Rattle.sect_table.proofs.shared.Entries.{entry_key, entry_of-put, entry_of-put_other, put-put}
 use Rattle.sect_table.proofs.shared.Claiming.{true_or_false, among-append, apart_swap, apart_stay, mode_for-missing}
 use Rattle.sect_table.proofs.shared.Claiming.{mode_for-push, mode_for-push_other, mode_for-stay_other, missing_stay}
-use Rattle.sect_table.proofs.shared.Claiming.{mode_in-later}
+use Rattle.sect_table.proofs.shared.{Claiming.{mode_in-later}, Sounding.{put_all, waits_of-put}}
+use Rattle.sect_table.proofs.Shown.{put-here, put-later}
 use Rattle.sect_table.proofs.Claiming.{apart_insert, together_push, together_stay, mode_in-push, mode_in-push_other}
 use Rattle.sect_table.proofs.Claiming.{keys_push, claims_by-append, claims_by-one, claims_by-le, below_push}
-use Rattle.sect_table.proofs.shared.Sounding.{put_all, waits_of-put}
 
 pub waiting_count-put : (e : Entry) (es : List Entry)
     → waiting_count (put e es) + length (entry_of e.key es).waiters ≡ waiting_count es + length e.waiters

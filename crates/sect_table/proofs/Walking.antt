@@ -1,17 +1,12 @@
 -- Walking along a list in the arena: the holders of a key, or what a thread holds.
 use Rattle.std.proofs.Common.{◌≡◌, ◌≢◌, ℕ, ◌+◌, ◌<◌, List, ◌∷◌, ◌++◌, length, take, drop, get_or, true, false, Some}
-use Rattle.std.proofs.Common.{Option, None, IfSome, refl, sym, ◌∙◌, ap, subst, arith}
-use Rattle.std.specs.Prelude.{◌==◌, ◌||◌}
-use Rattle.std.proofs.lemmas.Bool.{eq-eqb}
+use Rattle.std.proofs.{Common.{Option, None, IfSome, refl, sym, ◌∙◌, ap, subst, arith}, lemmas.Bool.{eq-eqb}}
 use Rattle.std.proofs.lemmas.List.{drop-drop, take-append-drop, get_or_default}
-use Rattle.sect_modes.specs.declared.mode.Mode.{Mode}
-use Rattle.sect_modes.specs.declared.key.Key.{Key}
-use Rattle.sect_modes.specs.Key.{is_same_key}
+use Rattle.std.specs.Prelude.{◌==◌, ◌||◌}
+use Rattle.sect_modes.specs.{declared.mode.Mode.{Mode}, declared.key.Key.{Key}, Key.{is_same_key}}
 use Rattle.sect_modes.specs.Mode.{are_compatible}
-use Rattle.sect_table.specs.declared.claims.Grant.{Grant}
-use Rattle.sect_table.specs.Contents.{may_join, mode_for, mode_in}
-use Rattle.sect_table.specs.steps.Arena.{node_at, no_node, claims, holds_at}
-use Rattle.sect_table.specs.steps.Links.{head_or}
+use Rattle.sect_table.specs.{declared.claims.Grant.{Grant}, Contents.{may_join, mode_for, mode_in}}
+use Rattle.sect_table.specs.steps.{Arena.{node_at, no_node, claims, holds_at}, Links.{head_or}}
 use Rattle.sect_table.proofs.Shown.{uncons}
 
 -- a walk along the list xs has come to this node, after the first i

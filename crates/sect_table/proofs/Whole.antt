@@ -3,11 +3,9 @@ use Rattle.std.proofs.Common.{◌≡◌, ◌≢◌, inl, inr, ℕ, zero, suc, �
 use Rattle.std.proofs.Common.{set, Option, Some, None, refl, sym, ◌∙◌, ap, subst, arith, length-append, get_or-set_same}
 use Rattle.std.proofs.Common.{get_or-set_other}
 use Rattle.std.proofs.lemmas.List.{length-set, length-map, get_or-map, same_lists, get_or_default, get_or_read}
-use Rattle.std.proofs.lemmas.List.{get_or_append_left, map-append, get_or_at}
-use Rattle.std.proofs.lemmas.Bool.{cases_eq}
+use Rattle.std.proofs.{lemmas.List.{get_or_append_left, map-append, get_or_at}, lemmas.Bool.{cases_eq}}
 use Rattle.std.specs.Prelude.{IfSome}
-use Rattle.sect_table.specs.declared.links.Link.{Link}
-use Rattle.sect_table.specs.declared.links.Ends.{Ends}
+use Rattle.sect_table.specs.{declared.links.Link.{Link}, declared.links.Ends.{Ends}}
 use Rattle.sect_table.specs.steps.Links.{link_at, ends_at, no_ends, list_at, lists_of, walk, Run, head_or, last_or}
 use Rattle.sect_table.specs.steps.Links.{Each, IsAbsent, Among, AreDistinct, without, IsList, IsDetached, IsAppended}
 use Rattle.sect_table.specs.steps.Links.{AreLists, moved, no_link, labels_of, ArePlaced}

@@ -1,9 +1,7 @@
 -- What a request is answered with. Cited by `Table::request` and `Table::give_fresh`.
 use Rattle.std.specs.Prelude.{◌≡◌, ℕ, true, false}
-use Rattle.sect_modes.specs.declared.mode.Mode.{Mode}
-use Rattle.sect_modes.specs.declared.key.Key.{Key}
-use Rattle.sect_table.specs.declared.claims.Answer.{Answer}
-use Rattle.sect_table.specs.declared.claims.Answer.TheVariants.{Granted, Queued}
+use Rattle.sect_modes.specs.{declared.mode.Mode.{Mode}, declared.key.Key.{Key}}
+use Rattle.sect_table.specs.{declared.claims.Answer.{Answer}, declared.claims.Answer.TheVariants.{Granted, Queued}}
 use Rattle.sect_table.specs.declared.claims.TableFault.{TableFault}
 use Rattle.sect_table.specs.declared.claims.TableFault.TheVariants.{AlreadyWaiting, AlreadyHeld, Memory}
 use Rattle.sect_table.specs.Contents.{Contents, entry_of, put, give, claim_of, with_holder, with_waiter, is_free}

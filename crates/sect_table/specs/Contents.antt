@@ -1,16 +1,10 @@
 -- What a table holds, and what its calls make of it. Cited by each call of `Table`.
 use Rattle.std.specs.Prelude.{◌≡◌, ℕ, suc, List, [], ◌∷◌, ◌++◌, length, map, filter, drop, Option, Some, None, is_some}
 use Rattle.std.specs.Prelude.{find, Bool, false, not, ◌==◌, ◌||◌, ◌&&◌, slice_index_or, slice_set, replicate}
-use Rattle.std.specs.Prelude.{if◌then◌else◌}
-use Rattle.std.specs.List.{list_all, list_any}
-use Rattle.std.specs.Option.{option_map}
-use Rattle.sect_modes.specs.declared.mode.Mode.{Mode}
-use Rattle.sect_modes.specs.declared.key.Key.{Key}
-use Rattle.sect_modes.specs.Mode.{are_compatible}
+use Rattle.std.specs.{Prelude.{if◌then◌else◌}, List.{list_all, list_any}, Option.{option_map}}
+use Rattle.sect_modes.specs.{declared.mode.Mode.{Mode}, declared.key.Key.{Key}, Mode.{are_compatible}}
 use Rattle.sect_modes.specs.Key.{is_same_key}
-use Rattle.sect_table.specs.declared.claims.Hold.{Hold}
-use Rattle.sect_table.specs.declared.claims.Claim.{Claim}
-use Rattle.sect_table.specs.declared.claims.Grant.{Grant}
+use Rattle.sect_table.specs.{declared.claims.Hold.{Hold}, declared.claims.Claim.{Claim}, declared.claims.Grant.{Grant}}
 
 -- a key, who holds it and who waits for it, each in the order in which they came
 pub record Entry : Type 0 where

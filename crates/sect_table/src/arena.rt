@@ -1,16 +1,13 @@
 //! The nodes of a table, and the lists in which they stand.
 
 ghost use Rattle.std.specs.Prelude.{◌≡◌, ◌<◌, ◌≤◌, ◌+◌, ◌-◌, ◌++◌, ◌∷◌, [], ◌==◌, ◌||◌, ◌^◌, drop, length, slice_set};
-ghost use Rattle.std.specs.Prelude.{OnOk, OnErr, IfOk, IsOk, Some, vec_len, vec_capacity};
+ghost use Rattle.std.specs.{Prelude.{OnOk, OnErr, IfOk, IsOk, Some, vec_len, vec_capacity}, Option.{option_map}};
 ghost use Rattle.sect_modes.specs.Mode.{are_compatible};
 ghost use Rattle.sect_table.specs.Contents.{number_of, entry_of, no_entry, put, is_waiting, may_join, mode_for};
 ghost use Rattle.sect_table.specs.Contents.{held_by, first_of, first_hold, claim_of, give, with_holder, with_waiter};
 ghost use Rattle.sect_table.specs.Contents.{with_grant, without_holder, AreApart, IsEmptyFor, mode_in};
-ghost use Rattle.sect_table.specs.Sound.{AreTogether};
-ghost use Rattle.sect_table.specs.declared.claims.Hold.{Hold as AHold};
-ghost use Rattle.std.specs.Option.{option_map};
-ghost use Rattle.sect_table.specs.steps.Arena.{queue_at, chain_at, no_node, SameLists, NumberAdded};
-ghost use Rattle.sect_table.specs.steps.Keys.{place_in};
+ghost use Rattle.sect_table.specs.{Sound.{AreTogether}, declared.claims.Hold.{Hold as AHold}};
+ghost use Rattle.sect_table.specs.steps.{Arena.{queue_at, chain_at, no_node, SameLists, NumberAdded}, Keys.{place_in}};
 ghost use Rattle.sect_table.specs.steps.Links.{ArePlaced};
 
 use crate::claims::{Claim, Grant, Hold};

@@ -5,8 +5,7 @@ ghost use Rattle.sect_modes.specs.declared.mode.Mode.TheVariants.{Exclusive};
 ghost use Rattle.sect_table.specs.declared.claims.Answer.TheVariants.{Granted};
 ghost use Rattle.sect_table.specs.declared.claims.TableFault.TheVariants.{Memory};
 ghost use Rattle.sect_table.specs.Contents.{number_of, entry_of, mode_in, held_by, holds, is_free, first_of};
-ghost use Rattle.sect_table.specs.Answers.{IsAnswered, IsAdmitted, IsRefused};
-ghost use Rattle.sect_table.specs.Sound.{AreTogether, IsKept};
+ghost use Rattle.sect_table.specs.{Answers.{IsAnswered, IsAdmitted, IsRefused}, Sound.{AreTogether, IsKept}};
 
 use crate::arena::Arena;
 use crate::claims::{Answer, Claim, TableFault};

@@ -6,9 +6,7 @@ ghost use Rattle.sect_modes.specs.declared.mode.Mode.TheVariants.{Exclusive};
 ghost use Rattle.sect_table.specs.declared.claims.Answer.TheVariants.{Granted};
 ghost use Rattle.sect_table.specs.declared.claims.TableFault.TheVariants.{Memory};
 ghost use Rattle.sect_table.specs.Contents.{entry_of, mode_in, held_by, holds, first_of, is_waiting, released};
-ghost use Rattle.sect_table.specs.Contents.{IsEmptyFor};
-ghost use Rattle.sect_table.specs.Answers.{IsAnswered, IsAdmitted, IsRefused};
-ghost use Rattle.sect_table.specs.Sound.{IsKept};
+ghost use Rattle.sect_table.specs.{Contents.{IsEmptyFor}, Answers.{IsAnswered, IsAdmitted, IsRefused}, Sound.{IsKept}};
 
 use crate::arena::Arena;
 use crate::claims::{Answer, Claim, TableFault};

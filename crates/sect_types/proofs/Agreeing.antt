@@ -1,21 +1,11 @@
 -- Where the rules of types are kept, a statement has its action by numbers.
 use Rattle.std.specs.Prelude.{◌&&◌, option_map}
 use Rattle.std.proofs.Common.{◌≡◌, ℕ, Bool, true, false, List, Option, Some, None, Result, Ok, refl}
-use Rattle.sect_front.specs.declared.tree.Primitive as leaf
-use Rattle.sect_front.specs.declared.tree.Primitive.TheVariants as primitive
-use Rattle.sect_front.specs.declared.tree.Test.{Test}
-use Rattle.sect_front.specs.declared.tree.Kind.TheVariants as kind
-use Rattle.sect_front.specs.declared.tree.Operator.{Operator}
+use Rattle.sect_front.specs.{declared.tree.Test.{Test}, declared.tree.Operator.{Operator}}
 use Rattle.sect_front.specs.declared.tree.Comparison.{Comparison}
-use Rattle.sect_types.specs.declared.rules.rule.Rule.{Rule}
-use Rattle.sect_types.specs.declared.rules.rule.Rule.TheVariants.{Unknown, WrongType}
-use Rattle.sect_types.specs.declared.rules.resolve.Denoted.{Denoted}
-use Rattle.sect_types.specs.declared.rules.resolve.Denoted.TheVariants as denoted
-use Rattle.sect_types.specs.declared.rules.resolve.Given.{Given}
-use Rattle.sect_types.specs.declared.rules.resolve.Looked.{Looked}
-use Rattle.sect_types.specs.declared.rules.resolve.Looked.TheVariants as looked
-use Rattle.sect_types.specs.declared.expansion.action.Action.{Action}
-use Rattle.sect_types.specs.declared.expansion.action.Action.TheVariants as action
+use Rattle.sect_types.specs.{declared.rules.rule.Rule.{Rule}, declared.rules.rule.Rule.TheVariants.{Unknown, WrongType}}
+use Rattle.sect_types.specs.{declared.rules.resolve.Denoted.{Denoted}, declared.rules.resolve.Given.{Given}}
+use Rattle.sect_types.specs.{declared.rules.resolve.Looked.{Looked}, declared.expansion.action.Action.{Action}}
 use Rattle.sect_types.specs.declared.expansion.action.Condition.{Condition}
 use Rattle.sect_types.specs.Sight.{Sight, place, names_of_records, base_of, operand_of, looked_of}
 use Rattle.sect_types.specs.Kinds.{same_kind, accepts, comparable}
@@ -23,6 +13,12 @@ use Rattle.sect_types.specs.Numbered.{of_both, of_all, base_by, value_by, local_
 use Rattle.sect_types.specs.steps.Walks.{rule_in}
 use Rattle.sect_types.proofs.Typing.{well_typed, well_typed_test, assign_of, compute_of, new_of, load_of, store_of}
 use Rattle.sect_types.proofs.Typing.{print_of, compared_of, primitive_of, test_of}
+use Rattle.sect_front.specs.declared.tree.Primitive as leaf
+use Rattle.sect_front.specs.declared.tree.Primitive.TheVariants as primitive
+use Rattle.sect_front.specs.declared.tree.Kind.TheVariants as kind
+use Rattle.sect_types.specs.declared.rules.resolve.Denoted.TheVariants as denoted
+use Rattle.sect_types.specs.declared.rules.resolve.Looked.TheVariants as looked
+use Rattle.sect_types.specs.declared.expansion.action.Action.TheVariants as action
 
 -- what keeps the rules is there by numbers
 pub record IsLinked (A : Type 0) (r : Result A Rule) (o : Option A) : Type 0 where

@@ -1,31 +1,24 @@
 -- What a statement by numbers names is declared.
-use Rattle.std.proofs.Common.{◌≡◌, ℕ, ◌≤◌, ◌<◌, List, length, Option, Some, None, IfSome}
-use Rattle.std.proofs.Common.{subst, arith}
-use Rattle.std.proofs.lemmas.List.{length-map}
-use Rattle.std.proofs.lemmas.Option.{slice_get_within}
-use Rattle.sect_front.specs.declared.tree.Declaration.{Declaration}
-use Rattle.sect_front.specs.declared.tree.Operand.{Operand}
-use Rattle.sect_front.specs.declared.tree.Primitive as leaf
-use Rattle.sect_front.specs.declared.tree.Primitive.TheVariants as primitive
+use Rattle.std.proofs.Common.{◌≡◌, ℕ, ◌≤◌, ◌<◌, List, length, Option, Some, None, IfSome, subst, arith}
+use Rattle.std.proofs.{lemmas.List.{length-map}, lemmas.Option.{slice_get_within}}
+use Rattle.sect_front.specs.{declared.tree.Declaration.{Declaration}, declared.tree.Operand.{Operand}}
 use Rattle.sect_front.specs.declared.tree.Test.{Test}
-use Rattle.sect_types.specs.declared.rules.resolve.Denoted.{Denoted}
-use Rattle.sect_types.specs.declared.rules.resolve.Denoted.TheVariants as denoted
-use Rattle.sect_types.specs.declared.rules.resolve.Given.{Given}
-use Rattle.sect_types.specs.declared.rules.resolve.Given.TheVariants as given
-use Rattle.sect_types.specs.declared.declarations.types.ValueType.{ValueType}
-use Rattle.sect_types.specs.declared.expansion.action.Base.{Base}
-use Rattle.sect_types.specs.declared.expansion.action.Value.{Value}
-use Rattle.sect_types.specs.declared.expansion.action.Condition.{Condition}
+use Rattle.sect_types.specs.{declared.rules.resolve.Denoted.{Denoted}, declared.rules.resolve.Given.{Given}}
+use Rattle.sect_types.specs.{declared.declarations.types.ValueType.{ValueType}, declared.expansion.action.Base.{Base}}
+use Rattle.sect_types.specs.{declared.expansion.action.Value.{Value}, declared.expansion.action.Condition.{Condition}}
 use Rattle.sect_types.specs.declared.expansion.action.Action.{Action}
-use Rattle.sect_types.specs.declared.expansion.action.Action.TheVariants as action
 use Rattle.sect_types.specs.Sight.{Sight, names_of_records, place, base_of, operand_of}
 use Rattle.sect_types.specs.Numbered.{base_by, value_by, local_by, target_of, source_of, field_behind, value_of}
-use Rattle.sect_types.specs.Numbered.{action_of, condition_of}
-use Rattle.sect_types.specs.Environments.{environment, type_of}
+use Rattle.sect_types.specs.{Numbered.{action_of, condition_of}, Environments.{environment, type_of}}
 use Rattle.sect_types.specs.steps.Below.{IsValueBelow, IsBaseBelow, IsActionBelow, IsConditionBelow}
 use Rattle.sect_lemmas.proofs.Options.{some_injective, none_or_some}
 use Rattle.sect_types.proofs.Optional.{both_parts, three_parts, map_part}
 use Rattle.sect_types.proofs.SoundLemmas.{IsThere, IsGiven, base_there, operand_there}
+use Rattle.sect_front.specs.declared.tree.Primitive as leaf
+use Rattle.sect_front.specs.declared.tree.Primitive.TheVariants as primitive
+use Rattle.sect_types.specs.declared.rules.resolve.Denoted.TheVariants as denoted
+use Rattle.sect_types.specs.declared.rules.resolve.Given.TheVariants as given
+use Rattle.sect_types.specs.declared.expansion.action.Action.TheVariants as action
 
 -- as many types as declarations
 long : (s : Sight) → length (environment s).locals ≡ length s.locals

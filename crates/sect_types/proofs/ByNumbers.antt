@@ -1,23 +1,13 @@
 -- Where there is a text by numbers, it is what the code writes.
 use Rattle.std.proofs.Common.{◌≡◌, ℕ, zero, suc, ◌+◌, List, [], ◌∷◌, Option, Some, None, refl, sym, ap, ◌∙◌, length}
-use Rattle.sect_front.specs.declared.tree.Declaration.{Declaration}
-use Rattle.sect_front.specs.declared.tree.Operand.{Operand}
-use Rattle.sect_front.specs.declared.tree.Primitive as leaf
-use Rattle.sect_front.specs.declared.tree.Test.{Test}
-use Rattle.sect_front.specs.declared.tree.Record.{Record}
-use Rattle.sect_front.specs.declared.tree.GlobalObject.{GlobalObject}
-use Rattle.sect_front.specs.declared.tree.Procedure.{Procedure}
-use Rattle.sect_front.specs.declared.tree.Thread.{Thread}
-use Rattle.sect_front.specs.TreeView.{TreeView}
+use Rattle.sect_front.specs.{declared.tree.Declaration.{Declaration}, declared.tree.Operand.{Operand}}
+use Rattle.sect_front.specs.{declared.tree.Test.{Test}, declared.tree.Record.{Record}}
+use Rattle.sect_front.specs.{declared.tree.GlobalObject.{GlobalObject}, declared.tree.Procedure.{Procedure}}
+use Rattle.sect_front.specs.{declared.tree.Thread.{Thread}, TreeView.{TreeView}}
 use Rattle.sect_front.specs.Syntax.{StatementView, Primitive, If, IfElse, While, Atomic, Call, BlockView, End, Then}
-use Rattle.sect_types.specs.declared.counting.sums.Sums.{Sums}
-use Rattle.sect_types.specs.declared.expansion.action.Value.{Value}
-use Rattle.sect_types.specs.declared.expansion.action.Action.{Action}
-use Rattle.sect_types.specs.declared.expansion.action.Action.TheVariants as action
-use Rattle.sect_types.specs.declared.expansion.action.Condition.{Condition}
-use Rattle.sect_types.specs.Items.{variables}
-use Rattle.sect_types.specs.Rules.{sight}
-use Rattle.sect_types.specs.Sight.{operand_of}
+use Rattle.sect_types.specs.{declared.counting.sums.Sums.{Sums}, declared.expansion.action.Value.{Value}}
+use Rattle.sect_types.specs.{declared.expansion.action.Action.{Action}, declared.expansion.action.Condition.{Condition}}
+use Rattle.sect_types.specs.{Items.{variables}, Rules.{sight}, Sight.{operand_of}}
 use Rattle.sect_types.specs.Statements.{TextView, Stop, Do, Choose, Loop, Section, joined}
 use Rattle.sect_types.specs.Sums.{sums, sums_within, number_of}
 use Rattle.sect_types.specs.Numbered.{value_by, value_of, action_of, condition_of}
@@ -28,11 +18,12 @@ use Rattle.sect_types.specs.Expanded.{call_of, procedure_numbered, expand_within
 use Rattle.sect_types.specs.Expanded.{texts_of}
 use Rattle.sect_types.specs.steps.Written.{Writer, action_in, condition_in, argument_in, written_action}
 use Rattle.sect_types.specs.steps.Written.{written_statement, written_block, write_locals, write_parameters}
-use Rattle.sect_types.specs.steps.Written.{written_call, written_within, written_thread, written_threads}
-use Rattle.sect_types.specs.steps.Written.{written_texts}
+use Rattle.sect_types.specs.steps.Written.{written_call, written_within, written_thread, written_threads, written_texts}
 use Rattle.sect_types.proofs.Optional.{both_parts, three_parts, map_part}
 use Rattle.sect_lemmas.proofs.Options.{some_injective, none_or_some}
 use Rattle.sect_types.proofs.shared.Joining.{joined_again}
+use Rattle.sect_front.specs.declared.tree.Primitive as leaf
+use Rattle.sect_types.specs.declared.expansion.action.Action.TheVariants as action
 
 -- a statement without a block, a test and an argument
 action_written : (v : Scene) (a : NextNumbers) (p : leaf.Primitive) (x : Action) → action_at v a p ≡ Some x

@@ -1,12 +1,11 @@
 -- Counting that stops one past each limit says the same.
-use Rattle.std.proofs.Common.{◌≡◌, ℕ, zero, suc, ◌+◌, List, [], ◌∷◌, Option, Some, None, refl, sym}
-use Rattle.std.proofs.Common.{◌∙◌, ap, arith, map, length, min, max, slice_get}
+use Rattle.std.proofs.Common.{◌≡◌, ℕ, zero, suc, ◌+◌, List, [], ◌∷◌, Option, Some, None, refl, sym, ◌∙◌, ap, arith, map}
+use Rattle.std.proofs.Common.{length, min, max, slice_get}
 use Rattle.sect_front.specs.declared.tree.Procedure.{Procedure}
-use Rattle.sect_types.specs.declared.counting.sums.Sums.{Sums}
-use Rattle.sect_types.specs.Sums.{both, around, call_sums, or_nothing, number_of, sums_at}
-use Rattle.sect_types.specs.Sums.{statement_sums, block_sums}
-use Rattle.sect_types.specs.Sums.{procedure_sums, sums_within}
 use Rattle.sect_front.specs.Syntax.{StatementView, Primitive, If, IfElse, While, Atomic, Call, BlockView, End, Then}
+use Rattle.sect_types.specs.declared.counting.sums.Sums.{Sums}
+use Rattle.sect_types.specs.Sums.{both, around, call_sums, or_nothing, number_of, sums_at, statement_sums, block_sums}
+use Rattle.sect_types.specs.Sums.{procedure_sums, sums_within}
 use Rattle.sect_types.specs.steps.Capped.{capped}
 
 -- sums are the same by their parts

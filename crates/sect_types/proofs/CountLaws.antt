@@ -1,29 +1,21 @@
 -- What the sums say of the expansion.
-use Rattle.std.proofs.Common.{◌≡◌, ℕ, zero, suc, ◌+◌, List, [], ◌∷◌, Option, Some, None, refl, sym, ◌∙◌, ap, arith}
-use Rattle.std.proofs.Common.{map, length, slice_get}
-use Rattle.std.proofs.lemmas.List.{length-append}
-use Rattle.sect_front.specs.declared.tree.Operand.{Operand}
-use Rattle.sect_front.specs.declared.tree.Primitive as leaf
-use Rattle.sect_front.specs.declared.tree.Primitive.TheVariants as primitive
-use Rattle.sect_front.specs.declared.tree.Declaration.{Declaration}
-use Rattle.sect_front.specs.declared.tree.Record.{Record}
-use Rattle.sect_front.specs.declared.tree.GlobalObject.{GlobalObject}
-use Rattle.sect_types.specs.Statements.{TextView, Stop, Do, Choose, Loop, Section, joined, statement_count}
-use Rattle.sect_types.specs.Rules.{sight}
+use Rattle.std.proofs.Common.{◌≡◌, ℕ, zero, suc, ◌+◌, List, [], ◌∷◌, Option, Some, None, refl, sym, ◌∙◌, ap, arith, map}
+use Rattle.std.proofs.{Common.{length, slice_get}, lemmas.List.{length-append}}
+use Rattle.sect_front.specs.{declared.tree.Operand.{Operand}, declared.tree.Declaration.{Declaration}}
+use Rattle.sect_front.specs.{declared.tree.Record.{Record}, declared.tree.GlobalObject.{GlobalObject}}
 use Rattle.sect_front.specs.Syntax.{StatementView, Primitive, If, IfElse, While, Atomic, Call, BlockView, End, Then}
-use Rattle.sect_front.specs.declared.tree.Procedure.{Procedure}
-use Rattle.sect_front.specs.declared.tree.Thread.{Thread}
-use Rattle.sect_front.specs.TreeView.{TreeView}
-use Rattle.sect_types.specs.Items.{variables}
-use Rattle.sect_types.specs.declared.counting.sums.Sums.{Sums}
+use Rattle.sect_front.specs.{declared.tree.Procedure.{Procedure}, declared.tree.Thread.{Thread}, TreeView.{TreeView}}
+use Rattle.sect_types.specs.Statements.{TextView, Stop, Do, Choose, Loop, Section, joined, statement_count}
+use Rattle.sect_types.specs.{Rules.{sight}, Items.{variables}, declared.counting.sums.Sums.{Sums}}
 use Rattle.sect_types.specs.Sums.{nothing, sums, sums_at, or_nothing, sums_within, procedure_sums, statement_sums}
 use Rattle.sect_types.specs.Sums.{block_sums, primitive_sums, number_of, sums_of}
 use Rattle.sect_types.specs.Expanded.{Scene, NextNumbers, Freshens, of_call, past_statement, past_block}
+use Rattle.sect_types.specs.Expanded.{procedure_numbered, after_call, statement_fresh, block_fresh, fresh_of}
+use Rattle.sect_types.specs.Expanded.{fresh_within, fresh_in}
 use Rattle.sect_types.specs.steps.Written.{Writer, written_statement, written_block, written_within, written_call}
 use Rattle.sect_types.specs.steps.Written.{write_parameters, write_locals, written_thread}
-use Rattle.sect_types.specs.Expanded.{procedure_numbered}
-use Rattle.sect_types.specs.Expanded.{after_call, statement_fresh}
-use Rattle.sect_types.specs.Expanded.{block_fresh, fresh_of, fresh_within, fresh_in}
+use Rattle.sect_front.specs.declared.tree.Primitive as leaf
+use Rattle.sect_front.specs.declared.tree.Primitive.TheVariants as primitive
 
 -- a primitive statement is one statement, with a site at most, and nothing else
 pub primitive_comes : (p : leaf.Primitive)

@@ -1,24 +1,15 @@
 -- No typed text has recursion.
-use Rattle.std.specs.Prelude.{true, false, eqb}
-use Rattle.std.specs.List.{list_any}
-use Rattle.std.proofs.Common.{◌≡◌, ◌⊎◌, inl, inr, ℕ, List, [], Option, Some, None}
-use Rattle.std.proofs.Common.{refl, sym, ◌∙◌, subst, slice_get}
-use Rattle.std.proofs.lemmas.Bool.{eqb-true}
+use Rattle.std.specs.{Prelude.{true, false, eqb}, List.{list_any}}
+use Rattle.std.proofs.Common.{◌≡◌, ◌⊎◌, inl, inr, ℕ, List, [], Option, Some, None, refl, sym, ◌∙◌, subst, slice_get}
+use Rattle.std.proofs.lemmas.Bool.{eqb-true, or_cases}
 use Rattle.sect_front.specs.declared.tree.Declaration.{Declaration}
 use Rattle.sect_front.specs.Syntax.{StatementView, Primitive, If, IfElse, While, Atomic, Call, BlockView, End, Then}
-use Rattle.sect_front.specs.declared.tree.Procedure.{Procedure}
-use Rattle.sect_front.specs.TreeView.{TreeView}
-use Rattle.sect_types.specs.declared.rules.place.Place.TheVariants.{InProcedure}
-use Rattle.sect_types.specs.Items.{variables}
+use Rattle.sect_front.specs.{declared.tree.Procedure.{Procedure}, TreeView.{TreeView}}
+use Rattle.sect_types.specs.{declared.rules.place.Place.TheVariants.{InProcedure}, Items.{variables}}
 use Rattle.sect_types.specs.Sums.{number_of, prepend, statement_calls, block_calls, calls_in}
-use Rattle.sect_types.specs.steps.Search.{returns}
-use Rattle.sect_types.specs.Rules.{Declared, declared_in}
-use Rattle.sect_types.specs.steps.Search.{returns_to}
-use Rattle.sect_types.specs.First.{IsTyped}
-use Rattle.sect_types.specs.steps.Clean.{IsCleanStatement, IsCleanBlock}
-use Rattle.std.proofs.lemmas.Bool.{or_cases}
-use Rattle.sect_types.proofs.EnoughLaws.{IsAcyclic}
-use Rattle.sect_types.proofs.SiteLaws.{AreClean, typed_clean}
+use Rattle.sect_types.specs.{Rules.{Declared, declared_in}, First.{IsTyped}}
+use Rattle.sect_types.specs.steps.{Search.{returns, returns_to}, Clean.{IsCleanStatement, IsCleanBlock}}
+use Rattle.sect_types.proofs.{EnoughLaws.{IsAcyclic}, SiteLaws.{AreClean, typed_clean}}
 
 -- a call is of a procedure that doesn't return
 called_ends : (ps : List Procedure) (i : ℕ) (q : Option ℕ) (w : List ℕ) (s : ℕ)

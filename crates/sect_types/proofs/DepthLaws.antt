@@ -1,25 +1,18 @@
 -- The sums say how deep blocks stand in one another in the expansion.
 use Rattle.std.specs.Prelude.{max}
 use Rattle.std.proofs.Common.{◌≡◌, ℕ, zero, suc, ◌+◌, List, [], ◌∷◌, Option, Some, None, refl, sym, ◌∙◌, ap, arith}
-use Rattle.std.proofs.Common.{length}
-use Rattle.std.proofs.Math.Nat.{max-zero, zero-max}
-use Rattle.sect_front.specs.declared.tree.Operand.{Operand}
-use Rattle.sect_front.specs.declared.tree.Declaration.{Declaration}
-use Rattle.sect_front.specs.declared.tree.Record.{Record}
-use Rattle.sect_front.specs.declared.tree.GlobalObject.{GlobalObject}
-use Rattle.sect_front.specs.declared.tree.Procedure.{Procedure}
-use Rattle.sect_front.specs.declared.tree.Thread.{Thread}
-use Rattle.sect_front.specs.TreeView.{TreeView}
+use Rattle.std.proofs.{Common.{length}, Math.Nat.{max-zero, zero-max}}
+use Rattle.sect_front.specs.{declared.tree.Operand.{Operand}, declared.tree.Declaration.{Declaration}}
+use Rattle.sect_front.specs.{declared.tree.Record.{Record}, declared.tree.GlobalObject.{GlobalObject}}
+use Rattle.sect_front.specs.{declared.tree.Procedure.{Procedure}, declared.tree.Thread.{Thread}, TreeView.{TreeView}}
 use Rattle.sect_front.specs.Syntax.{StatementView, Primitive, If, IfElse, While, Atomic, Call, BlockView, End, Then}
 use Rattle.sect_types.specs.declared.counting.sums.Sums.{Sums}
 use Rattle.sect_types.specs.Statements.{TextView, Stop, Do, Choose, Loop, Section, joined, text_depth}
-use Rattle.sect_types.specs.Items.{variables}
-use Rattle.sect_types.specs.Rules.{sight}
+use Rattle.sect_types.specs.{Items.{variables}, Rules.{sight}}
 use Rattle.sect_types.specs.Sums.{sums, sums_at, sums_of, sums_within, statement_sums, block_sums, number_of}
-use Rattle.sect_types.specs.Expanded.{Scene, NextNumbers, past_statement, past_block}
+use Rattle.sect_types.specs.Expanded.{Scene, NextNumbers, past_statement, past_block, procedure_numbered, after_call}
 use Rattle.sect_types.specs.steps.Written.{Writer, written_statement, written_block, written_within, written_call}
 use Rattle.sect_types.specs.steps.Written.{write_parameters, write_locals, written_thread}
-use Rattle.sect_types.specs.Expanded.{procedure_numbered, after_call}
 use Rattle.sect_types.proofs.CountLaws.{primitive_comes, looked}
 
 max_first : (a b c : ℕ) → max a (max b c) ≡ max (max a b) c

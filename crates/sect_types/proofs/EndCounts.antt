@@ -1,46 +1,34 @@
 -- The counts at the end of a text that breaks no rule.
 use Rattle.std.specs.Prelude.{Bool, true, false, if◌then◌else◌}
-use Rattle.std.proofs.Common.{◌≡◌, ℕ, zero, suc, ◌+◌, List, [], ◌∷◌, ◌++◌, Option, Some, None}
-use Rattle.std.proofs.Common.{refl, sym, ◌∙◌, arith, subst, length, length-append}
-use Rattle.sect_front.specs.declared.tree.Primitive as leaf
-use Rattle.sect_front.specs.declared.tree.Primitive.TheVariants as primitive
-use Rattle.sect_front.specs.declared.tree.Declaration.{Declaration}
-use Rattle.sect_front.specs.declared.tree.Record.{Record}
+use Rattle.std.proofs.Common.{◌≡◌, ℕ, zero, suc, ◌+◌, List, [], ◌∷◌, ◌++◌, Option, Some, None, refl, sym, ◌∙◌, arith}
+use Rattle.std.proofs.Common.{subst, length, length-append}
+use Rattle.sect_front.specs.{declared.tree.Declaration.{Declaration}, declared.tree.Record.{Record}}
 use Rattle.sect_front.specs.declared.tree.GlobalObject.{GlobalObject}
-use Rattle.sect_types.specs.Statements.{made_in}
-use Rattle.sect_types.specs.Sections.{sections_of}
-use Rattle.sect_types.specs.Programs.{total_statements, all_made}
 use Rattle.sect_front.specs.Syntax.{StatementView, Primitive, If, IfElse, While, Atomic, Call, BlockView, End, Then}
-use Rattle.sect_front.specs.declared.tree.Procedure.{Procedure}
-use Rattle.sect_front.specs.declared.tree.Thread.{Thread}
-use Rattle.sect_front.specs.TreeView.{TreeView}
+use Rattle.sect_front.specs.{declared.tree.Procedure.{Procedure}, declared.tree.Thread.{Thread}, TreeView.{TreeView}}
+use Rattle.sect_types.specs.{Statements.{made_in}, Sections.{sections_of}, Programs.{total_statements, all_made}}
 use Rattle.sect_types.specs.declared.rules.place.Place.{Place}
 use Rattle.sect_types.specs.declared.rules.place.Place.TheVariants.{InThread, InProcedure}
-use Rattle.sect_types.specs.Items.{deeper, in_section, Item, AGlobal}
-use Rattle.sect_types.specs.Items.{AStatement, PrimitiveHead, TestHead, AtomicHead, statement_items}
-use Rattle.sect_types.specs.Items.{block_items, field_items, record_items, global_items, local_items, procedure_items}
-use Rattle.sect_types.specs.Items.{thread_items, variables, items}
+use Rattle.sect_types.specs.Items.{deeper, in_section, Item, AGlobal, AStatement, PrimitiveHead, TestHead, AtomicHead}
+use Rattle.sect_types.specs.Items.{statement_items, block_items, field_items, record_items, global_items, local_items}
+use Rattle.sect_types.specs.Items.{procedure_items, thread_items, variables, items}
 use Rattle.sect_types.specs.declared.counting.sums.Sums.{Sums}
 use Rattle.sect_types.specs.Sums.{nothing, both, around, statement_sums, block_sums, primitive_sums}
 use Rattle.sect_types.specs.declared.rules.rule.Rule.{Rule}
 use Rattle.sect_types.specs.declared.rules.rule.Rule.TheVariants.{Unknown, Twice, WrongType, SharedOutside, Nested}
-use Rattle.sect_types.specs.declared.rules.rule.Rule.TheVariants.{TooMany}
-use Rattle.sect_types.specs.declared.rules.rule.Rule.TheVariants.{Recursion, Arguments}
-use Rattle.sect_types.specs.Rules.{Declared, Counts, after}
-use Rattle.sect_types.specs.steps.Judging.{breaks, rule_of, Verdict, Fine, fault_or, judge}
-use Rattle.sect_types.specs.Rules.{declared_in, after_item}
-use Rattle.sect_types.specs.steps.Judging.{least}
-use Rattle.sect_types.specs.First.{none_yet, IsTyped}
-use Rattle.sect_types.specs.steps.Clean.{AreCleanThreads}
+use Rattle.sect_types.specs.declared.rules.rule.Rule.TheVariants.{TooMany, Recursion, Arguments}
+use Rattle.sect_types.specs.{Rules.{Declared, Counts, after, declared_in, after_item}, First.{none_yet, IsTyped}}
 use Rattle.sect_types.specs.Expanded.{NextNumbers, statement_sections, block_sections, past_thread}
-use Rattle.sect_types.specs.steps.Written.{written_thread, written_threads, written_texts}
+use Rattle.sect_types.specs.steps.Judging.{breaks, rule_of, Verdict, Fine, fault_or, judge, least}
+use Rattle.sect_types.specs.steps.{Clean.{AreCleanThreads}, Written.{written_thread, written_threads, written_texts}}
 use Rattle.sect_types.proofs.CountLaws.{thread_counts}
-use Rattle.sect_types.proofs.Walked.{NoneBroken, statement_after, block_after, declared_after}
-use Rattle.sect_types.proofs.Ways.{rule_breaks}
-use Rattle.sect_types.proofs.Walked.{records_after, globals_after, procedure_after, procedures_after, thread_after}
-use Rattle.sect_types.proofs.Walked.{threads_after, before_procedures, before_threads, text_clean}
+use Rattle.sect_types.proofs.Walked.{NoneBroken, statement_after, block_after, declared_after, records_after}
+use Rattle.sect_types.proofs.Walked.{globals_after, procedure_after, procedures_after, thread_after, threads_after}
+use Rattle.sect_types.proofs.{Walked.{before_procedures, before_threads, text_clean}, Ways.{rule_breaks}}
 use Rattle.sect_types.proofs.SiteLaws.{AreClean, typed_clean, thread_makes}
 use Rattle.sect_types.proofs.SectionLaws.{sections_in, typed_section_count}
+use Rattle.sect_front.specs.declared.tree.Primitive as leaf
+use Rattle.sect_front.specs.declared.tree.Primitive.TheVariants as primitive
 
 -- what stands behind all these items
 abbrev pub after_all : Declared → Counts → List Item → Counts

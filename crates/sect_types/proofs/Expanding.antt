@@ -1,23 +1,18 @@
 -- A block of which the first statements have been expanded.
 use Rattle.std.proofs.Common.{◌≡◌, ℕ, ◌+◌, ◌<◌, List, [], ◌∷◌, drop, get_or, length, refl, sym, ap, ◌∙◌, append-nil}
 use Rattle.std.proofs.Common.{arith, Result, Ok, Err, OnOk}
-use Rattle.sect_types.specs.declared.expansion.text.Step.{Step}
-use Rattle.sect_types.specs.Texts.{step_then}
-use Rattle.sect_front.specs.Syntax.{StatementView, BlockView, End, Then}
-use Rattle.sect_front.specs.Trees.{statement_of, block_of}
-use Rattle.sect_front.specs.declared.tree.Statement.{Statement}
-use Rattle.sect_front.specs.declared.tree.Operand.{Operand}
+use Rattle.sect_types.specs.{declared.expansion.text.Step.{Step}, Texts.{step_then}, Sight.{operand_of}}
+use Rattle.sect_types.specs.{Statements.{TextView, Stop, Do, joined}, Expanded.{Scene, cleared}}
+use Rattle.sect_front.specs.{Syntax.{StatementView, BlockView, End, Then}, Trees.{statement_of, block_of}}
+use Rattle.sect_front.specs.{declared.tree.Statement.{Statement}, declared.tree.Operand.{Operand}}
 use Rattle.sect_front.specs.declared.tree.Declaration.{Declaration}
-use Rattle.sect_types.specs.declared.expansion.action.Action.TheVariants as action
-use Rattle.sect_types.specs.declared.expansion.action.Value.TheVariants as value
-use Rattle.sect_types.specs.Sight.{operand_of}
-use Rattle.sect_types.specs.Statements.{TextView, Stop, Do, joined}
-use Rattle.sect_types.specs.Expanded.{Scene, cleared}
 use Rattle.sect_types.specs.steps.Written.{argument_in, write_parameters, write_locals}
 use Rattle.sect_types.specs.steps.Expanding.{SettingView, FrontView, front_past_block, expanded_there, block_there}
 use Rattle.sect_lemmas.proofs.Elements.{drop_next}
 use Rattle.sect_types.proofs.Filling.{joined_step}
 use Rattle.sect_types.proofs.shared.Joining.{joined_stop}
+use Rattle.sect_types.specs.declared.expansion.action.Action.TheVariants as action
+use Rattle.sect_types.specs.declared.expansion.action.Value.TheVariants as value
 
 set_on : (v : Scene) (x : ℕ) (ds : List Declaration) (us : List Operand) (b k : TextView)
     → write_parameters v x ds us (joined b k) ≡ joined (write_parameters v x ds us b) k

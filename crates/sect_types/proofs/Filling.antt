@@ -3,9 +3,8 @@ use Rattle.std.proofs.Common.{◌≡◌, ℕ, zero, suc, ◌<◌, ◌≤◌, Lis
 use Rattle.std.specs.Prelude.{slice_get, slice_index_or}
 use Rattle.sect_front.specs.declared.tree.Operand.{Operand}
 use Rattle.sect_types.specs.declared.expansion.text.Step.{Step}
+use Rattle.sect_types.specs.{Statements.{TextView, Stop, Do, Choose, Loop, Section, joined}, Texts.{step_then}}
 use Rattle.sect_types.specs.declared.expansion.text.Step.TheVariants as step
-use Rattle.sect_types.specs.Statements.{TextView, Stop, Do, Choose, Loop, Section, joined}
-use Rattle.sect_types.specs.Texts.{step_then}
 
 pub joined_step : (t : TextView) (st : Step) (k : TextView)
     → joined (joined t (step_then st Stop)) k ≡ joined t (step_then st k)

@@ -1,11 +1,9 @@
 -- The section of a number is found.
 use Rattle.std.proofs.Common.{◌≡◌, ℕ, ◌+◌, ◌<◌, ◌≤◌, Bool, true, false, List, drop, get_or, length, Option, Some, None}
-use Rattle.std.proofs.Common.{nat_eq, if◌then◌else◌, refl, sym, ap, ◌∙◌}
+use Rattle.std.proofs.{Common.{nat_eq, if◌then◌else◌, refl, sym, ap, ◌∙◌}, lemmas.List.{drop_all}}
 use Rattle.std.specs.Option.{option_or}
 use Rattle.sect_lemmas.proofs.Elements.{drop_next}
-use Rattle.std.proofs.lemmas.List.{drop_all}
-use Rattle.sect_types.specs.Statements.{TextView, Stop, section_body}
-use Rattle.sect_types.specs.Texts.{step_then, statements_of}
+use Rattle.sect_types.specs.{Statements.{TextView, Stop, section_body}, Texts.{step_then, statements_of}}
 use Rattle.sect_types.specs.declared.expansion.text.Step.{Step}
 use Rattle.sect_types.specs.declared.expansion.text.Step.TheVariants as step
 

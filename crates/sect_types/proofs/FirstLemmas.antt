@@ -1,31 +1,26 @@
 -- The verdict on a list names its first fault.
-use Rattle.std.proofs.Common.{◌≡◌, ℕ, zero, suc, ◌+◌, ◌≤◌, Bool, true, false, List, [], ◌∷◌, Option, Some, None}
-use Rattle.std.proofs.Common.{Result, Ok, Err, if◌then◌else◌, refl, sym, ◌∙◌, true≢false, arith, subst, ap, ◌⊎◌, inl}
-use Rattle.std.proofs.Common.{inr, ◌<◌, ◌-◌, get_or}
-use Rattle.std.proofs.Math.Nat.{eq-or-lt_of_le}
-use Rattle.sect_front.specs.declared.tree.Primitive.TheVariants as primitive
+use Rattle.std.proofs.Common.{◌≡◌, ℕ, zero, suc, ◌+◌, ◌≤◌, Bool, true, false, List, [], ◌∷◌, Option, Some, None, Result}
+use Rattle.std.proofs.Common.{Ok, Err, if◌then◌else◌, refl, sym, ◌∙◌, true≢false, arith, subst, ap, ◌⊎◌, inl, inr, ◌<◌}
+use Rattle.std.proofs.{Common.{◌-◌, get_or}, Math.Nat.{eq-or-lt_of_le}}
 use Rattle.sect_types.specs.declared.rules.rule.Rule.{Rule}
 use Rattle.sect_types.specs.declared.rules.rule.Rule.TheVariants.{Unknown, Twice, WrongType, SharedOutside, Nested}
-use Rattle.sect_types.specs.declared.rules.rule.Rule.TheVariants.{TooMany}
-use Rattle.sect_types.specs.declared.rules.rule.Rule.TheVariants.{Recursion, Arguments}
-use Rattle.sect_front.specs.TreeView.{TreeView}
-use Rattle.std.specs.Result.{IsErrAnd, IsOkUnless}
+use Rattle.sect_types.specs.declared.rules.rule.Rule.TheVariants.{TooMany, Recursion, Arguments}
 use Rattle.sect_types.specs.declared.rules.rule.TypeFault.{TypeFault}
 use Rattle.sect_types.specs.declared.rules.rule.TypeFault.TheVariants.{Memory}
-use Rattle.sect_types.specs.declared.rules.rule.TypeFault.TheVariants as type
-use Rattle.sect_types.specs.First.{Judges}
+use Rattle.sect_types.specs.First.{Judges, BreaksFrom, number_of_rule, IsFirstFrom, none_yet, IsTyped}
 use Rattle.sect_types.specs.Faults.{type_fault}
 use Rattle.sect_types.specs.Items.{items, record_items, global_items, procedure_items, thread_items, Item, ARecord}
 use Rattle.sect_types.specs.Items.{AField, AGlobal, AProcedure, AThread, ALocal, AStatement, PrimitiveHead, TestHead}
 use Rattle.sect_types.specs.Items.{AtomicHead, CallHead}
 use Rattle.sect_types.specs.declared.rules.place.Place.TheVariants.{InThread, InProcedure}
-use Rattle.sect_types.specs.Rules.{Declared, declared_in, Counts, after}
-use Rattle.sect_types.specs.steps.Judging.{breaks, least, rule_of, judge, fault_or}
-use Rattle.sect_types.specs.steps.Judging.{Verdict, Fine, Faulty}
-use Rattle.sect_types.specs.First.{BreaksFrom, number_of_rule, IsFirstFrom, none_yet, IsTyped}
+use Rattle.sect_types.specs.{Rules.{Declared, declared_in, Counts, after}, declared.rules.rule.WalkFault.{WalkFault}}
+use Rattle.sect_front.specs.TreeView.{TreeView}
+use Rattle.std.specs.Result.{IsErrAnd, IsOkUnless}
+use Rattle.sect_types.specs.steps.Judging.{breaks, least, rule_of, judge, fault_or, Verdict, Fine, Faulty}
 use Rattle.sect_types.specs.steps.Walks.{Walks}
 use Rattle.sect_types.proofs.Ways.{breaks_rule, rule_breaks}
-use Rattle.sect_types.specs.declared.rules.rule.WalkFault.{WalkFault}
+use Rattle.sect_front.specs.declared.tree.Primitive.TheVariants as primitive
+use Rattle.sect_types.specs.declared.rules.rule.TypeFault.TheVariants as type
 use Rattle.sect_types.specs.declared.rules.rule.WalkFault.TheVariants as fault
 
 -- what the least rule says of the tests

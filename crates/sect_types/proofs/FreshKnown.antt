@@ -1,24 +1,19 @@
 -- The types of fresh locals are known, and are those of the program.
 use Rattle.std.specs.Prelude.{true}
 use Rattle.std.proofs.Common.{◌≡◌, ℕ, zero, suc, ◌+◌, List, [], ◌∷◌, ◌++◌, map, Option, Some, None, refl, ap, length}
-use Rattle.sect_front.specs.declared.tree.Declaration.{Declaration}
-use Rattle.sect_front.specs.declared.tree.Procedure.{Procedure}
+use Rattle.std.proofs.lemmas.Bool.{and_from, and_parts}
+use Rattle.sect_front.specs.{declared.tree.Declaration.{Declaration}, declared.tree.Procedure.{Procedure}}
 use Rattle.sect_front.specs.declared.tree.Thread.{Thread}
 use Rattle.sect_front.specs.Syntax.{StatementView, Primitive, If, IfElse, While, Atomic, Call, BlockView, End, Then}
 use Rattle.sect_front.specs.TreeView.{TreeView}
-use Rattle.sect_types.specs.declared.expansion.expand.Fresh.{Fresh}
-use Rattle.sect_types.specs.declared.counting.sums.Sums.{Sums}
-use Rattle.sect_types.specs.Sight.{names_of_records}
-use Rattle.sect_types.specs.Items.{variables}
-use Rattle.sect_types.specs.Rules.{knows_kind}
+use Rattle.sect_types.specs.{declared.expansion.expand.Fresh.{Fresh}, declared.counting.sums.Sums.{Sums}}
+use Rattle.sect_types.specs.{Sight.{names_of_records}, Items.{variables}, Rules.{knows_kind}}
 use Rattle.sect_types.specs.Sums.{sums, sums_within, number_of, statement_sums, block_sums}
-use Rattle.sect_types.specs.Expanded.{Freshens, of_call, statement_fresh, block_fresh, fresh_of, fresh_within}
-use Rattle.sect_types.specs.Expanded.{fresh_in, procedure_numbered, local_types_of}
-use Rattle.sect_types.specs.steps.Listing.{all_known}
-use Rattle.sect_types.specs.steps.Threads.{variables_fine}
+use Rattle.sect_types.specs.Expanded.{Freshens, of_call, statement_fresh, block_fresh, fresh_of, fresh_within, fresh_in}
+use Rattle.sect_types.specs.Expanded.{procedure_numbered, local_types_of}
+use Rattle.sect_types.specs.steps.{Listing.{all_known}, Threads.{variables_fine}}
 use Rattle.sect_types.specs.steps.FreshTypes.{local_types, fresh_known, all_fresh_known}
 use Rattle.sect_types.proofs.ProgramLemmas.{numbered_known}
-use Rattle.std.proofs.lemmas.Bool.{and_from, and_parts}
 
 both_known : (records : List (List ℕ)) (xs ys : List Fresh) → fresh_known records xs ≡ true
     → fresh_known records ys ≡ true

@@ -1,21 +1,17 @@
 -- The same of the fresh locals: more fuel than there are procedures changes none.
-use Rattle.std.specs.Prelude.{Bool, true, false, is_some}
-use Rattle.std.specs.List.{list_any}
+use Rattle.std.specs.{Prelude.{Bool, true, false, is_some}, List.{list_any}}
 use Rattle.std.proofs.Common.{◌≡◌, ℕ, zero, suc, ◌+◌, List, [], ◌++◌, Option, Some, None, refl, ◌∙◌, ap, arith, inl}
-use Rattle.std.proofs.Common.{inr}
-use Rattle.std.proofs.Common.{length}
+use Rattle.std.proofs.{Common.{inr, length}, lemmas.Bool.{cases_Bool}}
 use Rattle.sect_front.specs.Syntax.{StatementView, Primitive, If, IfElse, While, Atomic, Call, BlockView, End, Then}
 use Rattle.sect_front.specs.declared.tree.Procedure.{Procedure}
-use Rattle.sect_types.specs.Items.{variables}
-use Rattle.sect_types.specs.declared.counting.sums.Sums.{Sums}
+use Rattle.sect_types.specs.{Items.{variables}, declared.counting.sums.Sums.{Sums}}
 use Rattle.sect_types.specs.Sums.{sums_within, statement_sums, block_sums, number_of, prepend, statement_calls}
 use Rattle.sect_types.specs.Sums.{block_calls, calls_in}
 use Rattle.sect_types.specs.Expanded.{Freshens, of_call, statement_fresh, block_fresh, fresh_of, fresh_within}
 use Rattle.sect_types.specs.Expanded.{procedure_numbered}
 use Rattle.sect_types.proofs.FuelLaws.{Agree, same_statement, same_block, chain, one_more}
-use Rattle.sect_lemmas.proofs.Booleans.{neither}
 use Rattle.sect_types.proofs.EnoughLaws.{IsAcyclic, ends, no_way}
-use Rattle.std.proofs.lemmas.Bool.{cases_Bool}
+use Rattle.sect_lemmas.proofs.Booleans.{neither}
 
 abbrev SameAt : Freshens → Freshens → Option ℕ → Type 0
 SameAt f g q = (c : ℕ) → f q c ≡ g q c

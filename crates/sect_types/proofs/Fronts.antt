@@ -1,38 +1,28 @@
 -- How far an expansion has come, statement by statement.
 use Rattle.std.proofs.Common.{◌≡◌, ℕ, zero, suc, ◌+◌, ◌*◌, ◌<◌, ◌≤◌, List, [], ◌∷◌, ◌++◌, map, drop, get_or, Some, sym}
 use Rattle.std.proofs.Common.{◌∙◌, ap, arith, subst, length, append_assoc, slice_get, length-append, None, refl}
-use Rattle.std.proofs.lemmas.List.{drop_all, append-nil}
-use Rattle.sect_front.specs.declared.tree.Declaration.{Declaration}
-use Rattle.sect_front.specs.declared.tree.Operand.{Operand}
-use Rattle.sect_front.specs.declared.tree.Procedure.{Procedure}
-use Rattle.sect_front.specs.declared.tree.Test.{Test}
+use Rattle.std.proofs.{lemmas.List.{drop_all, append-nil}, lemmas.Option.{slice_get-map}}
+use Rattle.sect_front.specs.{declared.tree.Declaration.{Declaration}, declared.tree.Operand.{Operand}}
+use Rattle.sect_front.specs.{declared.tree.Procedure.{Procedure}, declared.tree.Test.{Test}}
 use Rattle.sect_front.specs.declared.tree.Statement.{Statement}
 use Rattle.sect_front.specs.Syntax.{StatementView, IfElse, Call, BlockView, End, Then}
 use Rattle.sect_front.specs.Trees.{statement_of, block_of, block_size}
-use Rattle.sect_types.specs.Limits.{most_all_locals, most_calls}
-use Rattle.sect_types.specs.declared.expansion.expand.Fresh.{Fresh}
-use Rattle.sect_types.specs.declared.counting.sums.Sums.{Sums}
-use Rattle.sect_types.specs.Items.{variables}
+use Rattle.sect_types.specs.{Limits.{most_all_locals, most_calls}, declared.expansion.expand.Fresh.{Fresh}}
+use Rattle.sect_types.specs.{declared.counting.sums.Sums.{Sums}, Items.{variables}}
 use Rattle.sect_types.specs.Sums.{sums_within, block_sums, sums_at, number_of}
 use Rattle.sect_types.specs.Statements.{TextView, Stop, Choose, joined}
-use Rattle.sect_types.specs.declared.expansion.action.Condition.{Condition}
-use Rattle.sect_types.specs.Numbered.{condition_of}
+use Rattle.sect_types.specs.{declared.expansion.action.Condition.{Condition}, Numbered.{condition_of}}
+use Rattle.sect_types.specs.Expanded.{moved_condition, Scene, of_call, block_fresh, fresh_of, fresh_within}
+use Rattle.sect_types.specs.{Sight.{Sight, names_of_declared}, Rules.{sight}}
 use Rattle.sect_types.specs.steps.Written.{condition_in, written_within, write_parameters, write_locals}
-use Rattle.sect_types.specs.Expanded.{moved_condition, Scene, of_call}
-use Rattle.sect_types.specs.Expanded.{block_fresh, fresh_of, fresh_within}
 use Rattle.sect_types.specs.steps.Expanding.{SettingView, FrontView, Fits, front_past_statement, front_past_block}
-use Rattle.std.specs.Prelude.{IsSome}
-use Rattle.sect_types.proofs.Optional.{first_there, second_there}
-use Rattle.sect_types.specs.steps.Expanding.{numbered_there, numbered_block}
-use Rattle.sect_types.specs.steps.Expanding.{expanded_there, block_there, IsFront, most_size, tree_of, AreFlat}
-use Rattle.sect_types.specs.steps.Expansion.{Appends, view_of}
-use Rattle.sect_types.specs.Sight.{Sight, names_of_declared}
-use Rattle.sect_types.specs.Rules.{sight}
-use Rattle.std.specs.Option.{option_map}
-use Rattle.std.proofs.lemmas.Option.{slice_get-map}
+use Rattle.sect_types.specs.steps.Expanding.{numbered_there, numbered_block, expanded_there, block_there, IsFront}
+use Rattle.sect_types.specs.steps.{Expanding.{most_size, tree_of, AreFlat}, Expansion.{Appends, view_of}}
 use Rattle.sect_types.specs.steps.Threads.{VariablesView, variables_shown}
-use Rattle.sect_lemmas.proofs.Elements.{drop_next}
+use Rattle.std.specs.{Prelude.{IsSome}, Option.{option_map}}
+use Rattle.sect_types.proofs.Optional.{first_there, second_there}
 use Rattle.sect_types.proofs.Writing.{called, statement_follows, call_by_parts, alone, either_written}
+use Rattle.sect_lemmas.proofs.Elements.{drop_next}
 
 -- two fronts of the same parts
 pub front_same : (a b : FrontView) → a.at.sites ≡ b.at.sites → a.at.sections ≡ b.at.sections → a.at.fresh ≡ b.at.fresh

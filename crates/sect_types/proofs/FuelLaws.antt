@@ -1,6 +1,5 @@
 -- Where calls stand in one another less than n deep, more than n says no more.
-use Rattle.std.specs.Prelude.{Bool, true, false, is_some}
-use Rattle.std.specs.List.{list_any}
+use Rattle.std.specs.{Prelude.{Bool, true, false, is_some}, List.{list_any}}
 use Rattle.std.proofs.Common.{◌≡◌, ℕ, zero, suc, ◌+◌, List, [], Option, Some, None, refl, sym, ◌∙◌, ap, length}
 use Rattle.sect_front.specs.Syntax.{StatementView, Primitive, If, IfElse, While, Atomic, Call, BlockView, End, Then}
 use Rattle.sect_front.specs.declared.tree.Procedure.{Procedure}

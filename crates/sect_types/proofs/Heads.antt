@@ -1,44 +1,31 @@
 -- What resolving a statement says of the rules.
 use Rattle.std.proofs.Common.{◌≡◌, ℕ, suc, ◌+◌, nat_eq, Bool, true, false, not, ◌&&◌, ◌||◌, List, [], ◌∷◌, Option, Some}
 use Rattle.std.proofs.Common.{None, is_some, if◌then◌else◌, refl, ap, sym, ◌∙◌, cond, nat_lt, length, arith}
-use Rattle.std.specs.Cmp.Lexicographic.{pointwise}
-use Rattle.std.specs.List.{list_any, prefix_len}
 use Rattle.std.proofs.lemmas.Bool.Decides.{nat_tests}
-use Rattle.sect_front.specs.declared.tree.Primitive as leaf
-use Rattle.sect_front.specs.declared.tree.Primitive.TheVariants as primitive
-use Rattle.sect_front.specs.declared.tree.Test.{Test}
-use Rattle.sect_front.specs.declared.tree.Kind.TheVariants as kind
-use Rattle.sect_front.specs.declared.tree.Operator.{Operator}
-use Rattle.sect_front.specs.declared.tree.Comparison.{Comparison}
+use Rattle.std.specs.{Cmp.Lexicographic.{pointwise}, List.{list_any, prefix_len}, Prelude.{nat_le}}
+use Rattle.sect_front.specs.{declared.tree.Test.{Test}, declared.tree.Operator.{Operator}}
+use Rattle.sect_front.specs.{declared.tree.Comparison.{Comparison}, declared.tree.Procedure.{Procedure}}
 use Rattle.sect_types.specs.declared.rules.rule.Rule.{Rule}
 use Rattle.sect_types.specs.declared.rules.rule.Rule.TheVariants.{Unknown, WrongType, SharedOutside, TooMany}
-use Rattle.sect_types.specs.declared.rules.resolve.Denoted.{Denoted}
-use Rattle.sect_types.specs.declared.rules.resolve.Denoted.TheVariants as denoted
-use Rattle.sect_types.specs.declared.rules.resolve.Given.{Given}
-use Rattle.sect_types.specs.declared.rules.resolve.Looked.{Looked}
-use Rattle.sect_types.specs.declared.rules.resolve.Looked.TheVariants as looked
-use Rattle.sect_types.specs.declared.expansion.action.Action.{Action}
+use Rattle.sect_types.specs.{declared.rules.resolve.Denoted.{Denoted}, declared.rules.resolve.Given.{Given}}
+use Rattle.sect_types.specs.{declared.rules.resolve.Looked.{Looked}, declared.expansion.action.Action.{Action}}
 use Rattle.sect_types.specs.declared.expansion.action.Condition.{Condition}
-use Rattle.sect_types.specs.Sight.{Sight, place, has_name, names_of_records, base_of, operand_of}
+use Rattle.sect_types.specs.Sight.{Sight, place, has_name, names_of_records, base_of, operand_of, looked_of}
+use Rattle.sect_types.specs.{Kinds.{same_kind, accepts, comparable}, declared.rules.place.Place.{Place}}
+use Rattle.sect_types.specs.{declared.rules.place.Place.TheVariants.{InThread, InProcedure}, Limits.{most_statements}}
+use Rattle.sect_types.specs.Items.{Head, PrimitiveHead, TestHead, Item, AStatement, is_inside}
+use Rattle.sect_types.specs.Rules.{knows_primitive, primitive_agrees, knows_test, test_agrees, compares, has_field}
+use Rattle.sect_types.specs.Rules.{local_accepts, local_is, local_gets, field_accepts, is_int, Declared, Counts, shares}
+use Rattle.sect_types.specs.Rules.{by_place, after_item, after_primitive, passes_limit, after}
 use Rattle.sect_types.proofs.Typing.{well_typed, well_typed_test, assign_of, compute_of, new_of, load_of, store_of}
 use Rattle.sect_types.proofs.Typing.{print_of, compared_of, primitive_of, test_of}
-use Rattle.sect_types.specs.Kinds.{same_kind, accepts, comparable}
-use Rattle.sect_types.specs.Sight.{looked_of}
-use Rattle.std.specs.Prelude.{nat_le}
-use Rattle.sect_front.specs.declared.tree.Procedure.{Procedure}
-use Rattle.sect_types.specs.declared.rules.place.Place.{Place}
-use Rattle.sect_types.specs.declared.rules.place.Place.TheVariants.{InThread, InProcedure}
-use Rattle.sect_types.specs.Limits.{most_statements}
-use Rattle.sect_types.specs.Items.{Head, PrimitiveHead, TestHead, Item, AStatement, is_inside}
-use Rattle.sect_types.specs.steps.Spots.{full_for}
-use Rattle.sect_types.specs.steps.Standing.{declared_by}
-use Rattle.sect_types.specs.Rules.{knows_primitive, primitive_agrees, knows_test, test_agrees, compares, has_field}
-use Rattle.sect_types.specs.Rules.{local_accepts}
-use Rattle.sect_types.specs.Rules.{local_is, local_gets, field_accepts, is_int, Declared, Counts, shares}
-use Rattle.sect_types.specs.steps.Judging.{rule_of}
-use Rattle.sect_types.specs.Rules.{by_place, after_item, after_primitive, passes_limit, after}
-use Rattle.sect_types.specs.steps.Judging.{judge, fault_or, Faulty}
+use Rattle.sect_types.specs.steps.{Spots.{full_for}, Standing.{declared_by}, Judging.{rule_of, judge, fault_or, Faulty}}
 use Rattle.sect_types.specs.steps.Walks.{rule_in, of_types, then_rest}
+use Rattle.sect_front.specs.declared.tree.Primitive as leaf
+use Rattle.sect_front.specs.declared.tree.Primitive.TheVariants as primitive
+use Rattle.sect_front.specs.declared.tree.Kind.TheVariants as kind
+use Rattle.sect_types.specs.declared.rules.resolve.Denoted.TheVariants as denoted
+use Rattle.sect_types.specs.declared.rules.resolve.Looked.TheVariants as looked
 
 well_typed_law : (b : Bool) (a : Action) → rule_in (well_typed b a) ≡ of_types true b
 well_typed_law true a = refl

@@ -1,9 +1,7 @@
 -- The set of all names of records.
 use Rattle.std.proofs.Common.{◌≡◌, ℕ, ◌+◌, Bool, true, false, ◌||◌, List, [], ◌∷◌, ◌++◌, take, nat_eq, if◌then◌else◌}
-use Rattle.std.proofs.Common.{refl, sym, ap, ◌∙◌}
+use Rattle.std.proofs.{Common.{refl, sym, ap, ◌∙◌}, lemmas.List.{map-append}, lemmas.List.Folds.{list_any-append}}
 use Rattle.std.specs.Cmp.Lexicographic.{pointwise}
-use Rattle.std.proofs.lemmas.List.{map-append}
-use Rattle.std.proofs.lemmas.List.Folds.{list_any-append}
 use Rattle.sect_front.specs.declared.tree.Record.{Record}
 use Rattle.sect_types.specs.Sight.{has_name, added, same_name, names_of_records}
 use Rattle.sect_types.specs.steps.Listing.{Knows}

@@ -3,14 +3,12 @@ use Rattle.std.proofs.Common.{◌≡◌, ℕ, ◌+◌, ◌<◌, List, [], ◌∷
 use Rattle.std.proofs.Common.{length-append, ap}
 use Rattle.sect_lemmas.proofs.Elements.{drop_next}
 use Rattle.sect_types.proofs.PassedElements.{judged_on, joined_on, tested_on}
-use Rattle.sect_front.specs.declared.tree.Declaration.{Declaration}
-use Rattle.sect_front.specs.declared.tree.GlobalObject.{GlobalObject}
+use Rattle.sect_front.specs.{declared.tree.Declaration.{Declaration}, declared.tree.GlobalObject.{GlobalObject}}
 use Rattle.sect_types.specs.Limits.{most_fields, most_globals, most_locals}
 use Rattle.sect_types.specs.Sight.{has_name, names_of_records, names_of_globals, names_of_declared}
 use Rattle.sect_types.specs.Items.{Item, AField, AGlobal, ALocal, field_items, global_items, local_items}
 use Rattle.sect_types.specs.Rules.{Declared, Counts, knows_kind}
-use Rattle.sect_types.specs.steps.Judging.{judge}
-use Rattle.sect_types.specs.steps.Listing.{IsListed, AreGlobals, AreLocals, all_known, globals_known}
+use Rattle.sect_types.specs.steps.{Judging.{judge}, Listing.{IsListed, AreGlobals, AreLocals, all_known, globals_known}}
 
 pub field_more : (d : Declared) (all ds : List Declaration) (i : ℕ) (x : Declaration) (names new : List (List ℕ))
     (old now then : Counts)

@@ -1,18 +1,13 @@
 -- The names of the locals of a thread, as rows of a table.
-use Rattle.std.proofs.Common.{◌≡◌, ◌≤◌, ◌<◌, ◌-◌, ◌⊎◌, inl, inr, ℕ, zero, suc, ◌+◌, List, [], ◌∷◌, ◌++◌, map, Some}
-use Rattle.std.proofs.Common.{sym, ap, ◌∙◌, subst, length, get_or, arith}
-use Rattle.std.specs.Prelude.{slice_get, slice_index_or}
-use Rattle.std.specs.Option.{option_map}
-use Rattle.std.proofs.lemmas.Bool.{cases_lt}
+use Rattle.std.proofs.Common.{◌≡◌, ◌≤◌, ◌<◌, ◌-◌, ◌⊎◌, inl, inr, ℕ, zero, suc, ◌+◌, List, [], ◌∷◌, ◌++◌, map, Some, sym}
+use Rattle.std.proofs.{Common.{ap, ◌∙◌, subst, length, get_or, arith}, lemmas.Bool.{cases_lt}}
 use Rattle.std.proofs.lemmas.List.{get_or-map, get_or_past, length-map, length-append}
 use Rattle.std.proofs.lemmas.Option.{slice_get-map, slice_get-get_or}
-use Rattle.sect_front.specs.TreeView.{TreeView}
-use Rattle.sect_front.specs.declared.tree.Thread.{Thread}
+use Rattle.std.specs.{Prelude.{slice_get, slice_index_or}, Option.{option_map}}
+use Rattle.sect_front.specs.{TreeView.{TreeView}, declared.tree.Thread.{Thread}}
 use Rattle.sect_front.specs.declared.tree.Declaration.{Declaration}
-use Rattle.sect_types.specs.declared.expansion.expand.Fresh.{Fresh}
-use Rattle.sect_types.specs.Expanded.{fresh_in}
-use Rattle.sect_types.specs.LocalNames.{local_names_of, all_local_names}
-use Rattle.sect_types.specs.Programs.{ProgramView, IsOfTree}
+use Rattle.sect_types.specs.{declared.expansion.expand.Fresh.{Fresh}, Expanded.{fresh_in}}
+use Rattle.sect_types.specs.{LocalNames.{local_names_of, all_local_names}, Programs.{ProgramView, IsOfTree}}
 use Rattle.sect_types.proofs.shared.LocalRows.{own_name, fresh_name, as_many_names}
 
 -- what stands in the first of two lists

@@ -1,25 +1,19 @@
 -- Procedures that are marked one after another.
 use Rattle.std.proofs.Common.{◌≡◌, ◌≢◌, ◌⊎◌, inl, inr, ℕ, zero, suc, ◌+◌, ◌<◌, ◌≤◌, Bool, true, false, List, [], ◌∷◌}
 use Rattle.std.proofs.Common.{◌++◌, Option, Some, None, length, take, get_or, refl, sym, ap, subst, ◌∙◌, arith}
-use Rattle.std.proofs.Common.{length-append, slice_get}
-use Rattle.std.specs.Prelude.{eqb, nat_eq, replicate, slice_index_or}
-use Rattle.std.specs.List.{list_any}
-use Rattle.std.proofs.lemmas.Bool.{eqb-true, or_cases}
-use Rattle.std.proofs.lemmas.List.{take_more, take_all, length-replicate}
-use Rattle.std.proofs.lemmas.List.Folds.{list_any-append}
+use Rattle.std.proofs.{Common.{length-append, slice_get}, lemmas.Bool.{eqb-true, or_cases}}
+use Rattle.std.proofs.{lemmas.List.{take_more, take_all, length-replicate}, lemmas.List.Folds.{list_any-append}}
 use Rattle.std.proofs.lemmas.Option.{slice_get_within}
+use Rattle.std.specs.{Prelude.{eqb, nat_eq, replicate, slice_index_or}, List.{list_any}}
 use Rattle.sect_front.specs.declared.tree.Procedure.{Procedure}
 use Rattle.sect_lemmas.specs.Lists.{put_at}
-use Rattle.sect_types.specs.steps.Called.{IsAmong, Calls, IsMarked, marks, AreMarked, AreFound, Grows, AreClosed}
-use Rattle.sect_types.specs.steps.Called.{Marks, AreCallersBefore, callers_of}
-use Rattle.sect_types.specs.steps.Standing.{AreReturning}
-use Rattle.sect_lemmas.proofs.Options.{some_injective}
-use Rattle.sect_lemmas.proofs.Elements.{is_there}
-use Rattle.sect_lemmas.proofs.Replaced.{put_same, put_other, length-put_at, at-put_at, this_or_other}
-use Rattle.sect_types.proofs.EnoughLaws.{same, there, calls_there}
-use Rattle.sect_types.proofs.ReachLaws.{returns_caller, closed_returns}
-use Rattle.sect_lemmas.proofs.Booleans.{or_left, or_right}
+use Rattle.sect_types.specs.steps.Called.{IsAmong, Calls, IsMarked, marks, AreMarked, AreFound, Grows, AreClosed, Marks}
+use Rattle.sect_types.specs.steps.{Called.{AreCallersBefore, callers_of}, Standing.{AreReturning}}
 use Rattle.sect_types.specs.steps.Search.{returns, reaches}
+use Rattle.sect_lemmas.proofs.{Options.{some_injective}, Elements.{is_there}}
+use Rattle.sect_lemmas.proofs.Replaced.{put_same, put_other, length-put_at, at-put_at, this_or_other}
+use Rattle.sect_lemmas.proofs.Booleans.{or_left, or_right}
+use Rattle.sect_types.proofs.{EnoughLaws.{same, there, calls_there}, ReachLaws.{returns_caller, closed_returns}}
 
 -- one mark more
 marks_put : (n : ℕ) (bs : List Bool) → slice_get bs n ≡ Some false → marks (put_at n true bs) ≡ marks bs + 1

@@ -1,14 +1,10 @@
 -- Places of names, and how many names there are.
 use Rattle.std.proofs.Common.{◌≡◌, ℕ, ◌<◌, ◌≤◌, List, [], length, get_or, sym, ap, ◌∙◌, arith, map, length-append}
-use Rattle.std.proofs.lemmas.List.{get_or-map, length-map}
-use Rattle.std.proofs.lemmas.List.Elements.{All-get_or}
+use Rattle.std.proofs.{lemmas.List.{get_or-map, length-map}, lemmas.List.Elements.{All-get_or}}
 use Rattle.sect_front.specs.declared.tree.Thread.{Thread}
-use Rattle.sect_types.specs.declared.declarations.types.ValueType.{ValueType}
-use Rattle.sect_types.specs.Sight.{names_of_records}
-use Rattle.sect_types.specs.Environments.{types_of, type_of}
-use Rattle.sect_types.specs.Limits.{most_all_locals}
-use Rattle.sect_types.specs.declared.expansion.expand.Fresh.{Fresh}
-use Rattle.sect_types.specs.Expanded.{local_types_of, fresh_in}
+use Rattle.sect_types.specs.{declared.declarations.types.ValueType.{ValueType}, Sight.{names_of_records}}
+use Rattle.sect_types.specs.{Environments.{types_of, type_of}, Limits.{most_all_locals}}
+use Rattle.sect_types.specs.{declared.expansion.expand.Fresh.{Fresh}, Expanded.{local_types_of, fresh_in}}
 use Rattle.sect_types.specs.Programs.{ProgramView, IsOfTree, IsWithinLimits}
 
 -- a thread has few locals

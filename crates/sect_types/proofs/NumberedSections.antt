@@ -1,16 +1,12 @@
 -- The section of a number is the one at that index.
 use Rattle.std.proofs.Common.{◌≡◌, ℕ, zero, suc, ◌+◌, ◌<◌, true, false, List, [], ◌∷◌, ◌++◌, map, drop, length, Option}
 use Rattle.std.proofs.Common.{Some, None, slice_get, nat_eq, if◌then◌else◌, refl, sym, ap, ◌∙◌, arith}
+use Rattle.std.proofs.{lemmas.List.{length-map}, lemmas.Option.{slice_get-map}, lemmas.Bool.Decides.{nat_tests}}
 use Rattle.std.specs.Option.{option_or, option_map}
-use Rattle.std.proofs.lemmas.List.{length-map}
-use Rattle.std.proofs.lemmas.Option.{slice_get-map}
-use Rattle.std.proofs.lemmas.Bool.Decides.{nat_tests}
 use Rattle.sect_types.specs.Statements.{TextView, Stop, Do, Choose, Loop, Section as TheSection, section_body}
 use Rattle.sect_types.specs.Statements.{section_bodies}
 use Rattle.sect_types.specs.Sections.{SectionView, sections_from, sections_of, AreNumbered, AllNumbered, found_in}
-use Rattle.sect_types.specs.Sections.{section_from}
-use Rattle.sect_types.specs.declared.counting.section.Section.{Section}
-use Rattle.sect_types.specs.Sections.{section_shown}
+use Rattle.sect_types.specs.{Sections.{section_from, section_shown}, declared.counting.section.Section.{Section}}
 use Rattle.sect_types.specs.steps.Found.{section_in}
 
 -- what is found in the first list, and else in the second, is found in both together

@@ -1,15 +1,10 @@
 -- The number of the first procedure of a name.
-use Rattle.std.proofs.Common.{◌≡◌, ℕ, suc, ◌+◌, ◌<◌, Bool, true, false, not, cond, List, [], ◌∷◌, ◌++◌}
-use Rattle.std.proofs.Common.{length, take, get_or, Option, Some, None, is_some, refl, sym, ap, subst, ◌∙◌}
-use Rattle.std.proofs.Common.{arith, true≢false, Bor}
-use Rattle.std.specs.Prelude.{nat_lt}
-use Rattle.std.specs.Option.{option_map, option_copied}
-use Rattle.std.specs.List.{prefix_len}
-use Rattle.std.proofs.lemmas.List.{map-append, take_more, length-take-le, length-map}
-use Rattle.std.proofs.lemmas.Bool.Decides.{nat_tests}
+use Rattle.std.proofs.Common.{◌≡◌, ℕ, suc, ◌+◌, ◌<◌, Bool, true, false, not, cond, List, [], ◌∷◌, ◌++◌, length, take}
+use Rattle.std.proofs.Common.{get_or, Option, Some, None, is_some, refl, sym, ap, subst, ◌∙◌, arith, true≢false, Bor}
+use Rattle.std.proofs.{lemmas.List.{map-append, take_more, length-take-le, length-map}, lemmas.Bool.Decides.{nat_tests}}
+use Rattle.std.specs.{Prelude.{nat_lt}, Option.{option_map, option_copied}, List.{prefix_len}}
 use Rattle.sect_front.specs.declared.tree.Procedure.{Procedure}
-use Rattle.sect_types.specs.Sight.{place, same_name}
-use Rattle.sect_types.specs.Sums.{number_of, names_of_procedures}
+use Rattle.sect_types.specs.{Sight.{place, same_name}, Sums.{number_of, names_of_procedures}}
 use Rattle.sect_types.proofs.shared.SoundLemmas.{same_names}
 
 lifts : (m n k : ℕ) → k ≡ suc n → nat_lt (1 + m) k ≡ nat_lt m n

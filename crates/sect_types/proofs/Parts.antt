@@ -1,26 +1,19 @@
 -- The parts of what is there by numbers are there.
 use Rattle.std.specs.Prelude.{IsSome, is_some, true, ◌&&◌, ◌-◌}
-use Rattle.std.proofs.Common.{◌≡◌, ℕ, zero, suc, ◌+◌, ◌<◌, List, [], ◌∷◌, get_or, Option, Some, None, refl, sym, ap, ◌∙◌}
-use Rattle.std.proofs.Common.{arith, subst, length, length-append, slice_get, true≢false}
+use Rattle.std.proofs.Common.{◌≡◌, ℕ, zero, suc, ◌+◌, ◌<◌, List, [], ◌∷◌, get_or, Option, Some, None, refl, sym, ap}
+use Rattle.std.proofs.Common.{◌∙◌, arith, subst, length, length-append, slice_get, true≢false}
 use Rattle.std.proofs.lemmas.Bool.{and_parts}
-use Rattle.sect_front.specs.declared.tree.Declaration.{Declaration}
-use Rattle.sect_front.specs.declared.tree.Operand.{Operand}
-use Rattle.sect_front.specs.declared.tree.Test.{Test}
-use Rattle.sect_front.specs.declared.tree.Record.{Record}
-use Rattle.sect_front.specs.declared.tree.GlobalObject.{GlobalObject}
-use Rattle.sect_front.specs.declared.tree.Procedure.{Procedure}
+use Rattle.sect_front.specs.{declared.tree.Declaration.{Declaration}, declared.tree.Operand.{Operand}}
+use Rattle.sect_front.specs.{declared.tree.Test.{Test}, declared.tree.Record.{Record}}
+use Rattle.sect_front.specs.{declared.tree.GlobalObject.{GlobalObject}, declared.tree.Procedure.{Procedure}}
 use Rattle.sect_front.specs.Syntax.{StatementView, IfElse, Call, BlockView}
-use Rattle.sect_types.specs.Sight.{Sight, operand_of}
-use Rattle.sect_types.specs.Items.{variables}
-use Rattle.sect_types.specs.Sums.{sums_within, number_of}
-use Rattle.sect_types.specs.Rules.{sight, knows_operands}
-use Rattle.sect_types.specs.Numbered.{value_of, condition_of}
-use Rattle.sect_types.specs.Expanded.{Scene, NextNumbers, condition_at, expanded_block}
-use Rattle.sect_types.specs.Expanded.{set_parameters, after_call, call_of, expand_within}
+use Rattle.sect_types.specs.{Sight.{Sight, operand_of}, Items.{variables}, Sums.{sums_within, number_of}}
+use Rattle.sect_types.specs.{Rules.{sight, knows_operands}, Numbered.{value_of, condition_of}}
+use Rattle.sect_types.specs.Expanded.{Scene, NextNumbers, condition_at, expanded_block, set_parameters, after_call}
+use Rattle.sect_types.specs.Expanded.{call_of, expand_within}
 use Rattle.sect_types.specs.steps.Expanding.{SettingView, FrontView, numbered_there, numbered_block, front_past_block}
 use Rattle.sect_types.specs.steps.Expansion.{view_of}
-use Rattle.sect_types.proofs.Optional.{first_there, second_there, one_there, three_parts, the}
-use Rattle.sect_types.proofs.Fronts.{with_call}
+use Rattle.sect_types.proofs.{Optional.{first_there, second_there, one_there, three_parts, the}, Fronts.{with_call}}
 
 -- a test and the blocks behind it
 either_known : (w : SettingView) (n : ℕ) (v : Scene) (f : FrontView) (s : StatementView) (t : Test)

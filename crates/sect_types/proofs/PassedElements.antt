@@ -1,9 +1,7 @@
 -- One element more of a list has been passed, whatever its elements are.
 use Rattle.std.proofs.Common.{◌≡◌, ◌≤◌, ℕ, List, [], ◌∷◌, ◌++◌, Bool, true, ◌&&◌, length, drop, sym, ap, ◌∙◌, subst}
-use Rattle.std.proofs.Common.{append_assoc}
-use Rattle.std.proofs.lemmas.List.{drop_all}
-use Rattle.sect_types.specs.Items.{Item}
-use Rattle.sect_types.specs.Rules.{Declared, Counts}
+use Rattle.std.proofs.{Common.{append_assoc}, lemmas.List.{drop_all}}
+use Rattle.sect_types.specs.{Items.{Item}, Rules.{Declared, Counts}}
 use Rattle.sect_types.specs.steps.Judging.{judge}
 
 -- its items have been judged, and those of the rest are left

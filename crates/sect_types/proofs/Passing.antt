@@ -2,20 +2,15 @@
 use Rattle.std.proofs.Common.{◌≡◌, ℕ, zero, suc, ◌+◌, ◌<◌, ◌≤◌, subst, arith, sym, List, [], ◌∷◌, drop, get_or, length}
 use Rattle.std.proofs.Common.{ap, ◌∙◌, Result, Ok, Err}
 use Rattle.std.specs.Result.{IsErrAnd}
-use Rattle.sect_front.specs.declared.tree.Test.{Test}
-use Rattle.sect_lemmas.proofs.Elements.{drop_next}
-use Rattle.sect_front.specs.Syntax.{BlockView, Then}
-use Rattle.sect_front.specs.Trees.{statement_of, block_of}
-use Rattle.sect_front.specs.Depth.{statement_depth, block_depth}
-use Rattle.sect_front.specs.declared.tree.Statement.{Statement}
+use Rattle.sect_front.specs.{declared.tree.Test.{Test}, Syntax.{BlockView, Then}, Trees.{statement_of, block_of}}
+use Rattle.sect_front.specs.{Depth.{statement_depth, block_depth}, declared.tree.Statement.{Statement}}
 use Rattle.sect_front.specs.declared.tree.Declaration.{Declaration}
-use Rattle.sect_types.specs.declared.rules.place.Place.{Place}
-use Rattle.sect_types.specs.declared.rules.rule.WalkFault.{WalkFault}
-use Rattle.sect_types.specs.declared.rules.rule.WalkFault.TheVariants as fault
+use Rattle.sect_lemmas.proofs.Elements.{drop_next}
+use Rattle.sect_types.specs.{declared.rules.place.Place.{Place}, declared.rules.rule.WalkFault.{WalkFault}}
 use Rattle.sect_types.specs.Items.{Head, TestHead, deeper, Item, AStatement, statement_items, block_items}
 use Rattle.sect_types.specs.Rules.{Declared, Counts}
-use Rattle.sect_types.specs.steps.Judging.{judge}
-use Rattle.sect_types.specs.steps.Walks.{Walks}
+use Rattle.sect_types.specs.steps.{Judging.{judge}, Walks.{Walks}}
+use Rattle.sect_types.specs.declared.rules.rule.WalkFault.TheVariants as fault
 
 -- the statements `rest` of `all` are left
 pub record IsPassed (d : Declared) (ls : List Declaration) (at : Place) (block all rest : BlockView)

@@ -1,16 +1,12 @@
 -- What a place says of what is counted there.
-use Rattle.std.proofs.Common.{◌≡◌, ℕ, zero, suc, [], ◌∷◌, Bool, refl, ap, subst, ◌∙◌, arith, Some, List, map, ◌≤◌}
-use Rattle.std.proofs.Common.{true, false, ◌&&◌}
+use Rattle.std.proofs.Common.{◌≡◌, ℕ, zero, suc, [], ◌∷◌, Bool, refl, ap, subst, ◌∙◌, arith, Some, List, map, ◌≤◌, true}
+use Rattle.std.proofs.{Common.{false, ◌&&◌}, lemmas.Bool.Decides.{nat_tests}}
 use Rattle.std.specs.Prelude.{slice_index_or, nat_lt}
 use Rattle.sect_front.specs.declared.tree.Procedure.{Procedure}
 use Rattle.sect_types.specs.declared.rules.place.Place.{Place}
 use Rattle.sect_types.specs.declared.rules.place.Place.TheVariants.{InThread, InProcedure}
-use Rattle.sect_types.specs.declared.counting.sums.Sums.{Sums}
-use Rattle.sect_types.specs.Sums.{nothing, sums, sums_at}
-use Rattle.sect_types.specs.steps.Capped.{capped, IsSmall}
-use Rattle.sect_types.specs.steps.Standing.{IsReady}
-use Rattle.std.proofs.lemmas.Bool.Decides.{nat_tests}
-use Rattle.sect_types.specs.Rules.{by_place}
+use Rattle.sect_types.specs.{declared.counting.sums.Sums.{Sums}, Sums.{nothing, sums, sums_at}, Rules.{by_place}}
+use Rattle.sect_types.specs.steps.{Capped.{capped, IsSmall}, Standing.{IsReady}}
 
 -- in a thread a test counts, in a procedure it doesn't
 pub counted : (at : Place) (b : Bool) → (by_place at true false && b) ≡ by_place at b false

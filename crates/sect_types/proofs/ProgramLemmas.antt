@@ -2,59 +2,39 @@
 use Rattle.std.specs.Prelude.{All, unwrap_or}
 use Rattle.std.proofs.Common.{◌≡◌, ℕ, zero, suc, ◌+◌, ◌≤◌, ◌<◌, true, false, ◌&&◌, nat_le, List, [], ◌∷◌, ◌++◌, map}
 use Rattle.std.proofs.Common.{length, length-append, refl, sym, ap, ◌∙◌, subst, arith, Option, Some, None, is_some}
-use Rattle.std.proofs.Common.{true≢false, slice_get}
-use Rattle.std.proofs.lemmas.List.{length-map, map-append}
-use Rattle.std.proofs.lemmas.List.Elements.{All-nil, All-cons, All-append}
-use Rattle.std.proofs.lemmas.Bool.Decides.{nat_tests}
-use Rattle.sect_front.specs.declared.tree.Kind.{Kind}
-use Rattle.sect_front.specs.declared.tree.Kind.TheVariants as kind
-use Rattle.sect_front.specs.declared.tree.Record.{Record}
-use Rattle.sect_front.specs.declared.tree.GlobalObject.{GlobalObject}
-use Rattle.sect_front.specs.declared.tree.Declaration.{Declaration}
-use Rattle.sect_front.specs.declared.tree.Procedure.{Procedure}
-use Rattle.sect_front.specs.declared.tree.Thread.{Thread}
-use Rattle.sect_front.specs.declared.tree.Locking.{Locking}
-use Rattle.sect_front.specs.TreeView.{TreeView}
+use Rattle.std.proofs.{Common.{true≢false, slice_get}, lemmas.List.{length-map, map-append}}
+use Rattle.std.proofs.{lemmas.List.Elements.{All-nil, All-cons, All-append}, lemmas.Bool.Decides.{nat_tests}}
+use Rattle.std.proofs.lemmas.Bool.{and_parts}
+use Rattle.sect_front.specs.{declared.tree.Kind.{Kind}, declared.tree.Record.{Record}}
+use Rattle.sect_front.specs.{declared.tree.GlobalObject.{GlobalObject}, declared.tree.Declaration.{Declaration}}
+use Rattle.sect_front.specs.{declared.tree.Procedure.{Procedure}, declared.tree.Thread.{Thread}}
+use Rattle.sect_front.specs.{declared.tree.Locking.{Locking}, TreeView.{TreeView}}
 use Rattle.sect_front.specs.Syntax.{StatementView, Primitive, If, IfElse, While, Atomic, Call, BlockView, End, Then}
-use Rattle.sect_types.specs.declared.declarations.types.ValueType.{ValueType}
-use Rattle.sect_types.specs.declared.rules.place.Place.{Place}
-use Rattle.sect_types.specs.declared.rules.place.Place.TheVariants.{InThread}
-use Rattle.sect_types.specs.declared.counting.sums.Sums.{Sums}
-use Rattle.sect_types.specs.Sight.{names_of_records, has_name, place}
-use Rattle.sect_types.specs.Items.{deeper, in_section, variables}
+use Rattle.sect_types.specs.{declared.declarations.types.ValueType.{ValueType}, declared.rules.place.Place.{Place}}
+use Rattle.sect_types.specs.{declared.rules.place.Place.TheVariants.{InThread}, declared.counting.sums.Sums.{Sums}}
+use Rattle.sect_types.specs.{Sight.{names_of_records, has_name, place}, Items.{deeper, in_section, variables}}
 use Rattle.sect_types.specs.Rules.{Declared, Counts, declared_in, knows_kind}
 use Rattle.sect_types.specs.Sums.{sums, sums_within, number_of, statement_sums, block_sums}
 use Rattle.sect_types.specs.declared.expansion.expand.Fresh.{Fresh}
-use Rattle.sect_types.specs.Expanded.{Freshens, of_call, statement_fresh, block_fresh, fresh_of, fresh_within}
-use Rattle.sect_types.specs.steps.Written.{written_threads, written_texts}
-use Rattle.sect_types.specs.Expanded.{fresh_in, texts_of, procedure_numbered, local_types_of, all_local_types}
-use Rattle.sect_types.specs.Expanded.{past_thread}
-use Rattle.sect_types.specs.Expanded.{block_sections, statement_sections, NextNumbers}
-use Rattle.sect_types.specs.Statements.{TextView}
-use Rattle.sect_types.specs.steps.Listing.{all_known, fields_fine, locals_fine, globals_known}
-use Rattle.sect_types.specs.steps.Threads.{variables_fine}
+use Rattle.sect_types.specs.Expanded.{Freshens, of_call, statement_fresh, block_fresh, fresh_of, fresh_within, fresh_in}
+use Rattle.sect_types.specs.Expanded.{texts_of, procedure_numbered, local_types_of, all_local_types, past_thread}
+use Rattle.sect_types.specs.{Expanded.{block_sections, statement_sections, NextNumbers}, Statements.{TextView}}
 use Rattle.sect_types.specs.Environments.{record_number, type_of, types_of, field_types, global_records, IsInRange}
-use Rattle.sect_types.specs.Sections.{AllSited}
-use Rattle.sect_types.specs.Programs.{ProgramView, numbered_by, all_made, IsWellNumbered}
-use Rattle.sect_types.specs.steps.Counted.{IsCounted}
+use Rattle.sect_types.specs.{Sections.{AllSited}, Programs.{ProgramView, numbered_by, all_made, IsWellNumbered}}
 use Rattle.sect_types.specs.Lockings.{statement_lockings, block_lockings, threads_lockings, lockings_of}
+use Rattle.sect_types.specs.Limits.{most_all_locals, most_fields, most_locals}
+use Rattle.sect_types.specs.steps.Written.{written_threads, written_texts}
+use Rattle.sect_types.specs.steps.Listing.{all_known, fields_fine, locals_fine, globals_known}
+use Rattle.sect_types.specs.steps.{Threads.{variables_fine}, Counted.{IsCounted}}
 use Rattle.sect_types.specs.steps.Clean.{IsCleanStatement, IsCleanBlock, AreCleanThreads}
-use Rattle.sect_types.proofs.Heads.{placed}
-use Rattle.sect_types.proofs.SoundLemmas.{place_within}
-use Rattle.sect_types.proofs.Optional.{the}
-use Rattle.sect_types.proofs.ByNumbers.{texts_written}
-use Rattle.sect_types.proofs.Readable.{texts_there}
-use Rattle.sect_types.proofs.StandingTypes.{fresh_types, call_types}
-use Rattle.sect_types.proofs.Walked.{text_clean}
+use Rattle.sect_types.proofs.{Heads.{placed}, SoundLemmas.{place_within}, Optional.{the}, ByNumbers.{texts_written}}
+use Rattle.sect_types.proofs.{Readable.{texts_there}, StandingTypes.{fresh_types, call_types}, Walked.{text_clean}}
 use Rattle.sect_types.proofs.SiteLaws.{typed_sites}
 use Rattle.sect_types.proofs.SectionLaws.{block_flat, inside_section, sections_in, typed_sections, typed_section_count}
-use Rattle.sect_types.proofs.TypeLaws.{typed_sound}
-use Rattle.sect_types.proofs.EndCounts.{fine_typed, fine_counts}
+use Rattle.sect_types.proofs.{TypeLaws.{typed_sound}, EndCounts.{fine_typed, fine_counts}}
 use Rattle.sect_types.proofs.WithinLimits.{AreFewTypes, typed_few_types, typed_within, typed_calls}
-use Rattle.std.proofs.lemmas.Bool.{and_parts}
-use Rattle.sect_types.specs.Limits.{most_all_locals, most_fields, most_locals}
-use Rattle.sect_types.specs.steps.Clean.{IsCleanStatement, IsCleanBlock, AreCleanThreads}
 use Rattle.sect_types.proofs.Shallow.{typed_shallow}
+use Rattle.sect_front.specs.declared.tree.Kind.TheVariants as kind
 
 at_most : (m n : ℕ) → nat_le m n ≡ true → m ≤ n
 at_most m n h = grind (arith, nat_tests)

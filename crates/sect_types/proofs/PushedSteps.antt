@@ -1,7 +1,6 @@
 -- One step more behind the statements of a text.
 use Rattle.std.proofs.Common.{◌≡◌, List, [], ◌∷◌, ◌++◌, refl, ap}
-use Rattle.sect_types.specs.Statements.{Stop, Do, Choose, Loop, Section, joined}
-use Rattle.sect_types.specs.Texts.{step_then, statements_of}
+use Rattle.sect_types.specs.{Statements.{Stop, Do, Choose, Loop, Section, joined}, Texts.{step_then, statements_of}}
 use Rattle.sect_types.specs.declared.expansion.text.Step.{Step}
 use Rattle.sect_types.specs.declared.expansion.text.Step.TheVariants as step
 

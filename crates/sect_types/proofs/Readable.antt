@@ -1,42 +1,27 @@
 -- A typed text has a text by numbers.
-use Rattle.std.specs.Prelude.{Bool, true, false, ◌||◌, IsSome, is_some}
-use Rattle.std.specs.List.{list_any}
+use Rattle.std.specs.{Prelude.{Bool, true, false, ◌||◌, IsSome, is_some}, List.{list_any}}
 use Rattle.std.proofs.Common.{◌≡◌, ℕ, zero, suc, ◌+◌, List, [], ◌∷◌, Option, Some, None, refl, sym, ap, ◌∙◌, inl, inr}
-use Rattle.std.proofs.Common.{arith, subst, length, slice_get, true≢false}
-use Rattle.std.proofs.lemmas.Bool.{and_parts, cases_Bool}
+use Rattle.std.proofs.{Common.{arith, subst, length, slice_get, true≢false}, lemmas.Bool.{and_parts, cases_Bool}}
 use Rattle.std.proofs.lemmas.List.{length-map}
-use Rattle.sect_front.specs.declared.tree.Declaration.{Declaration}
-use Rattle.sect_front.specs.declared.tree.Operand.{Operand}
-use Rattle.sect_front.specs.declared.tree.Procedure.{Procedure}
-use Rattle.sect_front.specs.declared.tree.Thread.{Thread}
-use Rattle.sect_front.specs.TreeView.{TreeView}
+use Rattle.sect_front.specs.{declared.tree.Declaration.{Declaration}, declared.tree.Operand.{Operand}}
+use Rattle.sect_front.specs.{declared.tree.Procedure.{Procedure}, declared.tree.Thread.{Thread}, TreeView.{TreeView}}
 use Rattle.sect_front.specs.Syntax.{StatementView, Primitive, If, IfElse, While, Atomic, Call, BlockView, End, Then}
-use Rattle.sect_types.specs.declared.counting.sums.Sums.{Sums}
-use Rattle.sect_types.specs.declared.rules.place.Place.{Place}
-use Rattle.sect_types.specs.declared.rules.place.Place.TheVariants.{InThread, InProcedure}
-use Rattle.sect_types.specs.Sight.{operand_of}
+use Rattle.sect_types.specs.{declared.counting.sums.Sums.{Sums}, declared.rules.place.Place.{Place}}
+use Rattle.sect_types.specs.{declared.rules.place.Place.TheVariants.{InThread, InProcedure}, Sight.{operand_of}}
 use Rattle.sect_types.specs.Items.{deeper, in_section, variables, AStatement, CallHead}
 use Rattle.sect_types.specs.Sums.{sums, sums_within, number_of, names_of_procedures, prepend, statement_calls}
-use Rattle.sect_types.specs.Sums.{block_calls, calls_in}
-use Rattle.sect_types.specs.Rules.{Declared, seen, declared_in, knows_operands}
-use Rattle.sect_types.specs.First.{IsTyped}
-use Rattle.sect_types.specs.Numbered.{value_of, action_of, condition_of}
+use Rattle.sect_types.specs.{Sums.{block_calls, calls_in}, Rules.{Declared, seen, declared_in, knows_operands}}
+use Rattle.sect_types.specs.{First.{IsTyped}, Numbered.{value_of, action_of, condition_of}}
 use Rattle.sect_types.specs.Expanded.{Scene, NextNumbers, Expander, past_statement, past_block, past_thread}
-use Rattle.sect_types.specs.Expanded.{condition_at, expanded_statement, expanded_block, set_parameters}
-use Rattle.sect_types.specs.Expanded.{after_call, call_of, procedure_numbered, expand_within, expanded_thread}
-use Rattle.sect_types.specs.Expanded.{expanded_threads, texts_of}
+use Rattle.sect_types.specs.Expanded.{condition_at, expanded_statement, expanded_block, set_parameters, after_call}
+use Rattle.sect_types.specs.Expanded.{call_of, procedure_numbered, expand_within, expanded_thread, expanded_threads}
+use Rattle.sect_types.specs.Expanded.{texts_of}
 use Rattle.sect_types.specs.steps.Clean.{IsClean, IsCleanStatement, IsCleanBlock, AreCleanThreads}
-use Rattle.sect_lemmas.proofs.Booleans.{neither}
-use Rattle.sect_lemmas.proofs.Places.{at_of}
-use Rattle.sect_types.proofs.Optional.{both_there, all_there, map_there}
-use Rattle.sect_types.proofs.SoundLemmas.{place_within}
-use Rattle.sect_types.proofs.Resolved.{not_false, action_there, condition_there}
-use Rattle.sect_types.proofs.FuelLaws.{chain}
-use Rattle.sect_types.proofs.EnoughLaws.{IsAcyclic, ends, no_way}
-use Rattle.sect_types.proofs.Walked.{text_clean}
-use Rattle.sect_types.proofs.SiteLaws.{AreClean, typed_clean, view}
-use Rattle.sect_types.proofs.TypeLaws.{taken}
-use Rattle.sect_types.proofs.CycleLaws.{typed_acyclic}
+use Rattle.sect_lemmas.proofs.{Booleans.{neither}, Places.{at_of}}
+use Rattle.sect_types.proofs.{Optional.{both_there, all_there, map_there}, SoundLemmas.{place_within}}
+use Rattle.sect_types.proofs.{Resolved.{not_false, action_there, condition_there}, FuelLaws.{chain}}
+use Rattle.sect_types.proofs.{EnoughLaws.{IsAcyclic, ends, no_way}, Walked.{text_clean}}
+use Rattle.sect_types.proofs.{SiteLaws.{AreClean, typed_clean, view}, TypeLaws.{taken}, CycleLaws.{typed_acyclic}}
 
 -- what has the name of a procedure is one
 procedure_there : (ps : List Procedure) (x : List ℕ) (q : ℕ) → number_of ps x ≡ Some q

@@ -1,21 +1,16 @@
 -- One record more.
 use Rattle.std.proofs.Common.{◌≡◌, ℕ, ◌+◌, ◌<◌, ◌≤◌, List, [], ◌∷◌, ◌++◌, drop, get_or, length, Err, refl, ap, ◌∙◌}
-use Rattle.std.proofs.Common.{length-append, arith, true, ◌&&◌, nat_le, subst}
-use Rattle.std.proofs.lemmas.List.{drop_all}
-use Rattle.std.proofs.lemmas.Bool.Decides.{nat_tests}
+use Rattle.std.proofs.{Common.{length-append, arith, true, ◌&&◌, nat_le, subst}, lemmas.List.{drop_all}}
+use Rattle.std.proofs.{lemmas.Bool.Decides.{nat_tests}, lemmas.Bool.{and_from}}
 use Rattle.sect_lemmas.proofs.Elements.{drop_next}
 use Rattle.sect_types.proofs.PassedElements.{judged_on, joined_on, tested_on}
 use Rattle.sect_front.specs.declared.tree.Record.{Record}
 use Rattle.sect_types.specs.declared.rules.rule.WalkFault.{WalkFault}
-use Rattle.sect_types.specs.declared.rules.rule.WalkFault.TheVariants as fault
 use Rattle.sect_types.specs.Sight.{names_of_records, names_of_declared, all_fields}
-use Rattle.sect_types.specs.Items.{Item, ARecord, field_items, record_items}
-use Rattle.sect_types.specs.Rules.{Declared, Counts}
-use Rattle.sect_types.specs.steps.Walks.{Walks}
-use Rattle.sect_types.specs.steps.Listing.{AreRecords, all_known, fields_fine}
-use Rattle.std.proofs.lemmas.Bool.{and_from}
+use Rattle.sect_types.specs.{Items.{Item, ARecord, field_items, record_items}, Rules.{Declared, Counts}}
 use Rattle.sect_types.specs.Limits.{most_fields, most_records}
-use Rattle.sect_types.specs.steps.Judging.{judge}
+use Rattle.sect_types.specs.steps.{Walks.{Walks}, Listing.{AreRecords, all_known, fields_fine}, Judging.{judge}}
+use Rattle.sect_types.specs.declared.rules.rule.WalkFault.TheVariants as fault
 
 pub at_most : (m n : ℕ) → m ≤ n → nat_le m n ≡ true
 at_most m n h = grind (arith, nat_tests)

@@ -1,32 +1,19 @@
 -- Clean statements by numbers.
 use Rattle.std.specs.Prelude.{Bool, true, false, not, ◌&&◌, is_some, IsSome}
-use Rattle.std.proofs.Common.{◌≡◌, ℕ, List, Some, None, Result, IfOk, refl, sym, ap, subst, ◌∙◌}
-use Rattle.std.proofs.Common.{length}
-use Rattle.sect_front.specs.declared.tree.Primitive as leaf
-use Rattle.sect_front.specs.declared.tree.Test.{Test}
-use Rattle.sect_front.specs.declared.tree.Declaration.{Declaration}
-use Rattle.sect_types.specs.declared.rules.rule.Rule.{Rule}
-use Rattle.sect_types.specs.declared.expansion.action.Action.{Action}
-use Rattle.sect_types.specs.declared.expansion.action.Action.TheVariants as action
-use Rattle.sect_types.specs.Sight.{Sight}
-use Rattle.sect_types.proofs.Typing.{primitive_of, test_of}
-use Rattle.sect_types.specs.steps.Written.{action_in, condition_in}
+use Rattle.std.proofs.Common.{◌≡◌, ℕ, List, Some, None, Result, IfOk, refl, sym, ap, subst, ◌∙◌, length}
+use Rattle.sect_front.specs.{declared.tree.Test.{Test}, declared.tree.Declaration.{Declaration}}
+use Rattle.sect_types.specs.{declared.rules.rule.Rule.{Rule}, declared.expansion.action.Action.{Action}, Sight.{Sight}}
 use Rattle.sect_types.specs.Rules.{knows_primitive, primitive_agrees, knows_test, test_agrees, shares, Declared, seen}
-use Rattle.sect_types.specs.Environments.{environment}
-use Rattle.sect_types.specs.Sound.{IsSoundAction, IsSoundCondition, is_shared}
-use Rattle.sect_types.specs.Statements.{made_by}
-use Rattle.sect_types.specs.Sections.{IsSite}
-use Rattle.sect_types.specs.steps.Walks.{rule_in, of_types}
-use Rattle.sect_types.proofs.Heads.{primitive_law, test_law}
-use Rattle.sect_types.proofs.SoundLemmas.{primitive_sound, test_sound}
-use Rattle.sect_types.proofs.StatementSites.{Makes, primitive_makes}
+use Rattle.sect_types.specs.{Environments.{environment}, Sound.{IsSoundAction, IsSoundCondition, is_shared}}
+use Rattle.sect_types.specs.{Statements.{made_by}, Sections.{IsSite}, Numbered.{action_of, condition_of}}
+use Rattle.sect_types.specs.{Items.{PrimitiveHead, TestHead, AStatement}, declared.rules.place.Place.{Place}}
+use Rattle.sect_types.specs.{Sums.{primitive_sums}, Expanded.{moved_action}}
+use Rattle.sect_types.proofs.{Typing.{primitive_of, test_of}, Heads.{primitive_law, test_law}}
+use Rattle.sect_types.proofs.{SoundLemmas.{primitive_sound, test_sound}, StatementSites.{Makes, primitive_makes}}
 use Rattle.sect_types.proofs.Agreeing.{linked, test_linked}
-use Rattle.sect_types.specs.Numbered.{action_of, condition_of}
-use Rattle.sect_types.specs.Items.{PrimitiveHead, TestHead, AStatement}
-use Rattle.sect_types.specs.declared.rules.place.Place.{Place}
-use Rattle.sect_types.specs.Sums.{primitive_sums}
-use Rattle.sect_types.specs.Expanded.{moved_action}
-use Rattle.sect_types.specs.steps.Clean.{IsClean}
+use Rattle.sect_types.specs.steps.{Written.{action_in, condition_in}, Walks.{rule_in, of_types}, Clean.{IsClean}}
+use Rattle.sect_front.specs.declared.tree.Primitive as leaf
+use Rattle.sect_types.specs.declared.expansion.action.Action.TheVariants as action
 
 pub not_false : (b : Bool) → not b ≡ false → b ≡ true
 not_false true h = refl

@@ -1,22 +1,17 @@
 -- The callers of each procedure, as they are gathered.
-use Rattle.std.proofs.Common.{◌≡◌, ◌≢◌, ◌⊎◌, inl, inr, ℕ, zero, suc, ◌+◌, ◌<◌, ◌≤◌, true, false, List, [], ◌∷◌}
-use Rattle.std.proofs.Common.{◌++◌, Option, Some, None, length, take, get_or, append-nil, refl, sym, ap, subst, ◌∙◌}
-use Rattle.std.proofs.Common.{arith, slice_get}
-use Rattle.std.specs.Prelude.{eqb, slice_index_or}
-use Rattle.std.specs.List.{list_any}
-use Rattle.std.proofs.lemmas.Bool.{eqb-true}
-use Rattle.std.proofs.lemmas.List.{take_more, take_all}
+use Rattle.std.proofs.Common.{◌≡◌, ◌≢◌, ◌⊎◌, inl, inr, ℕ, zero, suc, ◌+◌, ◌<◌, ◌≤◌, true, false, List, [], ◌∷◌, ◌++◌}
+use Rattle.std.proofs.Common.{Option, Some, None, length, take, get_or, append-nil, refl, sym, ap, subst, ◌∙◌, arith}
+use Rattle.std.proofs.{Common.{slice_get}, lemmas.Bool.{eqb-true, or_cases}}
+use Rattle.std.proofs.{lemmas.List.{take_more, take_all, length-map}, lemmas.Option.{slice_get-get_or}}
+use Rattle.std.specs.{Prelude.{eqb, slice_index_or}, List.{list_any}}
 use Rattle.sect_front.specs.declared.tree.Procedure.{Procedure}
 use Rattle.sect_front.specs.Syntax.{StatementView, Primitive, If, IfElse, While, Atomic, Call, BlockView, End, Then}
 use Rattle.sect_lemmas.specs.Lists.{put_at}
 use Rattle.sect_types.specs.Sums.{number_of, names_of_procedures, calls_in, prepend, statement_calls, block_calls}
 use Rattle.sect_types.specs.steps.Called.{IsAmong, Calls, callers_of, AreCallersBefore}
-use Rattle.std.proofs.lemmas.Bool.{or_cases}
 use Rattle.sect_lemmas.proofs.Replaced.{this_or_other, length-put_at}
 use Rattle.sect_types.proofs.SoundLemmas.{place_within}
-use Rattle.std.proofs.lemmas.Option.{slice_get-get_or}
 use Rattle.sect_types.proofs.Marking.{among_last, among_first, among_new, among_at, read_at}
-use Rattle.std.proofs.lemmas.List.{length-map}
 
 -- a procedure that is called is there
 mutual

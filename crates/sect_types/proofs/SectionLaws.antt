@@ -1,32 +1,22 @@
 -- The sections of the expansion: an expanded call has none.
 use Rattle.std.specs.Prelude.{true, false}
-use Rattle.std.proofs.Common.{◌≡◌, ℕ, zero, suc, ◌+◌, List, [], ◌∷◌, ◌++◌, map, Option, Some, None}
-use Rattle.std.proofs.Common.{refl, sym, ◌∙◌, ap, arith, subst, length, length-append, append_assoc}
-use Rattle.std.proofs.lemmas.List.{length-map}
-use Rattle.sect_front.specs.declared.tree.Operand.{Operand}
-use Rattle.sect_front.specs.declared.tree.Declaration.{Declaration}
+use Rattle.std.proofs.Common.{◌≡◌, ℕ, zero, suc, ◌+◌, List, [], ◌∷◌, ◌++◌, map, Option, Some, None, refl, sym, ◌∙◌, ap}
+use Rattle.std.proofs.{Common.{arith, subst, length, length-append, append_assoc}, lemmas.List.{length-map}}
+use Rattle.sect_front.specs.{declared.tree.Operand.{Operand}, declared.tree.Declaration.{Declaration}}
+use Rattle.sect_front.specs.Syntax.{StatementView, Primitive, If, IfElse, While, Atomic, Call, BlockView, End, Then}
+use Rattle.sect_front.specs.{declared.tree.Procedure.{Procedure}, declared.tree.Thread.{Thread}, TreeView.{TreeView}}
 use Rattle.sect_types.specs.Statements.{TextView, Stop, Do, Choose, Loop, Section, joined, section_bodies}
 use Rattle.sect_types.specs.Sections.{AreNumbered, AllNumbered, SectionView, sections_from, sections_of}
-use Rattle.sect_front.specs.Syntax.{StatementView, Primitive, If, IfElse, While, Atomic, Call, BlockView, End, Then}
-use Rattle.sect_front.specs.declared.tree.Procedure.{Procedure}
-use Rattle.sect_front.specs.declared.tree.Thread.{Thread}
-use Rattle.sect_front.specs.TreeView.{TreeView}
 use Rattle.sect_types.specs.declared.rules.place.Place.{Place}
 use Rattle.sect_types.specs.declared.rules.place.Place.TheVariants.{InThread, InProcedure}
-use Rattle.sect_types.specs.Items.{deeper, in_section, is_inside, variables}
-use Rattle.sect_types.specs.declared.counting.sums.Sums.{Sums}
-use Rattle.sect_types.specs.Sums.{sums, sums_within, number_of}
-use Rattle.sect_types.specs.Rules.{Declared, declared_in}
-use Rattle.sect_types.specs.First.{IsTyped}
-use Rattle.sect_types.specs.steps.Clean.{IsCleanStatement, IsCleanBlock, AreCleanThreads}
+use Rattle.sect_types.specs.{Items.{deeper, in_section, is_inside, variables}, declared.counting.sums.Sums.{Sums}}
+use Rattle.sect_types.specs.{Sums.{sums, sums_within, number_of}, Rules.{Declared, declared_in}, First.{IsTyped}}
 use Rattle.sect_types.specs.Expanded.{Scene, NextNumbers, past_statement, past_block, statement_sections}
+use Rattle.sect_types.specs.Expanded.{block_sections, after_call, procedure_numbered, past_thread}
+use Rattle.sect_types.specs.steps.Clean.{IsCleanStatement, IsCleanBlock, AreCleanThreads}
 use Rattle.sect_types.specs.steps.Written.{Writer, written_statement, written_block, write_parameters, write_locals}
 use Rattle.sect_types.specs.steps.Written.{written_call, written_within, written_thread, written_threads, written_texts}
-use Rattle.sect_types.specs.Expanded.{block_sections}
-use Rattle.sect_types.specs.Expanded.{after_call, procedure_numbered}
-use Rattle.sect_types.specs.Expanded.{past_thread}
-use Rattle.sect_types.proofs.Walked.{text_clean}
-use Rattle.sect_types.proofs.SiteLaws.{AreClean, called_clean, typed_clean, view}
+use Rattle.sect_types.proofs.{Walked.{text_clean}, SiteLaws.{AreClean, called_clean, typed_clean, view}}
 
 inside_deeper : (at : Place) → is_inside at ≡ true → is_inside (deeper at) ≡ true
 inside_deeper (InThread inside depth) h = h

@@ -1,8 +1,7 @@
 -- The texts and the sections of a sound program are sound.
 use Rattle.std.proofs.Common.{◌≡◌, ℕ, zero, suc, List, [], ◌∷◌, get_or, subst, false, Some}
 use Rattle.std.specs.Prelude.{slice_get}
-use Rattle.sect_types.specs.Statements.{TextView}
-use Rattle.sect_types.specs.Sound.{IsSound, AreSound}
+use Rattle.sect_types.specs.{Statements.{TextView}, Sound.{IsSound, AreSound}}
 use Rattle.sect_types.specs.declared.declarations.types.ValueType.{ValueType}
 use Rattle.sect_types.proofs.shared.SectionSound.{with_locals}
 

@@ -1,26 +1,18 @@
 -- A text that breaks no rule isn't deeper than the limit when it is expanded.
 use Rattle.std.specs.Prelude.{Bool, true, false, ◌&&◌, ◌||◌, nat_lt, is_some, max, All}
-use Rattle.std.proofs.Common.{◌≡◌, ℕ, ◌+◌, ◌≤◌, List, [], ◌∷◌, ◌++◌, arith, ap}
-use Rattle.std.proofs.Math.Nat.{le-max_left, le-max_right}
+use Rattle.std.proofs.{Common.{◌≡◌, ℕ, ◌+◌, ◌≤◌, List, [], ◌∷◌, ◌++◌, arith, ap}, Math.Nat.{le-max_left, le-max_right}}
 use Rattle.std.proofs.lemmas.List.Elements.{All-nil, All-cons}
-use Rattle.sect_front.specs.Depth.{statement_depth, block_depth, threads_depth}
-use Rattle.sect_front.specs.Limits.{most_depth}
-use Rattle.sect_front.specs.declared.tree.Operand.{Operand}
-use Rattle.sect_front.specs.declared.tree.Declaration.{Declaration}
-use Rattle.sect_front.specs.declared.tree.Thread.{Thread}
-use Rattle.sect_front.specs.TreeView.{TreeView}
+use Rattle.sect_front.specs.{Depth.{statement_depth, block_depth, threads_depth}, Limits.{most_depth}}
+use Rattle.sect_front.specs.{declared.tree.Operand.{Operand}, declared.tree.Declaration.{Declaration}}
+use Rattle.sect_front.specs.{declared.tree.Thread.{Thread}, TreeView.{TreeView}}
 use Rattle.sect_front.specs.Syntax.{StatementView, Primitive, If, IfElse, While, Atomic, Call, BlockView, End, Then}
-use Rattle.sect_types.specs.declared.rules.place.Place.TheVariants.{InThread}
-use Rattle.sect_types.specs.declared.counting.sums.Sums.{Sums}
-use Rattle.sect_types.specs.Limits.{most_statements, most_sites, most_calls}
-use Rattle.sect_types.specs.Statements.{TextView, text_depth}
+use Rattle.sect_types.specs.{declared.rules.place.Place.TheVariants.{InThread}, declared.counting.sums.Sums.{Sums}}
+use Rattle.sect_types.specs.{Limits.{most_statements, most_sites, most_calls}, Statements.{TextView, text_depth}}
 use Rattle.sect_types.specs.Items.{Item, AThread, AStatement, TestHead, AtomicHead, CallHead, statement_items}
-use Rattle.sect_types.specs.Items.{block_items}
-use Rattle.sect_types.specs.Items.{global_items, local_items, procedure_items, thread_items}
+use Rattle.sect_types.specs.Items.{block_items, global_items, local_items, procedure_items, thread_items}
 use Rattle.sect_types.specs.Sums.{number_of, statement_sums, block_sums}
 use Rattle.sect_types.specs.Rules.{Declared, Counts, seen, after, passes_by, sums_of_call, as_many, procedure_of}
-use Rattle.sect_types.specs.Rules.{knows_operands, declared_in}
-use Rattle.sect_types.specs.First.{none_yet, IsTyped}
+use Rattle.sect_types.specs.{Rules.{knows_operands, declared_in}, First.{none_yet, IsTyped}}
 use Rattle.sect_types.specs.Expanded.{NextNumbers, past_thread}
 use Rattle.sect_types.specs.steps.Written.{written_thread, written_threads, written_texts}
 use Rattle.sect_lemmas.proofs.Booleans.{neither}
@@ -28,10 +20,8 @@ use Rattle.sect_types.proofs.Resolved.{not_false}
 use Rattle.sect_types.proofs.Walked.{NoneBroken, first_clean, first_few, next_none, statement_after, block_after}
 use Rattle.sect_types.proofs.Walked.{statement_walked, block_walked, declared_after, locals_walked, thread_after}
 use Rattle.sect_types.proofs.Walked.{records_after, records_walked, globals_walked, procedures_walked}
-use Rattle.sect_types.proofs.Walked.{before_procedures, before_threads}
-use Rattle.sect_types.proofs.WithinLimits.{at_most, last_false}
-use Rattle.sect_types.proofs.CountLaws.{primitive_comes}
-use Rattle.sect_types.proofs.DepthLaws.{thread_deep}
+use Rattle.sect_types.proofs.{Walked.{before_procedures, before_threads}, WithinLimits.{at_most, last_false}}
+use Rattle.sect_types.proofs.{CountLaws.{primitive_comes}, DepthLaws.{thread_deep}}
 
 both_below : (n a b m : ℕ) → n + a ≤ m → n + b ≤ m → n + max a b ≤ m
 both_below n a b m h k = omega (arith, h, k)

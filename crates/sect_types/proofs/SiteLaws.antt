@@ -2,33 +2,24 @@
 use Rattle.std.specs.Prelude.{false}
 use Rattle.std.proofs.Common.{◌≡◌, ℕ, zero, suc, ◌+◌, List, [], ◌∷◌, ◌++◌, Option, Some, None, refl, sym, ◌∙◌, ap}
 use Rattle.std.proofs.Common.{arith, subst, length, slice_get, length-append, append_assoc}
-use Rattle.sect_front.specs.declared.tree.Operand.{Operand}
-use Rattle.sect_front.specs.declared.tree.Primitive as leaf
-use Rattle.sect_front.specs.declared.tree.Declaration.{Declaration}
-use Rattle.sect_types.specs.Statements.{TextView, Stop, Do, Choose, Loop, Section, joined, made_by, made_in}
-use Rattle.sect_types.specs.Sections.{AreSited, AllSited}
+use Rattle.sect_front.specs.{declared.tree.Operand.{Operand}, declared.tree.Declaration.{Declaration}}
 use Rattle.sect_front.specs.Syntax.{StatementView, Primitive, If, IfElse, While, Atomic, Call, BlockView, End, Then}
-use Rattle.sect_front.specs.declared.tree.Procedure.{Procedure}
-use Rattle.sect_front.specs.declared.tree.Thread.{Thread}
-use Rattle.sect_front.specs.TreeView.{TreeView}
-use Rattle.sect_types.specs.declared.rules.place.Place.{Place}
+use Rattle.sect_front.specs.{declared.tree.Procedure.{Procedure}, declared.tree.Thread.{Thread}, TreeView.{TreeView}}
+use Rattle.sect_types.specs.Statements.{TextView, Stop, Do, Choose, Loop, Section, joined, made_by, made_in}
+use Rattle.sect_types.specs.{Sections.{AreSited, AllSited}, declared.rules.place.Place.{Place}}
 use Rattle.sect_types.specs.declared.rules.place.Place.TheVariants.{InThread, InProcedure}
 use Rattle.sect_types.specs.Items.{deeper, in_section, AStatement, PrimitiveHead, variables}
 use Rattle.sect_types.specs.declared.counting.sums.Sums.{Sums}
 use Rattle.sect_types.specs.Sums.{sums, sums_at, sums_within, statement_sums, block_sums, primitive_sums, number_of}
-use Rattle.sect_types.specs.Rules.{Declared, seen, declared_in}
-use Rattle.sect_types.specs.First.{IsTyped}
+use Rattle.sect_types.specs.{Sums.{sums_of}, Rules.{Declared, seen, declared_in}, First.{IsTyped}}
+use Rattle.sect_types.specs.Expanded.{Scene, NextNumbers, past_statement, past_block, after_call, procedure_numbered}
+use Rattle.sect_types.specs.Expanded.{past_thread}
 use Rattle.sect_types.specs.steps.Clean.{IsClean, IsCleanStatement, IsCleanBlock, AreCleanProcedures, AreCleanThreads}
-use Rattle.sect_types.specs.Expanded.{Scene, NextNumbers, past_statement, past_block}
 use Rattle.sect_types.specs.steps.Written.{Writer, written_action, written_statement, written_block, write_parameters}
 use Rattle.sect_types.specs.steps.Written.{write_locals, written_call, written_within, written_thread, written_threads}
 use Rattle.sect_types.specs.steps.Written.{written_texts}
-use Rattle.sect_types.specs.Expanded.{after_call}
-use Rattle.sect_types.specs.Expanded.{procedure_numbered, past_thread}
-use Rattle.sect_types.proofs.CountLaws.{looked}
-use Rattle.sect_types.specs.Sums.{sums_of}
-use Rattle.sect_types.proofs.Walked.{text_clean}
-use Rattle.sect_types.proofs.Resolved.{resolved, moved_made, moved_site}
+use Rattle.sect_types.proofs.{CountLaws.{looked}, Walked.{text_clean}, Resolved.{resolved, moved_made, moved_site}}
+use Rattle.sect_front.specs.declared.tree.Primitive as leaf
 
 -- what the statements of a body with these variables see, where the first of these has that number
 abbrev pub view : Declared → List Declaration → ℕ → Scene

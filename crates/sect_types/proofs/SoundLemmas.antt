@@ -1,54 +1,40 @@
 -- What is typed is sound by number.
-use Rattle.std.proofs.Common.{◌≡◌, ℕ, nat_eq, Bool, true, false, not, ◌&&◌, List, map, Option, Some, None, IfOk}
-use Rattle.std.proofs.Common.{IfSome, slice_get, refl, sym, ap, ◌∙◌, true≢false, arith, ◌<◌, cond, nat_lt, length, ◌⊎◌}
-use Rattle.std.proofs.Common.{inl, inr}
-use Rattle.std.proofs.lemmas.List.{length-map}
-use Rattle.std.specs.Bool.{⊤}
-use Rattle.std.specs.Cmp.Lexicographic.{pointwise}
-use Rattle.std.specs.Option.{option_map}
-use Rattle.std.specs.List.{prefix_len}
+use Rattle.std.proofs.Common.{◌≡◌, ℕ, nat_eq, Bool, true, false, not, ◌&&◌, List, map, Option, Some, None, IfOk, IfSome}
+use Rattle.std.proofs.Common.{slice_get, refl, sym, ap, ◌∙◌, true≢false, arith, ◌<◌, cond, nat_lt, length, ◌⊎◌, inl}
+use Rattle.std.proofs.{Common.{inr}, lemmas.List.{length-map}}
+use Rattle.std.specs.{Bool.{⊤}, Cmp.Lexicographic.{pointwise}, Option.{option_map}, List.{prefix_len}}
 use borrow.Author.Tests.{ltb-true}
 use Rattle.std.specs.Prelude.{unwrap_or}
-use Rattle.std.proofs.lemmas.Option.{slice_get-map}
-use Rattle.sect_front.specs.declared.tree.Kind.{Kind}
-use Rattle.sect_front.specs.declared.tree.Kind.TheVariants as kind
-use Rattle.sect_front.specs.declared.tree.Operand.{Operand}
-use Rattle.sect_front.specs.declared.tree.Operand.TheVariants as operand
-use Rattle.sect_front.specs.declared.tree.Operator.{Operator}
-use Rattle.sect_front.specs.declared.tree.Comparison.{Comparison}
-use Rattle.sect_front.specs.declared.tree.Primitive as leaf
-use Rattle.sect_front.specs.declared.tree.Primitive.TheVariants as primitive
-use Rattle.sect_front.specs.declared.tree.Test.{Test}
-use Rattle.sect_front.specs.declared.tree.GlobalObject.{GlobalObject}
-use Rattle.sect_front.specs.declared.tree.Declaration.{Declaration}
-use Rattle.sect_front.specs.declared.tree.Record.{Record}
-use Rattle.sect_types.specs.declared.rules.resolve.Denoted.{Denoted}
-use Rattle.sect_types.specs.declared.rules.resolve.Denoted.TheVariants as denoted
-use Rattle.sect_types.specs.declared.rules.resolve.Given.{Given}
-use Rattle.sect_types.specs.declared.rules.resolve.Given.TheVariants as given
+use Rattle.std.proofs.{lemmas.Option.{slice_get-map}, lemmas.Bool.{and_parts}}
+use Rattle.sect_front.specs.{declared.tree.Kind.{Kind}, declared.tree.Operand.{Operand}}
+use Rattle.sect_front.specs.{declared.tree.Operator.{Operator}, declared.tree.Comparison.{Comparison}}
+use Rattle.sect_front.specs.{declared.tree.Test.{Test}, declared.tree.GlobalObject.{GlobalObject}}
+use Rattle.sect_front.specs.{declared.tree.Declaration.{Declaration}, declared.tree.Record.{Record}}
+use Rattle.sect_types.specs.{declared.rules.resolve.Denoted.{Denoted}, declared.rules.resolve.Given.{Given}}
 use Rattle.sect_types.specs.declared.rules.resolve.FieldAt.{FieldAt}
 use Rattle.sect_types.specs.declared.declarations.types.ValueType.{ValueType}
 use Rattle.sect_types.specs.declared.declarations.types.ValueType.TheVariants.{Int, Refers}
-use Rattle.sect_types.specs.declared.expansion.action.Action.{Action}
-use Rattle.sect_types.specs.declared.expansion.action.Action.TheVariants as action
-use Rattle.sect_types.specs.declared.expansion.action.Condition.{Condition}
+use Rattle.sect_types.specs.{declared.expansion.action.Action.{Action}, declared.expansion.action.Condition.{Condition}}
 use Rattle.sect_types.specs.Sight.{Sight, given_by, base_of, operand_of, kind_of, local_at, local_with, global_at}
 use Rattle.sect_types.specs.Sight.{global_with, or_else, place, names_of_declared, names_of_globals, names_of_records}
-use Rattle.sect_types.specs.Sight.{field_with, field_at, field_in, field_of, field_of_number}
-use Rattle.sect_types.proofs.Typing.{well_typed, well_typed_test, assign_of, compute_of, new_of, load_at, load_of}
-use Rattle.sect_types.proofs.Typing.{store_at, store_of, print_of, compared_of, primitive_of, test_of}
+use Rattle.sect_types.specs.Sight.{field_with, field_at, field_in, field_of, field_of_number, field_looked, looked_in}
+use Rattle.sect_types.specs.Sight.{looked_of}
 use Rattle.sect_types.specs.Kinds.{same_kind, is_reference, accepts, of_one_kind, compares_integers, comparable}
-use Rattle.sect_types.specs.Numbered.{base_by, value_at, value_by}
-use Rattle.sect_types.specs.Sight.{field_looked, looked_in, looked_of}
-use Rattle.sect_types.specs.Items.{PrimitiveHead}
-use Rattle.sect_types.specs.Rules.{shares}
+use Rattle.sect_types.specs.{Numbered.{base_by, value_at, value_by}, Items.{PrimitiveHead}, Rules.{shares}}
 use Rattle.sect_types.specs.Environments.{Environment, environment, record_number, type_of, types_of}
 use Rattle.sect_types.specs.Sound.{reference_to, type_at, type_in, field_type, HasType, IsSoundAction, AreAlike}
-use Rattle.sect_types.specs.Sound.{AreComparable}
-use Rattle.sect_types.specs.Sound.{IsSoundCondition, is_shared, IsSound}
+use Rattle.sect_types.specs.Sound.{AreComparable, IsSoundCondition, is_shared, IsSound}
 use Rattle.sect_types.specs.Statements.{TextView, Stop, Do, Choose, Loop, Section, joined}
-use Rattle.std.proofs.lemmas.Bool.{and_parts}
+use Rattle.sect_types.proofs.Typing.{well_typed, well_typed_test, assign_of, compute_of, new_of, load_at, load_of}
+use Rattle.sect_types.proofs.Typing.{store_at, store_of, print_of, compared_of, primitive_of, test_of}
 use Rattle.sect_types.proofs.shared.SoundLemmas.{same_names}
+use Rattle.sect_front.specs.declared.tree.Kind.TheVariants as kind
+use Rattle.sect_front.specs.declared.tree.Operand.TheVariants as operand
+use Rattle.sect_front.specs.declared.tree.Primitive as leaf
+use Rattle.sect_front.specs.declared.tree.Primitive.TheVariants as primitive
+use Rattle.sect_types.specs.declared.rules.resolve.Denoted.TheVariants as denoted
+use Rattle.sect_types.specs.declared.rules.resolve.Given.TheVariants as given
+use Rattle.sect_types.specs.declared.expansion.action.Action.TheVariants as action
 
 at_map : {A B : Type 0} (f : A → B) (xs : List A) (i : ℕ) (x : A) → slice_get xs i ≡ Some x
     → slice_get (map f xs) i ≡ Some (f x)

@@ -1,14 +1,10 @@
 -- Where the types of some variables stand among those of all locals.
-use Rattle.std.proofs.Common.{◌≡◌, ℕ, zero, suc, ◌+◌, List, [], ◌∷◌, ◌++◌, map, Some}
-use Rattle.std.proofs.Common.{refl, ◌∙◌, ap, arith, subst, length, slice_get}
-use Rattle.std.proofs.lemmas.List.{map-append, length-map}
+use Rattle.std.proofs.Common.{◌≡◌, ℕ, zero, suc, ◌+◌, List, [], ◌∷◌, ◌++◌, map, Some, refl, ◌∙◌, ap, arith, subst}
+use Rattle.std.proofs.{Common.{length, slice_get}, lemmas.List.{map-append, length-map}}
 use Rattle.sect_front.specs.declared.tree.Declaration.{Declaration}
-use Rattle.sect_types.specs.declared.declarations.types.ValueType.{ValueType}
-use Rattle.sect_types.specs.Sight.{names_of_records}
-use Rattle.sect_types.specs.Environments.{type_of, types_of}
-use Rattle.sect_types.specs.Rules.{Declared}
-use Rattle.sect_types.specs.declared.expansion.expand.Fresh.{Fresh}
-use Rattle.sect_types.specs.Expanded.{of_call}
+use Rattle.sect_types.specs.{declared.declarations.types.ValueType.{ValueType}, Sight.{names_of_records}}
+use Rattle.sect_types.specs.{Environments.{type_of, types_of}, Rules.{Declared}}
+use Rattle.sect_types.specs.{declared.expansion.expand.Fresh.{Fresh}, Expanded.{of_call}}
 use Rattle.sect_types.proofs.MovedLaws.{StandFrom}
 
 pub stand_first : (n : ℕ) (ty : ValueType) (few all : List ValueType) → StandFrom n (ty ∷ few) all

@@ -1,24 +1,18 @@
 -- How many sites a statement by numbers has.
 use Rattle.std.specs.Prelude.{Bool, true, false, ◌&&◌}
 use Rattle.std.proofs.Common.{◌≡◌, ℕ, List, length, Option, Some, None, IfOk, refl}
+use Rattle.sect_front.specs.declared.tree.Operator.{Operator}
+use Rattle.sect_types.specs.{declared.expansion.action.Action.{Action}, declared.rules.resolve.Denoted.{Denoted}}
+use Rattle.sect_types.specs.{declared.rules.resolve.Given.{Given}, declared.rules.resolve.Looked.{Looked}}
+use Rattle.sect_types.specs.Sight.{Sight, place, names_of_records, base_of, operand_of, looked_of}
+use Rattle.sect_types.specs.{Kinds.{same_kind, accepts}, Statements.{made_by}, Sections.{IsSite}, Sums.{primitive_sums}}
+use Rattle.sect_types.proofs.Typing.{well_typed, primitive_of, assign_of, compute_of, new_of, load_of, store_of}
+use Rattle.sect_types.proofs.Typing.{print_of}
 use Rattle.sect_front.specs.declared.tree.Primitive as leaf
 use Rattle.sect_front.specs.declared.tree.Primitive.TheVariants as primitive
 use Rattle.sect_front.specs.declared.tree.Kind.TheVariants as kind
-use Rattle.sect_front.specs.declared.tree.Operator.{Operator}
-use Rattle.sect_types.specs.declared.expansion.action.Action.{Action}
-use Rattle.sect_types.specs.declared.rules.resolve.Denoted.{Denoted}
 use Rattle.sect_types.specs.declared.rules.resolve.Denoted.TheVariants as denoted
-use Rattle.sect_types.specs.declared.rules.resolve.Given.{Given}
-use Rattle.sect_types.specs.declared.rules.resolve.Looked.{Looked}
 use Rattle.sect_types.specs.declared.rules.resolve.Looked.TheVariants as looked
-use Rattle.sect_types.specs.Sight.{Sight, place, names_of_records, base_of, operand_of}
-use Rattle.sect_types.proofs.Typing.{well_typed, primitive_of, assign_of, compute_of, new_of, load_of, store_of}
-use Rattle.sect_types.proofs.Typing.{print_of}
-use Rattle.sect_types.specs.Kinds.{same_kind, accepts}
-use Rattle.sect_types.specs.Sight.{looked_of}
-use Rattle.sect_types.specs.Statements.{made_by}
-use Rattle.sect_types.specs.Sections.{IsSite}
-use Rattle.sect_types.specs.Sums.{primitive_sums}
 
 -- the action has so many sites, the first of them this
 abbrev pub Makes : ℕ → ℕ → Action → Type 0

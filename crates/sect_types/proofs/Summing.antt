@@ -1,14 +1,9 @@
 -- Summaries of procedures, and what is added to them.
-use Rattle.std.proofs.Common.{◌≡◌, ℕ, ◌+◌, ◌≤◌, List, [], ◌∷◌, ◌++◌, Some, sym}
-use Rattle.std.proofs.Common.{◌∙◌, ap, arith, map, length, max, drop, subst}
-use Rattle.std.proofs.lemmas.List.{drop_all, append-nil, length-map}
-use Rattle.sect_front.specs.declared.tree.Procedure.{Procedure}
-use Rattle.sect_front.specs.declared.tree.Statement.{Statement}
-use Rattle.sect_front.specs.Trees.{block_of}
-use Rattle.sect_types.specs.declared.counting.sums.Sums.{Sums}
-use Rattle.sect_types.specs.declared.counting.sums.Met.{Met}
-use Rattle.sect_types.specs.declared.counting.sums.Summary.{Summary}
-use Rattle.sect_types.specs.Sums.{both, sums_at, block_sums}
+use Rattle.std.proofs.Common.{◌≡◌, ℕ, ◌+◌, ◌≤◌, List, [], ◌∷◌, ◌++◌, Some, sym, ◌∙◌, ap, arith, map, length, max, drop}
+use Rattle.std.proofs.{Common.{subst}, lemmas.List.{drop_all, append-nil, length-map}}
+use Rattle.sect_front.specs.{declared.tree.Procedure.{Procedure}, declared.tree.Statement.{Statement}, Trees.{block_of}}
+use Rattle.sect_types.specs.{declared.counting.sums.Sums.{Sums}, declared.counting.sums.Met.{Met}}
+use Rattle.sect_types.specs.{declared.counting.sums.Summary.{Summary}, Sums.{both, sums_at, block_sums}}
 use Rattle.sect_types.specs.steps.Capped.{capped, IsSmall}
 use Rattle.sect_types.specs.steps.Summaries.{deeper, met_sums, summary_sums, HasMore, AreSummaries}
 use Rattle.sect_types.proofs.Capping.{same_sums}

@@ -1,28 +1,22 @@
 -- The same of the expansion itself: more fuel than there are procedures changes no text.
-use Rattle.std.specs.Prelude.{Bool, true, false, is_some}
-use Rattle.std.specs.List.{list_any}
+use Rattle.std.specs.{Prelude.{Bool, true, false, is_some, option_map}, List.{list_any}}
 use Rattle.std.proofs.Common.{◌≡◌, ℕ, zero, suc, ◌+◌, List, [], Option, Some, None, refl, ◌∙◌, ap, arith, inl, inr}
-use Rattle.std.proofs.Common.{length}
-use Rattle.std.specs.Prelude.{option_map}
-use Rattle.sect_front.specs.declared.tree.Operand.{Operand}
-use Rattle.sect_front.specs.declared.tree.Record.{Record}
+use Rattle.std.proofs.{Common.{length}, lemmas.Bool.{cases_Bool}}
+use Rattle.sect_front.specs.{declared.tree.Operand.{Operand}, declared.tree.Record.{Record}}
 use Rattle.sect_front.specs.declared.tree.GlobalObject.{GlobalObject}
-use Rattle.sect_types.specs.Statements.{Stop, Choose, Loop, Section, joined}
-use Rattle.sect_types.specs.Rules.{sight}
 use Rattle.sect_front.specs.Syntax.{StatementView, Primitive, If, IfElse, While, Atomic, Call, BlockView, End, Then}
 use Rattle.sect_front.specs.declared.tree.Procedure.{Procedure}
-use Rattle.sect_types.specs.Items.{variables}
+use Rattle.sect_types.specs.{Statements.{Stop, Choose, Loop, Section, joined}, Rules.{sight}, Items.{variables}}
 use Rattle.sect_types.specs.declared.counting.sums.Sums.{Sums}
 use Rattle.sect_types.specs.Sums.{sums_within, number_of, prepend, statement_calls, block_calls, calls_in}
 use Rattle.sect_types.specs.Numbered.{of_both, of_all}
 use Rattle.sect_types.specs.Expanded.{Scene, NextNumbers, Expander, past, past_statement, past_block}
-use Rattle.sect_types.specs.Expanded.{statement_sections}
-use Rattle.sect_types.specs.Expanded.{block_sections, condition_at, expanded_statement, expanded_block, expand_within}
-use Rattle.sect_types.specs.Expanded.{call_of, procedure_numbered, after_call, set_parameters, clear_locals}
+use Rattle.sect_types.specs.Expanded.{statement_sections, block_sections, condition_at, expanded_statement}
+use Rattle.sect_types.specs.Expanded.{expanded_block, expand_within, call_of, procedure_numbered, after_call}
+use Rattle.sect_types.specs.Expanded.{set_parameters, clear_locals}
 use Rattle.sect_types.proofs.FuelLaws.{Agree, same_statement, same_block, chain, one_more}
-use Rattle.sect_lemmas.proofs.Booleans.{neither}
 use Rattle.sect_types.proofs.EnoughLaws.{IsAcyclic, ends, no_way}
-use Rattle.std.proofs.lemmas.Bool.{cases_Bool}
+use Rattle.sect_lemmas.proofs.Booleans.{neither}
 
 abbrev pub SameAt : Expander → Expander → Option ℕ → Type 0
 SameAt f g q = (v : Scene) (a : NextNumbers) (vs : List Operand) → f q v a vs ≡ g q v a vs

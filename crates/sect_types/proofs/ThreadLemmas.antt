@@ -1,35 +1,26 @@
 -- One procedure or thread more.
 use Rattle.std.proofs.Common.{◌≡◌, ℕ, zero, suc, ◌+◌, ◌<◌, ◌≤◌, false, List, [], ◌∷◌, ◌++◌, drop, get_or, map, length}
 use Rattle.std.proofs.Common.{Result, Ok, Err, sym, ap, subst, ◌∙◌, append_assoc, length-append, arith, true, ◌&&◌}
-use Rattle.std.proofs.Common.{nat_le}
+use Rattle.std.proofs.{Common.{nat_le}, lemmas.Bool.Decides.{nat_tests}, lemmas.List.{drop_all}}
+use Rattle.std.proofs.lemmas.Bool.{and_parts, and_from}
 use Rattle.std.specs.Result.{IsErrAnd}
 use Rattle.sect_lemmas.proofs.Elements.{drop_next}
-use Rattle.sect_front.specs.Syntax.{BlockView}
-use Rattle.sect_front.specs.Depth.{block_depth, procedures_depth, threads_depth}
-use Rattle.sect_front.specs.declared.tree.Declaration.{Declaration}
-use Rattle.sect_front.specs.declared.tree.Procedure.{Procedure}
-use Rattle.sect_front.specs.declared.tree.Thread.{Thread}
-use Rattle.sect_front.specs.TreeView.{TreeView}
+use Rattle.sect_front.specs.{Syntax.{BlockView}, Depth.{block_depth, procedures_depth, threads_depth}}
+use Rattle.sect_front.specs.{declared.tree.Declaration.{Declaration}, declared.tree.Procedure.{Procedure}}
+use Rattle.sect_front.specs.{declared.tree.Thread.{Thread}, TreeView.{TreeView}}
 use Rattle.sect_types.specs.declared.rules.place.Place.{Place}
 use Rattle.sect_types.specs.declared.rules.place.Place.TheVariants.{InThread, InProcedure}
 use Rattle.sect_types.specs.declared.rules.rule.WalkFault.{WalkFault}
-use Rattle.sect_types.specs.declared.rules.rule.WalkFault.TheVariants as fault
 use Rattle.sect_types.specs.Sight.{Sight, names_of_records, names_of_declared}
 use Rattle.sect_types.specs.Items.{Item, AProcedure, AThread, variables, local_items, block_items, procedure_items}
-use Rattle.sect_types.specs.Items.{thread_items}
-use Rattle.sect_types.specs.Rules.{Declared, declared_in, Counts, sight}
-use Rattle.sect_types.specs.steps.Walks.{Walks}
-use Rattle.sect_types.specs.steps.Standing.{declared_by}
-use Rattle.sect_types.specs.steps.Threads.{VariablesView, variables_shown, variables_fine, local_names, AreProcedures}
-use Rattle.sect_types.specs.steps.Threads.{AreThreads}
-use Rattle.sect_types.specs.steps.Listing.{all_known, locals_fine}
-use Rattle.std.proofs.lemmas.Bool.Decides.{nat_tests}
-use Rattle.std.proofs.lemmas.List.{drop_all}
-use Rattle.sect_types.specs.steps.Capped.{HaveFewVariables}
-use Rattle.sect_types.proofs.Records.{at_most}
-use Rattle.std.proofs.lemmas.Bool.{and_parts, and_from}
+use Rattle.sect_types.specs.{Items.{thread_items}, Rules.{Declared, declared_in, Counts, sight}}
 use Rattle.sect_types.specs.Limits.{most_locals, most_procedures, most_threads}
+use Rattle.sect_types.specs.steps.{Walks.{Walks}, Standing.{declared_by}}
+use Rattle.sect_types.specs.steps.Threads.{VariablesView, variables_shown, variables_fine, local_names, AreProcedures}
+use Rattle.sect_types.specs.steps.{Threads.{AreThreads}, Listing.{all_known, locals_fine}, Capped.{HaveFewVariables}}
 use Rattle.sect_types.specs.steps.Judging.{judge}
+use Rattle.sect_types.proofs.Records.{at_most}
+use Rattle.sect_types.specs.declared.rules.rule.WalkFault.TheVariants as fault
 
 -- what comes first, and then a walk
 pub walks_then : {A : Type 0} (d : Declared) (all first : List Item → List Item) (old now new : Counts)

@@ -1,21 +1,16 @@
 -- The expanded texts of all threads.
-use Rattle.std.proofs.Common.{◌≡◌, ℕ, ◌+◌, ◌<◌, ◌≤◌, List, [], ◌∷◌, ◌++◌, drop, get_or}
-use Rattle.std.proofs.Common.{refl, sym, ◌∙◌, ap, arith, subst, length, append_assoc}
-use Rattle.sect_front.specs.declared.tree.Thread.{Thread}
-use Rattle.sect_front.specs.TreeView.{TreeView}
+use Rattle.std.proofs.Common.{◌≡◌, ℕ, ◌+◌, ◌<◌, ◌≤◌, List, [], ◌∷◌, ◌++◌, drop, get_or, refl, sym, ◌∙◌, ap, arith}
+use Rattle.std.proofs.Common.{subst, length, append_assoc}
+use Rattle.sect_front.specs.{declared.tree.Thread.{Thread}, TreeView.{TreeView}}
 use Rattle.sect_types.specs.Limits.{most_locals, most_sections, most_sites, most_statements}
-use Rattle.sect_types.specs.Rules.{declared_in, sight}
-use Rattle.sect_types.specs.Sums.{sums, block_sums}
-use Rattle.sect_types.specs.Statements.{TextView}
+use Rattle.sect_types.specs.{Rules.{declared_in, sight}, Sums.{sums, block_sums}, Statements.{TextView}}
 use Rattle.sect_types.specs.First.{IsTyped}
-use Rattle.sect_types.specs.Expanded.{NextNumbers, block_sections, past_thread, expanded_block}
-use Rattle.sect_types.specs.Expanded.{expand_within, expanded_thread, expanded_threads}
-use Rattle.sect_types.specs.Numbered.{of_both}
+use Rattle.sect_types.specs.Expanded.{NextNumbers, block_sections, past_thread, expanded_block, expand_within}
+use Rattle.sect_types.specs.{Expanded.{expanded_thread, expanded_threads}, Numbered.{of_both}}
 use Rattle.sect_types.specs.steps.Written.{written_thread, written_threads}
 use Rattle.sect_types.specs.steps.Expansion.{IsPast, HasRoom, block_by, at_thread, RoomFor, AreExpanded}
 use Rattle.sect_lemmas.proofs.Elements.{drop_next}
-use Rattle.sect_types.proofs.SectionLaws.{sections_in}
-use Rattle.sect_types.proofs.Walked.{before_threads}
+use Rattle.sect_types.proofs.{SectionLaws.{sections_in}, Walked.{before_threads}}
 use Rattle.sect_types.proofs.EndCounts.{thread_sums, before_add, threads_add}
 use Rattle.sect_types.proofs.WithinLimits.{HaveFewLocals, typed_few, block_takes, calls_take}
 

@@ -1,51 +1,40 @@
 -- The expanded text of a typed text is sound where its fresh locals have the types of their declarations.
 use Rattle.std.specs.Prelude.{Bool, true, false, not, ◌&&◌, ◌||◌, is_some, nat_eq}
 use Rattle.std.proofs.Common.{◌≡◌, ℕ, zero, suc, ◌+◌, List, [], ◌∷◌, ◌++◌, map, Option, Some, None, IfSome, refl, sym}
-use Rattle.std.proofs.Common.{◌∙◌, arith, subst, length, length-append}
-use Rattle.std.proofs.lemmas.Bool.{eqb-true, and_parts}
-use Rattle.sect_front.specs.declared.tree.Operand.{Operand}
-use Rattle.sect_front.specs.declared.tree.Kind.{Kind}
-use Rattle.sect_front.specs.declared.tree.Kind.TheVariants as kind
+use Rattle.std.proofs.{Common.{◌∙◌, arith, subst, length, length-append}, lemmas.Bool.{eqb-true, and_parts}}
+use Rattle.sect_front.specs.{declared.tree.Operand.{Operand}, declared.tree.Kind.{Kind}}
 use Rattle.sect_front.specs.declared.tree.Declaration.{Declaration}
-use Rattle.sect_types.specs.declared.declarations.types.ValueType.{ValueType}
-use Rattle.sect_types.specs.declared.expansion.action.Action.{Action}
-use Rattle.sect_types.specs.declared.rules.resolve.Given.{Given}
-use Rattle.sect_types.specs.Sight.{names_of_records, operand_of}
-use Rattle.sect_types.specs.Numbered.{value_by}
-use Rattle.sect_types.specs.steps.Written.{Writer, written_statement, written_block, argument_in, write_parameters}
-use Rattle.sect_types.specs.steps.Written.{write_locals, written_call, written_within, written_thread, written_threads}
-use Rattle.sect_types.specs.steps.Written.{written_texts}
-use Rattle.sect_types.specs.Environments.{Environment, environment, type_of, field_types, global_records}
-use Rattle.sect_types.specs.Sound.{HasType, IsSound, AreSound, StandsRight, is_shared}
-use Rattle.sect_types.specs.Statements.{TextView, joined}
-use Rattle.sect_types.proofs.SoundLemmas.{IsGiven, accepts_has, operand_there, joined_sound}
 use Rattle.sect_front.specs.Syntax.{StatementView, Primitive, If, IfElse, While, Atomic, Call, BlockView, End, Then}
-use Rattle.sect_front.specs.declared.tree.Procedure.{Procedure}
-use Rattle.sect_front.specs.declared.tree.Thread.{Thread}
-use Rattle.sect_front.specs.TreeView.{TreeView}
+use Rattle.sect_front.specs.{declared.tree.Procedure.{Procedure}, declared.tree.Thread.{Thread}, TreeView.{TreeView}}
+use Rattle.sect_types.specs.declared.declarations.types.ValueType.{ValueType}
+use Rattle.sect_types.specs.{declared.expansion.action.Action.{Action}, declared.rules.resolve.Given.{Given}}
+use Rattle.sect_types.specs.{Sight.{names_of_records, operand_of}, Numbered.{value_by}}
+use Rattle.sect_types.specs.Environments.{Environment, environment, type_of, field_types, global_records}
+use Rattle.sect_types.specs.{Sound.{HasType, IsSound, AreSound, StandsRight, is_shared}, Statements.{TextView, joined}}
 use Rattle.sect_types.specs.declared.rules.place.Place.{Place}
 use Rattle.sect_types.specs.declared.rules.place.Place.TheVariants.{InThread, InProcedure}
 use Rattle.sect_types.specs.Items.{deeper, in_section, is_inside, variables, AStatement, PrimitiveHead, CallHead}
 use Rattle.sect_types.specs.declared.counting.sums.Sums.{Sums}
 use Rattle.sect_types.specs.Sums.{sums, sums_within, statement_sums, block_sums, number_of}
 use Rattle.sect_types.specs.Rules.{Declared, seen, kind_accepts, all_accept, shares, knows_operands, as_many}
-use Rattle.sect_types.specs.Rules.{procedure_at, procedure_of, call_agrees, declared_in}
-use Rattle.sect_types.specs.First.{IsTyped}
-use Rattle.sect_types.specs.steps.Clean.{IsClean, IsCleanStatement, IsCleanBlock, AreCleanThreads}
-use Rattle.sect_types.specs.Expanded.{NextNumbers, Freshens, of_call, past_statement, past_block}
-use Rattle.sect_types.specs.Expanded.{cleared}
-use Rattle.sect_types.specs.Expanded.{after_call, procedure_numbered, fresh_of}
-use Rattle.sect_types.specs.Expanded.{fresh_within, fresh_in, statement_fresh, block_fresh, local_types_of}
-use Rattle.sect_types.specs.Expanded.{past_thread}
+use Rattle.sect_types.specs.{Rules.{procedure_at, procedure_of, call_agrees, declared_in}, First.{IsTyped}}
+use Rattle.sect_types.specs.Expanded.{NextNumbers, Freshens, of_call, past_statement, past_block, cleared, after_call}
+use Rattle.sect_types.specs.Expanded.{procedure_numbered, fresh_of, fresh_within, fresh_in, statement_fresh}
+use Rattle.sect_types.specs.Expanded.{block_fresh, local_types_of, past_thread}
 use Rattle.sect_types.specs.declared.expansion.expand.Fresh.{Fresh}
+use Rattle.sect_types.specs.steps.Written.{Writer, written_statement, written_block, argument_in, write_parameters}
+use Rattle.sect_types.specs.steps.Written.{write_locals, written_call, written_within, written_thread, written_threads}
+use Rattle.sect_types.specs.steps.Written.{written_texts}
+use Rattle.sect_types.specs.steps.Clean.{IsClean, IsCleanStatement, IsCleanBlock, AreCleanThreads}
+use Rattle.sect_types.proofs.SoundLemmas.{IsGiven, accepts_has, operand_there, joined_sound}
 use Rattle.sect_types.proofs.CountLaws.{CountsFresh, statement_freshens, block_freshens, call_freshens, of_call_long}
-use Rattle.sect_types.proofs.MovedLaws.{StandFrom, moved_type, moved_sound, moved_holds}
-use Rattle.sect_types.proofs.Walked.{text_clean}
+use Rattle.sect_types.proofs.{MovedLaws.{StandFrom, moved_type, moved_sound, moved_holds}, Walked.{text_clean}}
 use Rattle.sect_types.proofs.Resolved.{not_false, and_not, resolved, resolved_test, moved_shared}
 use Rattle.sect_types.proofs.SiteLaws.{AreClean, called_clean, typed_clean, view}
 use Rattle.sect_types.proofs.StandingTypes.{stand_first, stand_next, stand_left, stand_right, stand_whole, stand_behind}
 use Rattle.sect_types.proofs.StandingTypes.{types_in, fresh_types, fresh_left, fresh_right, call_types, types_both}
 use Rattle.sect_types.proofs.StandingTypes.{types_long}
+use Rattle.sect_front.specs.declared.tree.Kind.TheVariants as kind
 
 -- what statements see where these are the types of all locals
 abbrev pub whole : Declared → List ValueType → Environment

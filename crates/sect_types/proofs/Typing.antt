@@ -1,27 +1,20 @@
 -- Statements by numbers and their types at once: an action, or the rule of types that is broken. What holds of each of
 -- its cases holds of `action_of` where the types agree.
 use Rattle.std.specs.Prelude.{ℕ, Bool, true, false, ◌&&◌, List, Option, Some, None, Result, Ok, Err}
+use Rattle.sect_front.specs.{declared.tree.Comparison.{Comparison}, declared.tree.Operator.{Operator}}
+use Rattle.sect_front.specs.declared.tree.Test.{Test}
+use Rattle.sect_types.specs.{declared.rules.rule.Rule.{Rule}, declared.rules.rule.Rule.TheVariants.{Unknown, WrongType}}
+use Rattle.sect_types.specs.{declared.rules.resolve.Denoted.{Denoted}, declared.rules.resolve.Given.{Given}}
+use Rattle.sect_types.specs.{declared.rules.resolve.Looked.{Looked}, declared.rules.resolve.FieldAt.{FieldAt}}
+use Rattle.sect_types.specs.{declared.expansion.action.Condition.{Condition}, declared.expansion.action.Action.{Action}}
+use Rattle.sect_types.specs.Sight.{Sight, place, names_of_records, base_of, operand_of, looked_of}
+use Rattle.sect_types.specs.{Kinds.{same_kind, accepts, comparable}, Numbered.{base_by, value_by}}
 use Rattle.sect_front.specs.declared.tree.Kind.TheVariants as kind
-use Rattle.sect_front.specs.declared.tree.Comparison.{Comparison}
-use Rattle.sect_front.specs.declared.tree.Operator.{Operator}
 use Rattle.sect_front.specs.declared.tree.Primitive as leaf
 use Rattle.sect_front.specs.declared.tree.Primitive.TheVariants as primitive
-use Rattle.sect_front.specs.declared.tree.Test.{Test}
-use Rattle.sect_types.specs.declared.rules.rule.Rule.{Rule}
-use Rattle.sect_types.specs.declared.rules.rule.Rule.TheVariants.{Unknown, WrongType}
-use Rattle.sect_types.specs.declared.rules.resolve.Denoted.{Denoted}
 use Rattle.sect_types.specs.declared.rules.resolve.Denoted.TheVariants as denoted
-use Rattle.sect_types.specs.declared.rules.resolve.Given.{Given}
-use Rattle.sect_types.specs.declared.rules.resolve.Looked.{Looked}
 use Rattle.sect_types.specs.declared.rules.resolve.Looked.TheVariants as looked
-use Rattle.sect_types.specs.declared.rules.resolve.FieldAt.{FieldAt}
-use Rattle.sect_types.specs.declared.expansion.action.Condition.{Condition}
-use Rattle.sect_types.specs.declared.expansion.action.Action.{Action}
 use Rattle.sect_types.specs.declared.expansion.action.Action.TheVariants as action
-use Rattle.sect_types.specs.Sight.{Sight, place, names_of_records, base_of, operand_of}
-use Rattle.sect_types.specs.Sight.{looked_of}
-use Rattle.sect_types.specs.Kinds.{same_kind, accepts, comparable}
-use Rattle.sect_types.specs.Numbered.{base_by, value_by}
 
 abbrev pub well_typed : Bool → Action → Result Action Rule
 well_typed true a = Ok a

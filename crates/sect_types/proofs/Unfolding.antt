@@ -1,16 +1,10 @@
 -- In a typed text calls are expanded to their end.
 use Rattle.std.proofs.Common.{Some, sym, ap, ◌∙◌}
 use Rattle.sect_front.specs.TreeView.{TreeView}
-use Rattle.sect_types.specs.Sums.{sums}
-use Rattle.sect_types.specs.First.{IsTyped}
-use Rattle.sect_types.specs.Unfolding.{SumsUnfold, TextsUnfold, SumsCount, FreshUnfold}
-use Rattle.sect_types.proofs.CountLaws.{looked, thread_counts}
-use Rattle.sect_types.proofs.DepthLaws.{thread_deep}
-use Rattle.sect_types.proofs.ByNumbers.{thread_written}
+use Rattle.sect_types.specs.{Sums.{sums}, First.{IsTyped}, Unfolding.{SumsUnfold, TextsUnfold, SumsCount, FreshUnfold}}
 use Rattle.sect_types.specs.Statements.{statement_count, text_depth}
-use Rattle.sect_types.proofs.EnoughLaws.{enough}
-use Rattle.sect_types.proofs.TextLaws.{enough_text}
-use Rattle.sect_types.proofs.FreshLaws.{enough_fresh}
+use Rattle.sect_types.proofs.{CountLaws.{looked, thread_counts}, DepthLaws.{thread_deep}, ByNumbers.{thread_written}}
+use Rattle.sect_types.proofs.{EnoughLaws.{enough}, TextLaws.{enough_text}, FreshLaws.{enough_fresh}}
 use Rattle.sect_types.proofs.CycleLaws.{typed_acyclic}
 
 pub sums_unfold : (t : TreeView) → IsTyped t → SumsUnfold t

@@ -1,28 +1,22 @@
 -- What breaks no rule is clean, item by item.
 use Rattle.std.specs.Prelude.{Bool, true, false}
 use Rattle.std.proofs.Common.{◌≡◌, ℕ, suc, ◌+◌, List, [], ◌∷◌, ◌++◌, refl}
-use Rattle.sect_front.specs.declared.tree.Declaration.{Declaration}
-use Rattle.sect_front.specs.declared.tree.Record.{Record}
+use Rattle.sect_front.specs.{declared.tree.Declaration.{Declaration}, declared.tree.Record.{Record}}
 use Rattle.sect_front.specs.declared.tree.GlobalObject.{GlobalObject}
 use Rattle.sect_front.specs.Syntax.{StatementView, Primitive, If, IfElse, While, Atomic, Call, BlockView, End, Then}
-use Rattle.sect_front.specs.declared.tree.Procedure.{Procedure}
-use Rattle.sect_front.specs.declared.tree.Thread.{Thread}
-use Rattle.sect_front.specs.TreeView.{TreeView}
-use Rattle.sect_types.specs.Items.{PrimitiveHead, TestHead, AtomicHead, CallHead, deeper, in_section, Item}
-use Rattle.sect_types.specs.Items.{AGlobal, AStatement, statement_items}
-use Rattle.sect_types.specs.Items.{block_items, field_items, record_items, global_items, local_items, procedure_items}
-use Rattle.sect_types.specs.Items.{thread_items, variables}
+use Rattle.sect_front.specs.{declared.tree.Procedure.{Procedure}, declared.tree.Thread.{Thread}, TreeView.{TreeView}}
+use Rattle.sect_types.specs.Items.{PrimitiveHead, TestHead, AtomicHead, CallHead, deeper, in_section, Item, AGlobal}
+use Rattle.sect_types.specs.Items.{AStatement, statement_items, block_items, field_items, record_items, global_items}
+use Rattle.sect_types.specs.Items.{local_items, procedure_items, thread_items, variables}
 use Rattle.sect_types.specs.declared.rules.place.Place.{Place}
 use Rattle.sect_types.specs.declared.rules.place.Place.TheVariants.{InThread, InProcedure}
 use Rattle.sect_types.specs.declared.rules.rule.Rule.TheVariants.{Unknown, Twice, WrongType, SharedOutside, Nested}
-use Rattle.sect_types.specs.declared.rules.rule.Rule.TheVariants.{TooMany}
-use Rattle.sect_types.specs.declared.rules.rule.Rule.TheVariants.{Recursion, Arguments}
-use Rattle.sect_types.specs.declared.rules.rule.Rule.{Rule}
-use Rattle.sect_types.specs.Rules.{Declared, Counts, after, after_item, declared_in}
-use Rattle.sect_types.specs.steps.Judging.{breaks}
+use Rattle.sect_types.specs.declared.rules.rule.Rule.TheVariants.{TooMany, Recursion, Arguments}
+use Rattle.sect_types.specs.{declared.rules.rule.Rule.{Rule}, Rules.{Declared, Counts, after, after_item, declared_in}}
 use Rattle.sect_types.specs.First.{BreaksFrom, none_yet, IsTyped}
-use Rattle.sect_types.proofs.Ways.{breaks_rule}
+use Rattle.sect_types.specs.steps.Judging.{breaks}
 use Rattle.sect_types.specs.steps.Clean.{IsClean, IsCleanStatement, IsCleanBlock, AreCleanProcedures, AreCleanThreads}
+use Rattle.sect_types.proofs.Ways.{breaks_rule}
 
 -- no rule is broken at any of these items, before which the counts are c
 abbrev pub NoneBroken : Declared → Counts → List Item → Type 0

@@ -1,28 +1,21 @@
 -- The search for ways of calls finds each, and nothing else.
-use Rattle.std.specs.Prelude.{◌||◌, true, false, nat_eq, eqb}
-use Rattle.std.specs.List.{list_any}
+use Rattle.std.specs.{Prelude.{◌||◌, true, false, nat_eq, eqb}, List.{list_any}}
 use Rattle.std.proofs.Common.{◌≡◌, inl, inr, ℕ, zero, suc, List, [], ◌∷◌, Option, Some, None, sym, subst, length}
-use Rattle.std.proofs.Common.{slice_get}
-use Rattle.std.proofs.lemmas.Bool.{eqb-true}
+use Rattle.std.proofs.{Common.{slice_get}, lemmas.Bool.{eqb-true, or_cases}}
 use Rattle.sect_front.specs.declared.tree.Procedure.{Procedure}
 use Rattle.sect_types.specs.declared.rules.place.Place.{Place}
 use Rattle.sect_types.specs.declared.rules.place.Place.TheVariants.{InThread, InProcedure}
 use Rattle.sect_types.specs.declared.rules.rule.Rule.{Rule}
 use Rattle.sect_types.specs.declared.rules.rule.Rule.TheVariants.{Unknown, Twice, WrongType, SharedOutside, Nested}
-use Rattle.sect_types.specs.declared.rules.rule.Rule.TheVariants.{TooMany}
-use Rattle.sect_types.specs.declared.rules.rule.Rule.TheVariants.{Recursion, Arguments}
-use Rattle.sect_lemmas.specs.Lists.{Has}
+use Rattle.sect_types.specs.declared.rules.rule.Rule.TheVariants.{TooMany, Recursion, Arguments}
 use Rattle.sect_types.specs.Items.{Item, ARecord, AField, AGlobal, AProcedure, AThread, ALocal, AStatement}
-use Rattle.sect_types.specs.Items.{PrimitiveHead}
-use Rattle.sect_types.specs.Items.{TestHead, AtomicHead, CallHead}
+use Rattle.sect_types.specs.Items.{PrimitiveHead, TestHead, AtomicHead, CallHead}
 use Rattle.sect_types.specs.Sums.{calls_in, number_of, IsWay, Returns}
 use Rattle.sect_types.specs.Rules.{Declared, Counts, ReturnsTo, IsRecursive, BreaksRule}
-use Rattle.sect_types.specs.steps.Search.{reaches, returns, returns_to, recursive}
-use Rattle.sect_types.specs.steps.Judging.{breaks}
-use Rattle.std.proofs.lemmas.Bool.{or_cases}
+use Rattle.sect_lemmas.specs.Lists.{Has}
+use Rattle.sect_types.specs.steps.{Search.{reaches, returns, returns_to, recursive}, Judging.{breaks}}
 use Rattle.sect_lemmas.proofs.Booleans.{or_left, or_right}
-use Rattle.sect_types.proofs.EnoughLaws.{witness, same}
-use Rattle.sect_types.proofs.ReachLaws.{returns_caller}
+use Rattle.sect_types.proofs.{EnoughLaws.{witness, same}, ReachLaws.{returns_caller}}
 
 has_any : (xs : List ℕ) (r : ℕ) → list_any (eqb r) xs ≡ true → Has xs r
 has_any [] r h = absurd (let off : false ≡ true = h in cc)

@@ -2,15 +2,13 @@
 use Rattle.std.proofs.Common.{◌≡◌, List, [], ◌∷◌, Option, Some, None, refl}
 use Rattle.std.specs.Prelude.{map}
 use Rattle.sect_types.specs.declared.meaning.store.ObjectName.TheVariants.{Made}
-use Rattle.sect_types.specs.declared.meaning.store.Datum.TheVariants.{Null, Refers}
-use Rattle.sect_types.specs.declared.meaning.store.Fault.TheVariants as fault
-use Rattle.sect_types.specs.declared.meaning.store.End.{End}
-use Rattle.sect_types.specs.declared.meaning.store.End.TheVariants.{Done, Failed}
-use Rattle.sect_types.specs.Store.{ObjectView}
+use Rattle.sect_types.specs.{declared.meaning.store.Datum.TheVariants.{Null, Refers}, declared.meaning.store.End.{End}}
+use Rattle.sect_types.specs.{declared.meaning.store.End.TheVariants.{Done, Failed}, Store.{ObjectView}}
 use Rattle.sect_types.specs.Whole.{RunView, FrameView, RunsWhole, in_order, begun, all_ahead}
 use Rattle.sect_types.proofs.shared.ProgramTexts.{two_bumps, sum_and_push, null_after_write}
-use Rattle.sect_types.proofs.ProgramTexts.{two_assignments, too_much}
 use Rattle.sect_types.proofs.shared.WholeRows.{int, object, ending}
+use Rattle.sect_types.proofs.ProgramTexts.{two_assignments, too_much}
+use Rattle.sect_types.specs.declared.meaning.store.Fault.TheVariants as fault
 
 -- with three units of fuel both are through; with two both fail, and nothing is written
 fuel_three : RunsWhole two_bumps 3 (0 ∷ 1 ∷ [])

@@ -1,48 +1,37 @@
 -- A text that breaks no rule stays within the limits.
 use Rattle.std.specs.Prelude.{Bool, true, false, ◌&&◌, ◌||◌, nat_le, nat_lt, is_some, ⊤}
-use Rattle.std.proofs.Common.{◌≡◌, ℕ, zero, suc, ◌+◌, ◌<◌, ◌≤◌, List, [], ◌∷◌, ◌++◌, map, Option, Some, None, refl}
-use Rattle.std.proofs.Common.{sym, ◌∙◌, arith, subst, length, length-append, ap}
-use Rattle.std.proofs.lemmas.List.{length-map}
+use Rattle.std.proofs.Common.{◌≡◌, ℕ, zero, suc, ◌+◌, ◌<◌, ◌≤◌, List, [], ◌∷◌, ◌++◌, map, Option, Some, None, refl, sym}
+use Rattle.std.proofs.{Common.{◌∙◌, arith, subst, length, length-append, ap}, lemmas.List.{length-map}}
 use Rattle.std.proofs.lemmas.Bool.Decides.{nat_tests}
-use Rattle.sect_front.specs.declared.tree.Primitive as leaf
-use Rattle.sect_front.specs.declared.tree.Primitive.TheVariants as primitive
-use Rattle.sect_front.specs.declared.tree.Operand.{Operand}
-use Rattle.sect_front.specs.declared.tree.Declaration.{Declaration}
+use Rattle.sect_front.specs.{declared.tree.Operand.{Operand}, declared.tree.Declaration.{Declaration}}
 use Rattle.sect_front.specs.declared.tree.GlobalObject.{GlobalObject}
-use Rattle.sect_types.specs.declared.declarations.types.ValueType.{ValueType}
-use Rattle.sect_types.specs.Sight.{names_of_records}
-use Rattle.sect_types.specs.Environments.{type_of, types_of}
-use Rattle.sect_types.specs.Sections.{sections_of}
-use Rattle.sect_types.specs.Programs.{total_statements, all_made, calls_met}
 use Rattle.sect_front.specs.Syntax.{StatementView, Primitive, If, IfElse, While, Atomic, Call, BlockView, End, Then}
-use Rattle.sect_front.specs.declared.tree.Procedure.{Procedure}
-use Rattle.sect_front.specs.declared.tree.Thread.{Thread}
-use Rattle.sect_front.specs.TreeView.{TreeView}
+use Rattle.sect_front.specs.{declared.tree.Procedure.{Procedure}, declared.tree.Thread.{Thread}, TreeView.{TreeView}}
+use Rattle.sect_types.specs.{declared.declarations.types.ValueType.{ValueType}, Sight.{names_of_records}}
+use Rattle.sect_types.specs.{Environments.{type_of, types_of}, Sections.{sections_of}}
+use Rattle.sect_types.specs.Programs.{total_statements, all_made, calls_met}
 use Rattle.sect_types.specs.declared.rules.place.Place.TheVariants.{InThread}
 use Rattle.sect_types.specs.Items.{Item, AGlobal, AThread, ALocal, AStatement, PrimitiveHead, TestHead, AtomicHead}
 use Rattle.sect_types.specs.Items.{CallHead, statement_items, block_items, global_items, local_items, procedure_items}
-use Rattle.sect_types.specs.Items.{thread_items}
-use Rattle.sect_types.specs.declared.counting.sums.Sums.{Sums}
+use Rattle.sect_types.specs.{Items.{thread_items}, declared.counting.sums.Sums.{Sums}}
 use Rattle.sect_types.specs.Sums.{sums, sums_at, sums_within, number_of, primitive_sums, statement_sums, block_sums}
+use Rattle.sect_types.specs.Sums.{sums_of}
 use Rattle.sect_types.specs.Rules.{Declared, Counts, seen, after, too_many, passes_by, sums_of_call, as_many}
-use Rattle.sect_types.specs.Rules.{after_item, procedure_of, knows_operands, declared_in}
-use Rattle.sect_types.specs.steps.Clean.{IsClean}
-use Rattle.sect_types.specs.First.{none_yet, IsTyped}
+use Rattle.sect_types.specs.{Rules.{after_item, procedure_of, knows_operands, declared_in}, First.{none_yet, IsTyped}}
 use Rattle.sect_types.specs.declared.expansion.expand.Fresh.{Fresh}
 use Rattle.sect_types.specs.Expanded.{procedure_numbered, fresh_in, local_types_of}
-use Rattle.sect_types.specs.steps.Written.{written_texts}
+use Rattle.sect_types.specs.Limits.{most_all_locals, most_calls, most_globals, most_locals, most_sections, most_sites}
+use Rattle.sect_types.specs.Limits.{most_statements}
+use Rattle.sect_types.specs.steps.{Clean.{IsClean}, Written.{written_texts}}
 use Rattle.sect_types.proofs.Resolved.{not_false}
 use Rattle.sect_types.proofs.Walked.{NoneBroken, first_clean, first_few, next_none, statement_after, block_after}
 use Rattle.sect_types.proofs.Walked.{statement_walked, block_walked, declared_after, locals_walked, thread_after}
 use Rattle.sect_types.proofs.Walked.{threads_after, records_after, records_walked, globals_walked, procedures_walked}
-use Rattle.sect_types.proofs.Walked.{before_procedures, before_threads}
-use Rattle.sect_types.specs.Sums.{sums_of}
-use Rattle.sect_types.proofs.CountLaws.{looked, thread_freshens}
+use Rattle.sect_types.proofs.{Walked.{before_procedures, before_threads}, CountLaws.{looked, thread_freshens}}
 use Rattle.sect_types.proofs.EndCounts.{end_of, before_add, typed_counts, thread_sums, threads_add}
 use Rattle.sect_lemmas.proofs.Booleans.{neither}
-use Rattle.sect_types.specs.Limits.{most_all_locals, most_calls, most_globals, most_locals, most_sections, most_sites}
-use Rattle.sect_types.specs.Limits.{most_statements}
-use Rattle.sect_types.specs.steps.Clean.{IsClean}
+use Rattle.sect_front.specs.declared.tree.Primitive as leaf
+use Rattle.sect_front.specs.declared.tree.Primitive.TheVariants as primitive
 
 -- the counts of the expanded text so far
 pub record IsFew (c : Counts) : Type 0 where

@@ -2,45 +2,32 @@
 use Rattle.std.proofs.Common.{◌≡◌, ℕ, zero, suc, ◌+◌, ◌<◌, ◌≤◌, List, [], ◌∷◌, drop, get_or, Option, Some, None, refl}
 use Rattle.std.proofs.Common.{sym, ◌∙◌, ap, arith, length, slice_get, subst, length-append, ◌*◌}
 use Rattle.std.proofs.lemmas.List.{drop_all}
-use Rattle.sect_front.specs.declared.tree.Declaration.{Declaration}
-use Rattle.sect_front.specs.declared.tree.Operand.{Operand}
-use Rattle.sect_front.specs.declared.tree.Procedure.{Procedure}
-use Rattle.sect_front.specs.declared.tree.Record.{Record}
+use Rattle.sect_front.specs.{declared.tree.Declaration.{Declaration}, declared.tree.Operand.{Operand}}
+use Rattle.sect_front.specs.{declared.tree.Procedure.{Procedure}, declared.tree.Record.{Record}}
 use Rattle.sect_front.specs.declared.tree.GlobalObject.{GlobalObject}
 use Rattle.sect_front.specs.Syntax.{StatementView, Primitive, If, IfElse, While, Atomic, Call, BlockView, End, Then}
-use Rattle.sect_front.specs.TreeView.{TreeView}
-use Rattle.sect_types.specs.declared.expansion.action.Value.{Value}
-use Rattle.sect_types.specs.declared.expansion.action.Value.TheVariants as value
-use Rattle.sect_types.specs.declared.expansion.action.Action.TheVariants as action
-use Rattle.sect_front.specs.declared.tree.Primitive as leaf
-use Rattle.sect_front.specs.declared.tree.Test.{Test}
-use Rattle.sect_front.specs.declared.tree.Locking.{Locking}
-use Rattle.sect_types.specs.declared.expansion.action.Action.{Action}
-use Rattle.sect_types.specs.declared.expansion.action.Condition.{Condition}
-use Rattle.sect_types.specs.Numbered.{action_of, condition_of}
+use Rattle.sect_front.specs.{TreeView.{TreeView}, declared.tree.Test.{Test}, declared.tree.Locking.{Locking}}
+use Rattle.sect_front.specs.{declared.tree.Statement.{Statement}, Trees.{statement_of, block_of, block_size}}
+use Rattle.sect_types.specs.{declared.expansion.action.Value.{Value}, declared.expansion.action.Action.{Action}}
+use Rattle.sect_types.specs.{declared.expansion.action.Condition.{Condition}, Numbered.{action_of, condition_of}}
+use Rattle.sect_types.specs.{declared.expansion.text.Step.{Step}, declared.counting.sums.Sums.{Sums}}
+use Rattle.sect_types.specs.{Sight.{Sight, operand_of}, Rules.{sight}, Items.{variables}}
+use Rattle.sect_types.specs.Sums.{sums_at, sums_within, block_sums, number_of, statement_sums, sums_of}
+use Rattle.sect_types.specs.{Statements.{TextView, Stop, Do, Choose, Loop, Section, joined}, Texts.{step_then}}
+use Rattle.sect_types.specs.Expanded.{Scene, block_sections, past_block, cleared, moved_action, moved_condition}
+use Rattle.sect_types.specs.Expanded.{after_call, procedure_numbered, NextNumbers, statement_sections, past_statement}
+use Rattle.sect_types.specs.Limits.{most_all_locals}
 use Rattle.sect_types.specs.steps.Written.{action_in, condition_in, Writer, written_block, argument_in}
 use Rattle.sect_types.specs.steps.Written.{write_parameters, write_locals, written_call, written_within}
-use Rattle.sect_types.specs.declared.expansion.text.Step.{Step}
-use Rattle.sect_types.specs.declared.expansion.text.Step.TheVariants as step
-use Rattle.sect_types.specs.declared.counting.sums.Sums.{Sums}
-use Rattle.sect_types.specs.Sight.{Sight, operand_of}
-use Rattle.sect_types.specs.Rules.{sight}
-use Rattle.sect_types.specs.Items.{variables}
-use Rattle.sect_types.specs.Sums.{sums_at, sums_within, block_sums, number_of, statement_sums, sums_of}
-use Rattle.sect_types.specs.Statements.{TextView, Stop, Do, Choose, Loop, Section, joined}
-use Rattle.sect_types.specs.Texts.{step_then}
-use Rattle.sect_types.specs.Expanded.{Scene, block_sections, past_block}
-use Rattle.sect_types.specs.Expanded.{cleared, moved_action, moved_condition, after_call}
-use Rattle.sect_types.specs.Expanded.{procedure_numbered, NextNumbers, statement_sections}
-use Rattle.sect_types.specs.Expanded.{past_statement}
 use Rattle.sect_types.specs.steps.Expansion.{Appends, IsPast, table_by, calls_by, view_of, statement_by, block_by}
 use Rattle.sect_types.specs.steps.Expansion.{argument_at, HasRoom, IsExpanding, total_size}
 use Rattle.sect_lemmas.proofs.Elements.{drop_next}
 use Rattle.sect_types.proofs.shared.Joining.{joined_stop, joined_again}
 use Rattle.sect_types.proofs.CountLaws.{looked}
-use Rattle.sect_front.specs.declared.tree.Statement.{Statement}
-use Rattle.sect_front.specs.Trees.{statement_of, block_of, block_size}
-use Rattle.sect_types.specs.Limits.{most_all_locals}
+use Rattle.sect_types.specs.declared.expansion.action.Value.TheVariants as value
+use Rattle.sect_types.specs.declared.expansion.action.Action.TheVariants as action
+use Rattle.sect_front.specs.declared.tree.Primitive as leaf
+use Rattle.sect_types.specs.declared.expansion.text.Step.TheVariants as step
 
 -- one step more
 pub onto : (t : TextView) (s : Step) (k : TextView) → joined (joined t (step_then s Stop)) k ≡ joined t (step_then s k)

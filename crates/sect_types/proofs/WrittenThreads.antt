@@ -1,34 +1,23 @@
 -- The expanded texts of all threads, with their fresh locals.
 use Rattle.std.proofs.Common.{◌≡◌, ℕ, ◌+◌, ◌<◌, ◌≤◌, List, [], ◌∷◌, ◌++◌, map, drop, get_or, refl, sym, ◌∙◌, ap, arith}
-use Rattle.std.proofs.Common.{Some, subst, length, append_assoc}
+use Rattle.std.proofs.{Common.{Some, subst, length, append_assoc}, lemmas.List.{drop_all, append-nil}}
 use Rattle.std.specs.Prelude.{IsSome}
-use Rattle.sect_front.specs.declared.tree.Thread.{Thread}
-use Rattle.sect_front.specs.TreeView.{TreeView}
-use Rattle.sect_types.specs.declared.expansion.expand.Fresh.{Fresh}
-use Rattle.sect_types.specs.Sight.{Sight}
-use Rattle.sect_types.specs.Rules.{sight, declared_in}
-use Rattle.sect_types.specs.Sums.{sums, block_sums}
-use Rattle.sect_types.specs.Statements.{TextView}
-use Rattle.sect_types.specs.First.{IsTyped}
-use Rattle.sect_types.specs.Expanded.{past_thread, fresh_in, NextNumbers, expanded_thread, expanded_threads}
-use Rattle.sect_types.specs.Expanded.{texts_of}
+use Rattle.sect_front.specs.{declared.tree.Thread.{Thread}, TreeView.{TreeView}}
+use Rattle.sect_types.specs.{declared.expansion.expand.Fresh.{Fresh}, Sight.{Sight}, Rules.{sight, declared_in}}
+use Rattle.sect_types.specs.{Sums.{sums, block_sums}, Statements.{TextView}, First.{IsTyped}}
+use Rattle.sect_types.specs.Expanded.{past_thread, fresh_in, NextNumbers, expanded_thread, expanded_threads, texts_of}
+use Rattle.sect_types.specs.{Items.{variables}, declared.rules.place.Place.TheVariants.{InProcedure}}
+use Rattle.sect_types.specs.Limits.{most_calls, most_locals, most_sections, most_sites, most_statements}
 use Rattle.sect_types.specs.steps.Written.{written_threads}
 use Rattle.sect_types.specs.steps.Expanding.{SettingView, FrontView, Fits, block_there, thread_start, thread_end}
 use Rattle.sect_types.specs.steps.Expanding.{numbered_thread, thread_text, AllFit, tree_of, AreWritten, AreFlat}
-use Rattle.sect_types.specs.Items.{variables}
-use Rattle.sect_types.specs.declared.rules.place.Place.TheVariants.{InProcedure}
-use Rattle.sect_types.proofs.SiteLaws.{typed_clean}
 use Rattle.sect_types.specs.steps.Expansion.{view_of}
-use Rattle.sect_lemmas.proofs.Elements.{drop_next}
-use Rattle.sect_types.proofs.Walked.{before_threads}
-use Rattle.sect_types.proofs.SectionLaws.{sections_in, block_flat}
+use Rattle.sect_types.proofs.{SiteLaws.{typed_clean}, Walked.{before_threads}, SectionLaws.{sections_in, block_flat}}
 use Rattle.sect_types.proofs.EndCounts.{thread_sums, before_add, threads_add}
 use Rattle.sect_types.proofs.WithinLimits.{HaveFewLocals, typed_few, block_takes, calls_take}
 use Rattle.sect_types.proofs.Threading.{SamePlace, same_texts, same_numbered}
-use Rattle.sect_types.proofs.Optional.{first_there, second_there, the}
-use Rattle.sect_types.proofs.ByNumbers.{texts_written}
-use Rattle.sect_types.specs.Limits.{most_calls, most_locals, most_sections, most_sites, most_statements}
-use Rattle.std.proofs.lemmas.List.{drop_all, append-nil}
+use Rattle.sect_types.proofs.{Optional.{first_there, second_there, the}, ByNumbers.{texts_written}}
+use Rattle.sect_lemmas.proofs.Elements.{drop_next}
 
 -- the text of a thread
 pub thread_written : (w : SettingView) (sites sections most : ℕ) (h : Thread) (s : Sight) (f : FrontView)

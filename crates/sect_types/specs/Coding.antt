@@ -1,8 +1,7 @@
 -- Texts as trees of numbers, by which a proof tells them apart: the checker wants it of a type that contracts see as
 -- such data.
-use Rattle.std.specs.Prelude.{◌≡◌, refl}
+use Rattle.std.specs.{Prelude.{◌≡◌, refl}, Coded.{Coded}}
 use Rattle.std.proofs.Common.{ap, arith}
-use Rattle.std.specs.Coded.{Coded}
 use base.Stored.{Gv, gnil, gnum, gcons}
 use Rattle.sect_front.specs.Coding.{head, tail, number}
 use Rattle.sect_types.specs.Statements.{TextView, Stop, Do, Choose, Loop, Section}

@@ -1,9 +1,8 @@
 -- The words for how a thread has ended. `Display` of `End` cites them.
 use Rattle.std.specs.Prelude.{ℕ, List, codes}
-use Rattle.sect_types.specs.declared.meaning.store.Fault.{Fault}
-use Rattle.sect_types.specs.declared.meaning.store.Fault.TheVariants as fault
-use Rattle.sect_types.specs.declared.meaning.store.End.{End}
+use Rattle.sect_types.specs.{declared.meaning.store.Fault.{Fault}, declared.meaning.store.End.{End}}
 use Rattle.sect_types.specs.declared.meaning.store.End.TheVariants.{Done, Failed}
+use Rattle.sect_types.specs.declared.meaning.store.Fault.TheVariants as fault
 
 abbrev pub fault_text : Fault → List ℕ
 fault_text fault.Overflow = codes "overflow"

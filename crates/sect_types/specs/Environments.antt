@@ -1,13 +1,11 @@
 -- Declarations by number.
 use Rattle.std.specs.Prelude.{ℕ, ⊤, ◌<◌, List, map, unwrap_or}
-use Rattle.sect_front.specs.declared.tree.Record.{Record}
-use Rattle.sect_front.specs.declared.tree.GlobalObject.{GlobalObject}
-use Rattle.sect_front.specs.declared.tree.Declaration.{Declaration}
-use Rattle.sect_front.specs.declared.tree.Kind.{Kind}
-use Rattle.sect_front.specs.declared.tree.Kind.TheVariants as kind
+use Rattle.sect_front.specs.{declared.tree.Record.{Record}, declared.tree.GlobalObject.{GlobalObject}}
+use Rattle.sect_front.specs.{declared.tree.Declaration.{Declaration}, declared.tree.Kind.{Kind}}
 use Rattle.sect_types.specs.declared.declarations.types.ValueType.{ValueType}
 use Rattle.sect_types.specs.declared.declarations.types.ValueType.TheVariants.{Int, Refers}
 use Rattle.sect_types.specs.Sight.{Sight, place, names_of_records}
+use Rattle.sect_front.specs.declared.tree.Kind.TheVariants as kind
 
 -- what a thread's statements see: the types of the fields of each record, the record of each global, the types of
 -- the thread's locals

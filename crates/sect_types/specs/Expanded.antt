@@ -1,35 +1,24 @@
 -- The expanded text of a thread, by numbers.
 use Rattle.std.specs.Prelude.{ℕ, zero, suc, ◌+◌, List, [], ◌∷◌, ◌++◌, length, map, Option, Some, None, slice_get}
 use Rattle.std.specs.Prelude.{option_map}
-use Rattle.sect_front.specs.declared.tree.Primitive as leaf
-use Rattle.sect_front.specs.declared.tree.Operand.{Operand}
-use Rattle.sect_front.specs.declared.tree.Test.{Test}
-use Rattle.sect_front.specs.declared.tree.Kind.{Kind}
-use Rattle.sect_front.specs.declared.tree.Kind.TheVariants as kind
-use Rattle.sect_front.specs.declared.tree.Declaration.{Declaration}
-use Rattle.sect_front.specs.declared.tree.Record.{Record}
-use Rattle.sect_front.specs.declared.tree.GlobalObject.{GlobalObject}
-use Rattle.sect_types.specs.declared.declarations.types.ValueType.{ValueType}
-use Rattle.sect_types.specs.declared.expansion.action.Base.{Base}
-use Rattle.sect_types.specs.declared.expansion.action.Base.TheVariants as base
-use Rattle.sect_types.specs.declared.expansion.action.Value.{Value}
-use Rattle.sect_types.specs.declared.expansion.action.Value.TheVariants as value
-use Rattle.sect_types.specs.declared.expansion.action.Condition.{Condition}
-use Rattle.sect_types.specs.declared.expansion.action.Action.{Action}
-use Rattle.sect_types.specs.declared.expansion.action.Action.TheVariants as action
-use Rattle.sect_types.specs.Sight.{Sight, names_of_records}
-use Rattle.sect_types.specs.Numbered.{of_both, of_all, value_of, action_of, condition_of}
-use Rattle.sect_types.specs.Environments.{type_of, types_of}
-use Rattle.sect_types.specs.Rules.{sight}
-use Rattle.sect_types.specs.Statements.{TextView, Stop, Do, Choose, Loop, Section, joined}
-use Rattle.sect_front.specs.declared.tree.Procedure.{Procedure}
-use Rattle.sect_front.specs.declared.tree.Thread.{Thread}
-use Rattle.sect_front.specs.TreeView.{TreeView}
+use Rattle.sect_front.specs.{declared.tree.Operand.{Operand}, declared.tree.Test.{Test}, declared.tree.Kind.{Kind}}
+use Rattle.sect_front.specs.{declared.tree.Declaration.{Declaration}, declared.tree.Record.{Record}}
+use Rattle.sect_front.specs.{declared.tree.GlobalObject.{GlobalObject}, declared.tree.Procedure.{Procedure}}
+use Rattle.sect_front.specs.{declared.tree.Thread.{Thread}, TreeView.{TreeView}}
 use Rattle.sect_front.specs.Syntax.{StatementView, Primitive, If, IfElse, While, Atomic, Call, BlockView, End, Then}
-use Rattle.sect_types.specs.Items.{variables}
-use Rattle.sect_types.specs.declared.counting.sums.Sums.{Sums}
-use Rattle.sect_types.specs.declared.expansion.expand.Fresh.{Fresh}
+use Rattle.sect_types.specs.{declared.declarations.types.ValueType.{ValueType}, declared.expansion.action.Base.{Base}}
+use Rattle.sect_types.specs.{declared.expansion.action.Value.{Value}, declared.expansion.action.Condition.{Condition}}
+use Rattle.sect_types.specs.{declared.expansion.action.Action.{Action}, Sight.{Sight, names_of_records}}
+use Rattle.sect_types.specs.Numbered.{of_both, of_all, value_of, action_of, condition_of}
+use Rattle.sect_types.specs.{Environments.{type_of, types_of}, Rules.{sight}}
+use Rattle.sect_types.specs.{Statements.{TextView, Stop, Do, Choose, Loop, Section, joined}, Items.{variables}}
+use Rattle.sect_types.specs.{declared.counting.sums.Sums.{Sums}, declared.expansion.expand.Fresh.{Fresh}}
 use Rattle.sect_types.specs.Sums.{sums, sums_within, statement_sums, block_sums, number_of}
+use Rattle.sect_front.specs.declared.tree.Primitive as leaf
+use Rattle.sect_front.specs.declared.tree.Kind.TheVariants as kind
+use Rattle.sect_types.specs.declared.expansion.action.Base.TheVariants as base
+use Rattle.sect_types.specs.declared.expansion.action.Value.TheVariants as value
+use Rattle.sect_types.specs.declared.expansion.action.Action.TheVariants as action
 
 -- the variables from number n on
 abbrev pub moved_value : ℕ → Value → Value

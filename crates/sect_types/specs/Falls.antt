@@ -2,11 +2,9 @@
 use Rattle.std.specs.Prelude.{◌≤◌, List, [], ◌∷◌}
 use Rattle.std.proofs.Common.{arith}
 use denote.Param.Weighed.{most}
-use Rattle.sect_types.specs.Statements.{weight}
-use Rattle.sect_types.specs.Texts.{statements_of}
-use Rattle.sect_types.specs.declared.expansion.text.Step.{Step}
-use Rattle.sect_types.specs.declared.expansion.text.Step.TheVariants as step
+use Rattle.sect_types.specs.{Statements.{weight}, Texts.{statements_of}, declared.expansion.text.Step.{Step}}
 use Rattle.sect_types.specs.declared.expansion.text.Text.TheDeep.{deep-Step}
+use Rattle.sect_types.specs.declared.expansion.text.Step.TheVariants as step
 
 pub falls : (ss : List Step) → most deep-Step ss ≤ weight (statements_of ss)
 falls [] = omega arith

@@ -1,10 +1,9 @@
 -- The refusals.
-use Rattle.sect_types.specs.declared.rules.rule.Rule.TheVariants as rule
-use Rattle.sect_types.specs.declared.rules.rule.WalkFault.{WalkFault}
-use Rattle.sect_types.specs.declared.rules.rule.WalkFault.TheVariants as fault
-use Rattle.sect_types.specs.declared.rules.rule.TypeFault.{TypeFault}
+use Rattle.sect_types.specs.{declared.rules.rule.WalkFault.{WalkFault}, declared.rules.rule.TypeFault.{TypeFault}}
 use Rattle.sect_types.specs.declared.rules.rule.TypeFault.TheVariants.{Memory, Unknown, Twice, WrongType, SharedOutside}
 use Rattle.sect_types.specs.declared.rules.rule.TypeFault.TheVariants.{Nested, TooMany, Recursion, Arguments}
+use Rattle.sect_types.specs.declared.rules.rule.Rule.TheVariants as rule
+use Rattle.sect_types.specs.declared.rules.rule.WalkFault.TheVariants as fault
 
 -- the refusal that a walk's fault becomes
 abbrev pub type_fault : WalkFault → TypeFault

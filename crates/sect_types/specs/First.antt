@@ -3,12 +3,10 @@ use Rattle.std.specs.Prelude.{ℕ, zero, suc, ◌≤◌, List, [], ◌∷◌, Re
 use Rattle.sect_front.specs.TreeView.{TreeView}
 use Rattle.sect_types.specs.declared.rules.rule.Rule.{Rule}
 use Rattle.sect_types.specs.declared.rules.rule.Rule.TheVariants.{Unknown, Twice, WrongType, SharedOutside, Nested}
-use Rattle.sect_types.specs.declared.rules.rule.Rule.TheVariants.{TooMany}
-use Rattle.sect_types.specs.declared.rules.rule.Rule.TheVariants.{Recursion, Arguments}
-use Rattle.sect_types.specs.declared.rules.rule.TypeFault.{TypeFault}
-use Rattle.sect_types.specs.declared.rules.rule.TypeFault.TheVariants as fault
-use Rattle.sect_types.specs.Items.{Item, items}
+use Rattle.sect_types.specs.declared.rules.rule.Rule.TheVariants.{TooMany, Recursion, Arguments}
+use Rattle.sect_types.specs.{declared.rules.rule.TypeFault.{TypeFault}, Items.{Item, items}}
 use Rattle.sect_types.specs.Rules.{Declared, declared_in, Counts, BreaksRule, after}
+use Rattle.sect_types.specs.declared.rules.rule.TypeFault.TheVariants as fault
 
 -- the rule r is broken at item i of the list, before which the counts are c
 abbrev pub BreaksFrom : Declared → Counts → List Item → ℕ → Rule → Type 0

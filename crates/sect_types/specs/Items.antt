@@ -1,18 +1,13 @@
 -- The items of a text, in order, each with what it has to agree with.
 use Rattle.std.specs.Prelude.{ℕ, ◌+◌, Bool, true, false, List, [], ◌∷◌, ◌++◌}
-use Rattle.sect_front.specs.declared.tree.Primitive as leaf
-use Rattle.sect_front.specs.declared.tree.Test.{Test}
-use Rattle.sect_front.specs.declared.tree.Operand.{Operand}
-use Rattle.sect_front.specs.declared.tree.Kind.{Kind}
-use Rattle.sect_front.specs.declared.tree.Record.{Record}
-use Rattle.sect_front.specs.declared.tree.GlobalObject.{GlobalObject}
-use Rattle.sect_front.specs.declared.tree.Declaration.{Declaration}
-use Rattle.sect_front.specs.declared.tree.Procedure.{Procedure}
-use Rattle.sect_front.specs.declared.tree.Thread.{Thread}
-use Rattle.sect_front.specs.TreeView.{TreeView}
+use Rattle.sect_front.specs.{declared.tree.Test.{Test}, declared.tree.Operand.{Operand}, declared.tree.Kind.{Kind}}
+use Rattle.sect_front.specs.{declared.tree.Record.{Record}, declared.tree.GlobalObject.{GlobalObject}}
+use Rattle.sect_front.specs.{declared.tree.Declaration.{Declaration}, declared.tree.Procedure.{Procedure}}
+use Rattle.sect_front.specs.{declared.tree.Thread.{Thread}, TreeView.{TreeView}}
 use Rattle.sect_front.specs.Syntax.{StatementView, Primitive, If, IfElse, While, Atomic, Call, BlockView, End, Then}
 use Rattle.sect_types.specs.declared.rules.place.Place.{Place}
 use Rattle.sect_types.specs.declared.rules.place.Place.TheVariants.{InThread, InProcedure}
+use Rattle.sect_front.specs.declared.tree.Primitive as leaf
 
 -- a statement without its blocks
 pub data Head : Type 0 where

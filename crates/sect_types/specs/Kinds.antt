@@ -1,12 +1,10 @@
 -- Types as they are written: what can be set to what, and compared with what.
 use Rattle.std.specs.Prelude.{Bool, true, false, ◌&&◌, if◌then◌else◌}
-use Rattle.sect_front.specs.declared.tree.Kind.{Kind}
+use Rattle.sect_front.specs.{declared.tree.Kind.{Kind}, declared.tree.Comparison.{Comparison}}
+use Rattle.sect_types.specs.{declared.rules.resolve.Given.{Given}, Sight.{same_name, kind_of}}
 use Rattle.sect_front.specs.declared.tree.Kind.TheVariants as kind
-use Rattle.sect_front.specs.declared.tree.Comparison.{Comparison}
 use Rattle.sect_front.specs.declared.tree.Comparison.TheVariants as comparison
-use Rattle.sect_types.specs.declared.rules.resolve.Given.{Given}
 use Rattle.sect_types.specs.declared.rules.resolve.Given.TheVariants as given
-use Rattle.sect_types.specs.Sight.{same_name, kind_of}
 
 abbrev pub same_kind : Kind → Kind → Bool
 same_kind kind.Int kind.Int = true

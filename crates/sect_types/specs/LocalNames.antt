@@ -1,14 +1,10 @@
 -- What locals are called.
 use Rattle.std.specs.Prelude.{ℕ, Bool, true, false, ◌&&◌, List, [], ◌++◌, map, Option, Some, None, nat_eq, codes}
-use Rattle.std.specs.Prelude.{position}
-use Rattle.std.specs.Fmt.{decimal}
-use Rattle.std.specs.Cmp.Lexicographic.{pointwise}
-use Rattle.sect_front.specs.TreeView.{TreeView}
-use Rattle.sect_front.specs.declared.tree.Thread.{Thread}
+use Rattle.std.specs.{Prelude.{position}, Fmt.{decimal}, Cmp.Lexicographic.{pointwise}}
+use Rattle.sect_front.specs.{TreeView.{TreeView}, declared.tree.Thread.{Thread}}
 use Rattle.sect_front.specs.declared.tree.Declaration.{Declaration}
 use Rattle.sect_types.specs.declared.declarations.local_name.LocalName.{LocalName}
-use Rattle.sect_types.specs.declared.expansion.expand.Fresh.{Fresh}
-use Rattle.sect_types.specs.Expanded.{fresh_in}
+use Rattle.sect_types.specs.{declared.expansion.expand.Fresh.{Fresh}, Expanded.{fresh_in}}
 
 abbrev pub call_text : Option ℕ → List ℕ
 call_text None = []

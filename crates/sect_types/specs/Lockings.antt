@@ -1,9 +1,7 @@
 -- Which locks the sections of a text take. `Program::locking` says so of each.
 use Rattle.std.specs.Prelude.{List, [], ◌∷◌}
 use Rattle.sect_front.specs.Syntax.{StatementView, Primitive, If, IfElse, While, Atomic, Call, BlockView, End, Then}
-use Rattle.sect_front.specs.TreeView.{TreeView}
-use Rattle.sect_front.specs.declared.tree.Locking.{Locking}
-use Rattle.sect_front.specs.declared.tree.Thread.{Thread}
+use Rattle.sect_front.specs.{TreeView.{TreeView}, declared.tree.Locking.{Locking}, declared.tree.Thread.{Thread}}
 
 abbrev mutual
   -- what the sections of a statement take, in text order, before those of what follows; no section stands in a section

@@ -1,25 +1,20 @@
 -- A statement by numbers. The names alone decide it, and there is none where one of them isn't known. Whether its sides
 -- agree in type is for the rules.
 use Rattle.std.specs.Prelude.{ℕ, List, Option, Some, None, option_map}
-use Rattle.sect_front.specs.declared.tree.Operand.{Operand}
+use Rattle.sect_front.specs.{declared.tree.Operand.{Operand}, declared.tree.Test.{Test}}
+use Rattle.sect_types.specs.{declared.rules.resolve.Denoted.{Denoted}, declared.rules.resolve.Given.{Given}}
+use Rattle.sect_types.specs.{declared.rules.resolve.Looked.{Looked}, declared.expansion.action.Base.{Base}}
+use Rattle.sect_types.specs.{declared.expansion.action.Value.{Value}, declared.expansion.action.Field.{Field}}
+use Rattle.sect_types.specs.{declared.expansion.action.Condition.{Condition}, declared.expansion.action.Action.{Action}}
+use Rattle.sect_types.specs.Sight.{Sight, place, names_of_records, base_of, operand_of, looked_of}
 use Rattle.sect_front.specs.declared.tree.Primitive as leaf
 use Rattle.sect_front.specs.declared.tree.Primitive.TheVariants as primitive
-use Rattle.sect_front.specs.declared.tree.Test.{Test}
-use Rattle.sect_types.specs.declared.rules.resolve.Denoted.{Denoted}
 use Rattle.sect_types.specs.declared.rules.resolve.Denoted.TheVariants as denoted
-use Rattle.sect_types.specs.declared.rules.resolve.Given.{Given}
 use Rattle.sect_types.specs.declared.rules.resolve.Given.TheVariants as given
-use Rattle.sect_types.specs.declared.rules.resolve.Looked.{Looked}
 use Rattle.sect_types.specs.declared.rules.resolve.Looked.TheVariants as looked
-use Rattle.sect_types.specs.declared.expansion.action.Base.{Base}
 use Rattle.sect_types.specs.declared.expansion.action.Base.TheVariants as base
-use Rattle.sect_types.specs.declared.expansion.action.Value.{Value}
 use Rattle.sect_types.specs.declared.expansion.action.Value.TheVariants as value
-use Rattle.sect_types.specs.declared.expansion.action.Field.{Field}
-use Rattle.sect_types.specs.declared.expansion.action.Condition.{Condition}
-use Rattle.sect_types.specs.declared.expansion.action.Action.{Action}
 use Rattle.sect_types.specs.declared.expansion.action.Action.TheVariants as action
-use Rattle.sect_types.specs.Sight.{Sight, place, names_of_records, base_of, operand_of, looked_of}
 
 -- what is made of two things, where both are there, and of three
 abbrev pub of_both : {A B C : Type 0} → (A → B → C) → Option A → Option B → Option C

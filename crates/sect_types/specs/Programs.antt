@@ -1,23 +1,14 @@
 -- Programs.
 use Rattle.std.specs.Prelude.{◌≡◌, ◌≤◌, ◌<◌, ℕ, ◌+◌, List, [], ◌∷◌, ◌++◌, length, All, Some, slice_index_or}
-use Rattle.sect_front.specs.TreeView.{TreeView}
-use Rattle.sect_types.specs.Limits.{most_records, most_fields, most_globals, most_threads}
-use Rattle.sect_front.specs.Limits.{most_depth}
-use Rattle.sect_front.specs.declared.tree.Procedure.{Procedure}
-use Rattle.sect_front.specs.declared.tree.Thread.{Thread}
-use Rattle.sect_types.specs.Sums.{sums, block_sums}
-use Rattle.sect_types.specs.Limits.{most_calls}
-use Rattle.sect_types.specs.Limits.{most_all_locals, most_statements, most_sites, most_sections}
-use Rattle.sect_types.specs.declared.declarations.types.ValueType.{ValueType}
-use Rattle.sect_types.specs.Sight.{names_of_records}
-use Rattle.sect_types.specs.Statements.{TextView, statement_count, text_depth, made_in}
-use Rattle.sect_front.specs.declared.tree.Locking.{Locking}
-use Rattle.sect_types.specs.Lockings.{lockings_of}
+use Rattle.sect_front.specs.{TreeView.{TreeView}, Limits.{most_depth}, declared.tree.Procedure.{Procedure}}
+use Rattle.sect_front.specs.{declared.tree.Thread.{Thread}, declared.tree.Locking.{Locking}}
+use Rattle.sect_types.specs.Limits.{most_records, most_fields, most_globals, most_threads, most_calls, most_all_locals}
+use Rattle.sect_types.specs.{Limits.{most_statements, most_sites, most_sections}, Sums.{sums, block_sums}}
+use Rattle.sect_types.specs.{declared.declarations.types.ValueType.{ValueType}, Sight.{names_of_records}}
+use Rattle.sect_types.specs.{Statements.{TextView, statement_count, text_depth, made_in}, Lockings.{lockings_of}}
 use Rattle.sect_types.specs.Expanded.{texts_of, all_local_types}
-use Rattle.sect_types.specs.Environments.{Environment, field_types, global_records, IsInRange}
-use Rattle.sect_types.specs.Sound.{AreSound}
-use Rattle.sect_types.specs.Sections.{sections_of, AllNumbered, AllSited}
-use Rattle.sect_types.specs.First.{IsTyped}
+use Rattle.sect_types.specs.{Environments.{Environment, field_types, global_records, IsInRange}, Sound.{AreSound}}
+use Rattle.sect_types.specs.{Sections.{sections_of, AllNumbered, AllSited}, First.{IsTyped}}
 
 -- a program: its tree; the types of the fields of each record; the record of each global; the types of the locals of
 -- each thread, the fresh ones after its own; the expanded text of each thread; which locks each section takes

@@ -1,41 +1,29 @@
 -- The rules.
 use Rattle.std.specs.Prelude.{◌≡◌, ℕ, ◌+◌, Bool, true, false, not, ◌&&◌, ◌||◌, List, [], ◌∷◌, length, Option, Some}
 use Rattle.std.specs.Prelude.{None, is_some, nat_le, nat_lt, nat_eq, slice_get}
-use Rattle.sect_front.specs.declared.tree.Primitive as leaf
-use Rattle.sect_front.specs.declared.tree.Primitive.TheVariants as primitive
-use Rattle.sect_front.specs.declared.tree.Test.{Test}
-use Rattle.sect_front.specs.declared.tree.Operand.{Operand}
-use Rattle.sect_front.specs.declared.tree.Kind.{Kind}
-use Rattle.sect_front.specs.declared.tree.Kind.TheVariants as kind
-use Rattle.sect_front.specs.declared.tree.Comparison.{Comparison}
-use Rattle.sect_front.specs.declared.tree.Record.{Record}
-use Rattle.sect_front.specs.declared.tree.GlobalObject.{GlobalObject}
-use Rattle.sect_front.specs.declared.tree.Declaration.{Declaration}
-use Rattle.sect_front.specs.declared.tree.Procedure.{Procedure}
-use Rattle.sect_front.specs.TreeView.{TreeView}
-use Rattle.sect_front.specs.Limits.{most_depth}
-use Rattle.sect_types.specs.Limits.{most_records, most_fields, most_globals, most_threads}
-use Rattle.sect_types.specs.Limits.{most_locals, most_statements, most_sites, most_sections}
-use Rattle.sect_types.specs.Limits.{most_procedures, most_calls}
+use Rattle.sect_front.specs.{declared.tree.Test.{Test}, declared.tree.Operand.{Operand}, declared.tree.Kind.{Kind}}
+use Rattle.sect_front.specs.{declared.tree.Comparison.{Comparison}, declared.tree.Record.{Record}}
+use Rattle.sect_front.specs.{declared.tree.GlobalObject.{GlobalObject}, declared.tree.Declaration.{Declaration}}
+use Rattle.sect_front.specs.{declared.tree.Procedure.{Procedure}, TreeView.{TreeView}, Limits.{most_depth}}
+use Rattle.sect_types.specs.Limits.{most_records, most_fields, most_globals, most_threads, most_locals, most_statements}
+use Rattle.sect_types.specs.Limits.{most_sites, most_sections, most_procedures, most_calls}
 use Rattle.sect_types.specs.declared.rules.rule.Rule.{Rule}
 use Rattle.sect_types.specs.declared.rules.rule.Rule.TheVariants.{Unknown, Twice, WrongType, SharedOutside, Nested}
-use Rattle.sect_types.specs.declared.rules.rule.Rule.TheVariants.{TooMany}
-use Rattle.sect_types.specs.declared.rules.rule.Rule.TheVariants.{Recursion, Arguments}
+use Rattle.sect_types.specs.declared.rules.rule.Rule.TheVariants.{TooMany, Recursion, Arguments}
 use Rattle.sect_types.specs.declared.rules.place.Place.{Place}
 use Rattle.sect_types.specs.declared.rules.place.Place.TheVariants.{InThread, InProcedure}
-use Rattle.sect_types.specs.declared.rules.resolve.Denoted.{Denoted}
-use Rattle.sect_types.specs.declared.rules.resolve.Denoted.TheVariants as denoted
-use Rattle.sect_types.specs.declared.rules.resolve.Given.{Given}
+use Rattle.sect_types.specs.{declared.rules.resolve.Denoted.{Denoted}, declared.rules.resolve.Given.{Given}}
 use Rattle.sect_types.specs.declared.rules.resolve.Looked.{Looked}
-use Rattle.sect_types.specs.declared.rules.resolve.Looked.TheVariants as looked
-use Rattle.sect_types.specs.Sight.{Sight, has_name, names_of_records, names_of_globals, base_of, operand_of}
-use Rattle.sect_types.specs.Kinds.{same_kind, accepts, comparable}
-use Rattle.sect_types.specs.Sight.{looked_of}
-use Rattle.sect_types.specs.declared.counting.sums.Sums.{Sums}
+use Rattle.sect_types.specs.Sight.{Sight, has_name, names_of_records, names_of_globals, base_of, operand_of, looked_of}
+use Rattle.sect_types.specs.{Kinds.{same_kind, accepts, comparable}, declared.counting.sums.Sums.{Sums}}
 use Rattle.sect_types.specs.Sums.{sums, sums_at, number_of, Returns}
 use Rattle.sect_types.specs.Items.{Head, PrimitiveHead, TestHead, AtomicHead, CallHead, is_inside, Item, ARecord}
-use Rattle.sect_types.specs.Items.{AField}
-use Rattle.sect_types.specs.Items.{AGlobal, AProcedure, AThread, ALocal, AStatement}
+use Rattle.sect_types.specs.Items.{AField, AGlobal, AProcedure, AThread, ALocal, AStatement}
+use Rattle.sect_front.specs.declared.tree.Primitive as leaf
+use Rattle.sect_front.specs.declared.tree.Primitive.TheVariants as primitive
+use Rattle.sect_front.specs.declared.tree.Kind.TheVariants as kind
+use Rattle.sect_types.specs.declared.rules.resolve.Denoted.TheVariants as denoted
+use Rattle.sect_types.specs.declared.rules.resolve.Looked.TheVariants as looked
 
 -- what all items see: the declarations, and what a call of each procedure comes to
 pub record Declared : Type 0 where

@@ -1,10 +1,9 @@
 -- The numbers of sections and sites.
 use Rattle.std.specs.Prelude.{◌≡◌, ℕ, ◌+◌, ⊤, List, [], ◌∷◌, ◌++◌, map, length, Option, Some, None}
 use Rattle.sect_types.specs.Statements.{TextView, Stop, Do, Choose, Loop, Section, section_bodies, section_body}
-use Rattle.sect_types.specs.Statements.{made_by, made_in}
-use Rattle.sect_types.specs.declared.expansion.action.Action.{Action}
-use Rattle.sect_types.specs.declared.expansion.action.Action.TheVariants as action
+use Rattle.sect_types.specs.{Statements.{made_by, made_in}, declared.expansion.action.Action.{Action}}
 use Rattle.sect_types.specs.declared.counting.section.Section.{Section as SectionOfCode}
+use Rattle.sect_types.specs.declared.expansion.action.Action.TheVariants as action
 
 -- a section: the number of its thread, and its body
 pub record SectionView : Type 0 where

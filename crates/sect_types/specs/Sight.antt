@@ -1,22 +1,16 @@
 -- What a statement sees, and what its names denote.
 use Rattle.std.specs.Prelude.{◌≡◌, ℕ, Bool, List, [], ◌∷◌, ◌++◌, map, Option, Some, None, nat_eq, position, slice_get}
-use Rattle.std.specs.Prelude.{if◌then◌else◌}
-use Rattle.std.specs.List.{list_any}
-use Rattle.std.specs.Cmp.Lexicographic.{pointwise}
-use Rattle.sect_front.specs.declared.tree.Record.{Record}
-use Rattle.sect_front.specs.declared.tree.GlobalObject.{GlobalObject}
-use Rattle.sect_front.specs.declared.tree.Declaration.{Declaration}
-use Rattle.sect_front.specs.declared.tree.Kind.{Kind}
-use Rattle.sect_front.specs.declared.tree.Kind.TheVariants as kind
+use Rattle.std.specs.{Prelude.{if◌then◌else◌}, List.{list_any}, Cmp.Lexicographic.{pointwise}}
+use Rattle.sect_front.specs.{declared.tree.Record.{Record}, declared.tree.GlobalObject.{GlobalObject}}
+use Rattle.sect_front.specs.{declared.tree.Declaration.{Declaration}, declared.tree.Kind.{Kind}}
 use Rattle.sect_front.specs.declared.tree.Operand.{Operand}
+use Rattle.sect_types.specs.{declared.rules.resolve.Denoted.{Denoted}, declared.rules.resolve.Given.{Given}}
+use Rattle.sect_types.specs.{declared.rules.resolve.Looked.{Looked}, declared.rules.resolve.FieldAt.{FieldAt}}
+use Rattle.sect_front.specs.declared.tree.Kind.TheVariants as kind
 use Rattle.sect_front.specs.declared.tree.Operand.TheVariants as operand
-use Rattle.sect_types.specs.declared.rules.resolve.Denoted.{Denoted}
 use Rattle.sect_types.specs.declared.rules.resolve.Denoted.TheVariants as denoted
-use Rattle.sect_types.specs.declared.rules.resolve.Given.{Given}
 use Rattle.sect_types.specs.declared.rules.resolve.Given.TheVariants as given
-use Rattle.sect_types.specs.declared.rules.resolve.Looked.{Looked}
 use Rattle.sect_types.specs.declared.rules.resolve.Looked.TheVariants as looked
-use Rattle.sect_types.specs.declared.rules.resolve.FieldAt.{FieldAt}
 
 -- the declarations of the text, and the locals of the thread
 pub record Sight : Type 0 where

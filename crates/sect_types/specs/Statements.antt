@@ -1,9 +1,8 @@
 -- The statements of a thread as plain data: each carries what follows it.
 use Rattle.std.specs.Prelude.{ℕ, ◌+◌, Option, Some, None, List, [], ◌∷◌, ◌++◌, nat_eq, max, if◌then◌else◌}
 use Rattle.std.specs.Option.{option_or}
-use Rattle.sect_types.specs.declared.expansion.action.Action.{Action}
+use Rattle.sect_types.specs.{declared.expansion.action.Action.{Action}, declared.expansion.action.Condition.{Condition}}
 use Rattle.sect_types.specs.declared.expansion.action.Action.TheVariants as action
-use Rattle.sect_types.specs.declared.expansion.action.Condition.{Condition}
 
 pub data TextView : Type 0 where
   -- the end

@@ -5,8 +5,7 @@ use Rattle.sect_types.specs.declared.meaning.store.ObjectName.{ObjectName}
 use Rattle.sect_types.specs.declared.meaning.store.ObjectName.TheVariants.{Global, Made}
 use Rattle.sect_types.specs.declared.meaning.store.Datum.{Datum}
 use Rattle.sect_types.specs.declared.meaning.store.Datum.TheVariants.{Number, Null, Refers}
-use Rattle.sect_lemmas.specs.Lists.{changed_at, put_at}
-use Rattle.sect_lemmas.specs.Numbers.{same_number}
+use Rattle.sect_lemmas.specs.{Lists.{changed_at, put_at}, Numbers.{same_number}}
 
 -- the site at which it was made, and its fields; the object of a global has the global's number as site
 pub record ObjectView : Type 0 where

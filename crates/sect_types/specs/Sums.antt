@@ -1,13 +1,11 @@
 -- What the expansion of a call comes to, found without expanding.
-use Rattle.std.specs.Prelude.{◌≡◌, ℕ, zero, suc, ◌+◌, List, [], ◌∷◌, map, length, max, Option}
-use Rattle.std.specs.Prelude.{Some, None, slice_get}
-use Rattle.sect_front.specs.declared.tree.Primitive as leaf
-use Rattle.sect_front.specs.declared.tree.Primitive.TheVariants as primitive
+use Rattle.std.specs.Prelude.{◌≡◌, ℕ, zero, suc, ◌+◌, List, [], ◌∷◌, map, length, max, Option, Some, None, slice_get}
 use Rattle.sect_lemmas.specs.Lists.{Has}
-use Rattle.sect_types.specs.Sight.{place}
-use Rattle.sect_types.specs.declared.counting.sums.Sums.{Sums}
+use Rattle.sect_types.specs.{Sight.{place}, declared.counting.sums.Sums.{Sums}}
 use Rattle.sect_front.specs.declared.tree.Procedure.{Procedure}
 use Rattle.sect_front.specs.Syntax.{StatementView, Primitive, If, IfElse, While, Atomic, Call, BlockView, End, Then}
+use Rattle.sect_front.specs.declared.tree.Primitive as leaf
+use Rattle.sect_front.specs.declared.tree.Primitive.TheVariants as primitive
 
 abbrev pub nothing : Sums
 nothing = record { statements = 0; sites = 0; calls = 0; fresh = 0; deep = 0 }

@@ -1,8 +1,7 @@
 -- The traces of statements: what the control paths through them do, visit by visit. Conditions aren't looked at.
 use Rattle.std.specs.Prelude.{◌≡◌, ℕ, zero, suc, ◌+◌, List, [], ◌∷◌, ◌++◌, ◌⊎◌}
 use Rattle.sect_types.specs.Statements.{TextView, Stop, Do, Choose, Loop, Section}
-use Rattle.sect_types.specs.declared.expansion.action.Condition.{Condition}
-use Rattle.sect_types.specs.declared.expansion.action.Label.{Label}
+use Rattle.sect_types.specs.{declared.expansion.action.Condition.{Condition}, declared.expansion.action.Label.{Label}}
 use Rattle.sect_types.specs.declared.expansion.action.Label.TheVariants.{Act, Test, Section as WholeSection}
 
 -- how many nodes statements have: one for each statement without a block, each test and each section

@@ -1,14 +1,11 @@
 -- Calls that are expanded to their end. `expand_within` and its like go no deeper than there are procedures; in a typed
 -- text nothing stands deeper, so that a call is what its procedure says, and so is each call in that.
 use Rattle.std.specs.Prelude.{◌≡◌, ℕ, List, Some, length, slice_get}
-use Rattle.sect_front.specs.declared.tree.Operand.{Operand}
-use Rattle.sect_front.specs.TreeView.{TreeView}
-use Rattle.sect_front.specs.declared.tree.Thread.{Thread}
+use Rattle.sect_front.specs.{declared.tree.Operand.{Operand}, TreeView.{TreeView}, declared.tree.Thread.{Thread}}
 use Rattle.sect_types.specs.Statements.{TextView, statement_count, text_depth}
 use Rattle.sect_types.specs.Sums.{sums, sums_at, sums_of, block_sums}
 use Rattle.sect_types.specs.Expanded.{Scene, NextNumbers, Expander, Freshens, call_of, expand_within, fresh_of}
-use Rattle.sect_types.specs.Expanded.{fresh_within}
-use Rattle.sect_types.specs.Expanded.{expanded_thread}
+use Rattle.sect_types.specs.Expanded.{fresh_within, expanded_thread}
 
 -- what stands for a call in the text of a thread
 abbrev pub expander : TreeView → Expander

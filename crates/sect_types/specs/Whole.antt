@@ -3,16 +3,13 @@ use Rattle.std.specs.Prelude.{◌≡◌, ℕ, zero, suc, ◌+◌, Bool, true, fa
 use Rattle.std.specs.Prelude.{Option, Some, None, slice_get, slice_index_or, ℤ, if◌then◌else◌}
 use Rattle.sect_types.specs.declared.declarations.types.ValueType.{ValueType}
 use Rattle.sect_types.specs.declared.expansion.action.Condition.{Condition}
-use Rattle.sect_types.specs.Statements.{TextView, Stop, Do, Choose, Loop, Section}
-use Rattle.sect_types.specs.Programs.{ProgramView}
-use Rattle.sect_types.specs.declared.meaning.store.Fault.{Fault}
-use Rattle.sect_types.specs.declared.meaning.store.Fault.TheVariants as fault
-use Rattle.sect_types.specs.declared.meaning.store.End.{End}
-use Rattle.sect_types.specs.declared.meaning.store.End.TheVariants.{Done, Failed}
-use Rattle.sect_types.specs.Store.{ObjectView, StoreView}
-use Rattle.sect_lemmas.specs.Lists.{put_at}
+use Rattle.sect_types.specs.{Statements.{TextView, Stop, Do, Choose, Loop, Section}, Programs.{ProgramView}}
+use Rattle.sect_types.specs.{declared.meaning.store.Fault.{Fault}, declared.meaning.store.End.{End}}
+use Rattle.sect_types.specs.{declared.meaning.store.End.TheVariants.{Done, Failed}, Store.{ObjectView, StoreView}}
 use Rattle.sect_types.specs.Meaning.{WorkView, Came, Went, Fell, after_change, one, looked, found_at, is_true}
 use Rattle.sect_types.specs.Meaning.{first_datum, fresh, Next, On, Off, next}
+use Rattle.sect_lemmas.specs.Lists.{put_at}
+use Rattle.sect_types.specs.declared.meaning.store.Fault.TheVariants as fault
 
 -- what statements leave: they are through, or broken off by a fault
 pub data Left : Type 0 where

@@ -1,8 +1,7 @@
 //! What the definitions of typed programs say together.
 
 ghost use Rattle.sect_front.specs.TreeView.{TreeView};
-ghost use Rattle.sect_types.specs.First.{IsTyped};
-ghost use Rattle.sect_types.specs.Unfolding.{SumsUnfold, SumsCount, TextsUnfold, FreshUnfold};
+ghost use Rattle.sect_types.specs.{First.{IsTyped}, Unfolding.{SumsUnfold, SumsCount, TextsUnfold, FreshUnfold}};
 
 /// In a typed text each call is expanded to its end: what it comes to, its text and its fresh locals are those of its
 /// procedure, the calls in it likewise.

@@ -1,42 +1,28 @@
 -- The chain of a class lock that a section of a compiled program takes.
-use Rattle.std.proofs.Common.{◌≡◌, ◌<◌, ℕ, zero, suc, ◌-◌, List, [], ◌∷◌, Some, true, length, refl, sym, ap, ◌∙◌}
-use Rattle.std.proofs.Common.{subst, arith}
-use Rattle.std.specs.Prelude.{slice_get, slice_index_or}
-use Rattle.std.specs.List.{position, AllZip}
-use Rattle.std.proofs.lemmas.Option.{slice_get-get_or, slice_get_within, get_or_from_slice_get}
-use Rattle.sect_front.specs.declared.tree.Locking.TheVariants as locking
+use Rattle.std.proofs.Common.{◌≡◌, ◌<◌, ℕ, zero, suc, ◌-◌, List, [], ◌∷◌, Some, true, length, refl, sym, ap, ◌∙◌, subst}
+use Rattle.std.proofs.{Common.{arith}, lemmas.Option.{slice_get-get_or, slice_get_within, get_or_from_slice_get}}
+use Rattle.std.specs.{Prelude.{slice_get, slice_index_or}, List.{position, AllZip}}
 use Rattle.sect_lemmas.specs.Lists.{Has}
 use Rattle.sect_lemmas.proofs.Membership.{Has-slice_get}
 use Rattle.sect_types.specs.Sections.{sections_of}
-use Rattle.sect_graph.specs.declared.flow.Node.{Node}
-use Rattle.sect_graph.specs.Layout.{flow_nodes}
+use Rattle.sect_graph.specs.{declared.flow.Node.{Node}, Layout.{flow_nodes}}
 use Rattle.sect_points.specs.Paths.{PathView}
-use Rattle.sect_names.specs.declared.link.Link.{Link}
-use Rattle.sect_names.specs.declared.lock.Effect.{Effect}
-use Rattle.sect_names.specs.declared.lock.Lock.{Lock}
-use Rattle.sect_names.specs.declared.lock.Lock.TheVariants as lock
-use Rattle.sect_names.specs.Carrying.{Before}
-use Rattle.sect_names.specs.Laws.{IsSoundStep}
-use Rattle.sect_names.specs.Locks.{IsPathOf}
-use Rattle.sect_names.specs.Needed.{end_of}
-use Rattle.sect_names.specs.Records.{IsNeedable}
-use Rattle.sect_names.proofs.shared.Ends.{only_all}
-use Rattle.sect_names.specs.Printing.{AreNamed}
-use Rattle.sect_names.proofs.shared.Named.{named_lock}
-use Rattle.sect_names.proofs.shared.Needing.{keeps_record, generated_needable, carried_needable}
-use Rattle.sect_names.proofs.shared.Placing.{step_sound}
-use Rattle.sect_names.proofs.shared.SectionSteps.{section_step}
-use Rattle.sect_names.proofs.shared.Sounding.{path_there}
-use Rattle.sect_emit.specs.Compiled.{CompiledView, IsCompiled}
-use Rattle.sect_chains.specs.Chains.{IsFirstChain}
-use Rattle.sect_emit.specs.Explaining.{section_at, IsChained}
+use Rattle.sect_names.specs.{declared.link.Link.{Link}, declared.lock.Effect.{Effect}, declared.lock.Lock.{Lock}}
+use Rattle.sect_names.specs.{Carrying.{Before}, Laws.{IsSoundStep}, Locks.{IsPathOf}, Needed.{end_of}}
+use Rattle.sect_names.specs.{Records.{IsNeedable}, Printing.{AreNamed}}
+use Rattle.sect_names.proofs.shared.{Ends.{only_all}, Named.{named_lock}}
+use Rattle.sect_names.proofs.shared.{Needing.{keeps_record, generated_needable, carried_needable}, Placing.{step_sound}}
+use Rattle.sect_names.proofs.shared.{SectionSteps.{section_step}, Sounding.{path_there}}
+use Rattle.sect_emit.specs.{Compiled.{CompiledView, IsCompiled}, Explaining.{section_at, IsChained}}
 use Rattle.sect_emit.specs.Words.{IsChainNamed}
+use Rattle.sect_chains.specs.Chains.{IsFirstChain}
 use Rattle.sect_emit.proofs.shared.TypedPrograms.{typed_program}
 use Rattle.sect_warnings.specs.ClassLocks.{class_lock, IsReason, IsTooLong}
 use Rattle.sect_warnings.specs.steps.Reasons.{ReasonsView, AreReasons, is_on_path, IsLong, IsTurn, ArePathsBefore}
-use Rattle.sect_warnings.proofs.Judging.{section_is, flow_is}
-use Rattle.sect_warnings.proofs.Reasoning.{last_stands, all_needable, turned}
+use Rattle.sect_warnings.proofs.{Judging.{section_is, flow_is}, Reasoning.{last_stands, all_needable, turned}}
 use Rattle.sect_warnings.proofs.Turning.{Turn, turning, turn_found}
+use Rattle.sect_front.specs.declared.tree.Locking.TheVariants as locking
+use Rattle.sect_names.specs.declared.lock.Lock.TheVariants as lock
 
 module _ (c : CompiledView) (compiled : IsCompiled c) (i : ℕ)
     (within : i < length (sections_of c.scheme.program.texts))

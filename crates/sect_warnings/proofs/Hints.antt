@@ -1,8 +1,7 @@
 -- What a hint is put into: names end in their text, and its words stand behind what is there.
 use Rattle.std.proofs.Common.{◌≡◌, ℕ, ◌<◌, ◌≤◌, ◌++◌, ◌∙◌, ap, zero, suc, List, [], ◌∷◌, map, length, get_or, arith}
 use Rattle.std.proofs.lemmas.List.{append_assoc}
-use Rattle.sect_places.specs.Spans.{AreProper}
-use Rattle.sect_places.specs.declared.name_use.NameSpan.{NameSpan}
+use Rattle.sect_places.specs.{Spans.{AreProper}, declared.name_use.NameSpan.{NameSpan}}
 
 pub name_within : (total : ℕ) (names : List NameSpan) → AreProper total (map (λ n. n.span) names) → (k : ℕ)
     (d : NameSpan) → k < length names → (get_or names k d).span.end ≤ total

@@ -1,36 +1,25 @@
 -- What may be told of sections, and where it stands.
 use Rattle.std.proofs.Common.{◌≡◌, ◌<◌, ℕ, zero, suc, ◌+◌, List, [], ◌∷◌, ◌++◌, length, Option, Some, None, sym, ap}
-use Rattle.std.proofs.Common.{◌∙◌, subst}
-use Rattle.std.proofs.Common.{inl, inr, arith, slice_get, add-one, refl}
-use Rattle.std.specs.Prelude.{slice_index_or, option_map}
+use Rattle.std.proofs.Common.{◌∙◌, subst, inl, inr, arith, slice_get, add-one, refl}
+use Rattle.std.proofs.lemmas.Option.{slice_get_within, slice_get-get_or, get_or_from_slice_get}
+use Rattle.std.specs.{Prelude.{slice_index_or, option_map, All}, List.{flat_map}}
 use Rattle.sect_lemmas.specs.Lists.{Has}
 use Rattle.sect_lemmas.proofs.Membership.{Has-cases}
-use Rattle.std.specs.Prelude.{All}
-use Rattle.std.proofs.lemmas.Option.{slice_get_within, slice_get-get_or, get_or_from_slice_get}
 use Rattle.sect_front.specs.TreeView.{TreeView}
-use Rattle.sect_types.specs.Items.{items}
-use Rattle.sect_types.specs.Sections.{sections_of}
-use Rattle.sect_types.specs.Statements.{Stop}
+use Rattle.sect_types.specs.{Items.{items}, Sections.{sections_of}, Statements.{Stop}}
 use Rattle.sect_types.specs.declared.expansion.action.Label.{Label}
-use Rattle.sect_names.specs.Schemes.{IsScheme}
-use Rattle.sect_names.specs.declared.lock.Lock.{Lock}
-use Rattle.sect_names.specs.declared.lock.Lock.TheVariants as lock
-use Rattle.sect_names.specs.declared.lock.Right.TheVariants as right
-use Rattle.std.specs.List.{flat_map}
-use Rattle.sect_places.specs.NodeOrigins.{OriginsView, AreOrigins}
-use Rattle.sect_graph.specs.declared.flow.Node.{Node}
-use Rattle.sect_graph.specs.Layout.{flow_nodes}
-use Rattle.sect_places.specs.declared.origin.Origin.{Origin}
-use Rattle.sect_places.specs.Origins.{section_origins_of}
-use Rattle.sect_places.specs.SectionItems.{section_items_of, IsAtomicItem}
-use Rattle.sect_emit.specs.Compiled.{CompiledView}
-use Rattle.sect_emit.specs.Explaining.{section_at}
-use Rattle.sect_conflicts.specs.Conflicts.{set_at, Selects}
-use Rattle.sect_conflicts.specs.Selecting.{Adds}
+use Rattle.sect_names.specs.{Schemes.{IsScheme}, declared.lock.Lock.{Lock}}
+use Rattle.sect_places.specs.{NodeOrigins.{OriginsView, AreOrigins}, declared.origin.Origin.{Origin}}
+use Rattle.sect_places.specs.{Origins.{section_origins_of}, SectionItems.{section_items_of, IsAtomicItem}}
+use Rattle.sect_graph.specs.{declared.flow.Node.{Node}, Layout.{flow_nodes}}
+use Rattle.sect_emit.specs.{Compiled.{CompiledView}, Explaining.{section_at}}
+use Rattle.sect_conflicts.specs.{Conflicts.{set_at, Selects}, Selecting.{Adds}}
 use Rattle.sect_conflicts.proofs.shared.Selecting.{adds_both}
 use Rattle.sect_warnings.specs.declared.warning.Warning.{Warning}
 use Rattle.sect_warnings.specs.Warnings.{class_at, IsDue, through, unfilled_at, at_node, to_node, at_section}
 use Rattle.sect_warnings.specs.Warnings.{to_section}
+use Rattle.sect_names.specs.declared.lock.Lock.TheVariants as lock
+use Rattle.sect_names.specs.declared.lock.Right.TheVariants as right
 
 -- where each element has the property, all are chosen
 selects_all : {X : Type 0} (P : X → Type 0) (xs : List X) → ((x : X) → Has xs x → P x) → Selects P xs xs

@@ -1,28 +1,20 @@
 -- Sections that are marked `all`, and the lock sets that they would have without the mark.
 use Rattle.std.proofs.Common.{◌≡◌, ◌<◌, ◌↔◌, ℕ, List, [], ◌∷◌, Some, length, inl, inr, refl, sym, ◌∙◌, subst, arith}
-use Rattle.std.specs.Prelude.{slice_get, slice_index_or}
 use Rattle.std.proofs.lemmas.Option.{slice_get-get_or, slice_get_within}
+use Rattle.std.specs.Prelude.{slice_get, slice_index_or}
 use Rattle.sect_front.specs.declared.tree.Locking.{Locking}
-use Rattle.sect_front.specs.declared.tree.Locking.TheVariants as locking
 use Rattle.sect_lemmas.specs.Lists.{Has}
 use Rattle.sect_lemmas.proofs.Places.{one_at}
-use Rattle.sect_types.specs.Statements.{TextView, Stop}
-use Rattle.sect_types.specs.Sections.{SectionView, sections_of}
-use Rattle.sect_names.specs.declared.lock.Lock.{Lock}
-use Rattle.sect_names.specs.declared.lock.Lock.TheVariants as lock
-use Rattle.sect_names.specs.Schemes.{SchemeView, IsScheme}
-use Rattle.sect_names.specs.Locks.{Covers, CoveredBy}
-use Rattle.sect_names.specs.Needed.{IsLeast, end_locks, end_of}
-use Rattle.sect_names.specs.Order.{LockBefore, AreInOrder}
-use Rattle.sect_names.specs.Printing.{AreNamed}
-use Rattle.sect_names.proofs.shared.Covering.{covers_trans}
-use Rattle.sect_names.proofs.shared.Ending.{end_is}
-use Rattle.sect_names.proofs.shared.Named.{named_lock}
+use Rattle.sect_types.specs.{Statements.{TextView, Stop}, Sections.{SectionView, sections_of}}
+use Rattle.sect_names.specs.{declared.lock.Lock.{Lock}, Schemes.{SchemeView, IsScheme}, Locks.{Covers, CoveredBy}}
+use Rattle.sect_names.specs.{Needed.{IsLeast, end_locks, end_of}, Order.{LockBefore, AreInOrder}, Printing.{AreNamed}}
+use Rattle.sect_names.proofs.shared.{Covering.{covers_trans}, Ending.{end_is}, Named.{named_lock}}
 use Rattle.sect_names.proofs.shared.Uniqueness.{lock_once}
 use Rattle.sect_infer.specs.Sets.{LocksView, AreLocksOf, AreOfProgram, AreUnmarkedAt}
-use Rattle.sect_emit.specs.Compiled.{CompiledView}
-use Rattle.sect_emit.specs.Explaining.{section_at}
+use Rattle.sect_emit.specs.{Compiled.{CompiledView}, Explaining.{section_at}}
 use Rattle.sect_warnings.specs.Warnings.{WouldDo}
+use Rattle.sect_front.specs.declared.tree.Locking.TheVariants as locking
+use Rattle.sect_names.specs.declared.lock.Lock.TheVariants as lock
 
 -- a list in canonical order that has one lock alone
 single : (locks : List Lock) → AreInOrder locks → (x : Lock) → Has locks x → ((l : Lock) → Has locks l → x ≡ l)

@@ -1,23 +1,15 @@
 -- Where warnings stand.
 use Rattle.std.proofs.Common.{◌≡◌, ◌<◌, ℕ, zero, suc, List, [], ◌∷◌, length, map, get_or, sym, ap, ◌∙◌, subst, arith}
-use Rattle.std.specs.Prelude.{All}
-use Rattle.std.specs.List.{AllZip}
-use Rattle.sect_front.specs.Front.{IsSpelled}
-use Rattle.sect_front.specs.FaultPlaces.{IsWithin, token_span}
-use Rattle.sect_front.specs.declared.span.Span.{Span}
-use Rattle.sect_places.specs.declared.name_use.NameSpan.{NameSpan}
-use Rattle.sect_places.specs.declared.range.TokenRange.{TokenRange}
-use Rattle.sect_places.specs.Ranges.{AreAmong, item_tokens}
-use Rattle.sect_places.specs.Spans.{AreInOrder, span_in}
+use Rattle.std.specs.{Prelude.{All}, List.{AllZip}}
+use Rattle.sect_front.specs.{Front.{IsSpelled}, FaultPlaces.{IsWithin, token_span}, declared.span.Span.{Span}}
+use Rattle.sect_places.specs.{declared.name_use.NameSpan.{NameSpan}, declared.range.TokenRange.{TokenRange}}
+use Rattle.sect_places.specs.{Ranges.{AreAmong, item_tokens}, Spans.{AreInOrder, span_in}}
 use Rattle.sect_places.proofs.shared.Ordered.{range_among, span_proper}
 use Rattle.sect_lint.specs.Places.{no_range}
 use Rattle.sect_emit.specs.Compiled.{CompiledView}
-use Rattle.sect_warnings.specs.declared.warning.Warning.{Warning}
+use Rattle.sect_warnings.specs.{declared.warning.Warning.{Warning}, Marks.{MarkView}, Labels.{IsMarkOf}}
+use Rattle.sect_warnings.specs.{Placed.{PlacedView}, Reports.{IsPlaced, AreWithin}}
 use Rattle.sect_warnings.specs.declared.warning.Told.TheVariants as told
-use Rattle.sect_warnings.specs.Marks.{MarkView}
-use Rattle.sect_warnings.specs.Labels.{IsMarkOf}
-use Rattle.sect_warnings.specs.Placed.{PlacedView}
-use Rattle.sect_warnings.specs.Reports.{IsPlaced, AreWithin}
 
 -- a warning with the bytes that are marked for it, where these are the bytes of all tokens and the tokens of all items
 pub record IsPut (source : List ℕ) (names : List NameSpan) (c : CompiledView) (tokens : List Span) (ranges : List TokenRange) (w : Warning) (p : PlacedView)

@@ -1,11 +1,8 @@
 -- What is printed of warnings has no float.
-use Rattle.std.proofs.Common.{◌≡◌, ℕ, List, [], ◌∷◌, map, false, refl}
-use Rattle.std.proofs.lemmas.Bool.{or_from}
-use Rattle.serde_json.specs.View.{items_of}
-use Rattle.serde_json.specs.Written.{has_float, items_have_float}
+use Rattle.std.proofs.{Common.{◌≡◌, ℕ, List, [], ◌∷◌, map, false, refl}, lemmas.Bool.{or_from}}
+use Rattle.serde_json.specs.{View.{items_of}, Written.{has_float, items_have_float}}
 use Rattle.sect_front.specs.declared.span.Span.{Span}
-use Rattle.sect_warnings.specs.Json.{labels_json, warning_json}
-use Rattle.sect_warnings.specs.Placed.{PlacedView}
+use Rattle.sect_warnings.specs.{Json.{labels_json, warning_json}, Placed.{PlacedView}}
 use Rattle.sect_warnings.specs.Sarif.{result_json, warnings_log}
 
 plain_labels : (source : List ℕ) (span : Span) (label : List ℕ) → has_float (labels_json source span label) ≡ false

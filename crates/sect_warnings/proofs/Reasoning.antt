@@ -1,22 +1,15 @@
 -- What the steps of a chain need, and where the last stands.
-use Rattle.std.proofs.Common.{◌≡◌, ◌<◌, ℕ, zero, suc, List, [], ◌∷◌, length, Some, refl, sym, ◌∙◌, subst}
-use Rattle.std.proofs.Common.{inl, inr}
-use Rattle.std.specs.Prelude.{slice_get}
+use Rattle.std.proofs.Common.{◌≡◌, ◌<◌, ℕ, zero, suc, List, [], ◌∷◌, length, Some, refl, sym, ◌∙◌, subst, inl, inr}
 use Rattle.std.proofs.lemmas.Option.{slice_get_within}
+use Rattle.std.specs.Prelude.{slice_get}
 use Rattle.sect_lemmas.specs.Lists.{Has}
 use Rattle.sect_graph.specs.declared.flow.Node.{Node}
-use Rattle.sect_points.specs.Paths.{PathView}
-use Rattle.sect_points.specs.Partitions.{HasClass}
-use Rattle.sect_names.specs.declared.link.Link.{Link}
-use Rattle.sect_names.specs.declared.lock.Effect.{Effect}
-use Rattle.sect_names.specs.declared.lock.Lock.{Lock}
-use Rattle.sect_names.specs.declared.lock.Lock.TheVariants as lock
-use Rattle.sect_names.specs.Schemes.{SchemeView}
-use Rattle.sect_names.specs.Locks.{depth}
-use Rattle.sect_names.specs.Records.{IsNeedable}
-use Rattle.sect_names.specs.Carrying.{Generated, CarriedBack, Before}
-use Rattle.sect_names.specs.Chains.{AreLinked, LinksTo}
+use Rattle.sect_points.specs.{Paths.{PathView}, Partitions.{HasClass}}
+use Rattle.sect_names.specs.{declared.link.Link.{Link}, declared.lock.Effect.{Effect}, declared.lock.Lock.{Lock}}
+use Rattle.sect_names.specs.{Schemes.{SchemeView}, Locks.{depth}, Records.{IsNeedable}}
+use Rattle.sect_names.specs.{Carrying.{Generated, CarriedBack, Before}, Chains.{AreLinked, LinksTo}}
 use Rattle.sect_warnings.specs.ClassLocks.{class_lock}
+use Rattle.sect_names.specs.declared.lock.Lock.TheVariants as lock
 
 module _ (s : SchemeView) (t : ℕ) (last : List Lock) (g : List Node) (ended : (l : Lock) → Has last l → lock.All ≡ l)
   where

@@ -1,10 +1,7 @@
 -- Looking through a list, element by element, for one of which something holds.
-use Rattle.std.proofs.Common.{◌≡◌, ◌<◌, ◌↔◌, ℕ, zero, suc, List, [], ◌∷◌, Option, Some, None, true, length, drop, ap, subst}
-use Rattle.std.proofs.Common.{inl, inr, arith}
-use Rattle.std.specs.Option.{option_eq}
-use Rattle.std.proofs.Math.Dec.{eqb}
-use Rattle.std.proofs.lemmas.Bool.{eqb-true, eq-eqb}
-use Rattle.std.specs.Prelude.{slice_get}
+use Rattle.std.proofs.Common.{◌≡◌, ◌<◌, ◌↔◌, ℕ, zero, suc, List, [], ◌∷◌, Option, Some, None, true, length, drop, ap}
+use Rattle.std.proofs.{Common.{subst, inl, inr, arith}, Math.Dec.{eqb}, lemmas.Bool.{eqb-true, eq-eqb}}
+use Rattle.std.specs.{Option.{option_eq}, Prelude.{slice_get}}
 use Rattle.sect_lemmas.specs.Lists.{Has}
 
 -- of some element it holds

@@ -1,19 +1,14 @@
 -- The bytes of what is told of declarations lie in the text.
 use Rattle.std.proofs.Common.{ℕ, zero, suc, List, [], ◌∷◌, ◌++◌, map, Bool, true, false, arith, sym, subst}
-use Rattle.std.specs.Prelude.{filter, if◌then◌else◌, ◌&&◌}
-use Rattle.std.specs.List.{flat_map}
-use Rattle.sect_front.specs.FaultPlaces.{IsWithin}
-use Rattle.sect_front.specs.declared.span.Span.{Span}
-use Rattle.sect_places.specs.Declarations.{is_record}
-use Rattle.sect_places.specs.Spans.{IsProper, AreProper}
-use Rattle.sect_places.specs.declared.name_use.NameSpan.{NameSpan}
-use Rattle.sect_places.specs.declared.name_use.Role.{Role}
-use Rattle.sect_places.specs.declared.name_use.Role.TheVariants as role
+use Rattle.std.specs.{Prelude.{filter, if◌then◌else◌, ◌&&◌}, List.{flat_map}}
+use Rattle.sect_front.specs.{FaultPlaces.{IsWithin}, declared.span.Span.{Span}}
+use Rattle.sect_places.specs.{Declarations.{is_record}, Spans.{IsProper, AreProper}}
+use Rattle.sect_places.specs.{declared.name_use.NameSpan.{NameSpan}, declared.name_use.Role.{Role}}
 use Rattle.sect_names.specs.Schemes.{SchemeView}
 use Rattle.sect_lint.specs.Idle.{is_idle, idle_at, idle_from, behind}
-use Rattle.sect_warnings.specs.Placed.{PlacedView}
-use Rattle.sect_warnings.specs.Reports.{AreWithin}
+use Rattle.sect_warnings.specs.{Placed.{PlacedView}, Reports.{AreWithin}}
 use Rattle.sect_warnings.specs.Spares.{unused_by, unused_at, hint_at, AreSpares}
+use Rattle.sect_places.specs.declared.name_use.Role.TheVariants as role
 
 module _ (total : ℕ) where
   -- the same as `AreWithin`, element by element

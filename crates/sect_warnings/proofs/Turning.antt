@@ -1,27 +1,21 @@
 -- Where a path gets too long along the chain of a class lock.
-use Rattle.std.proofs.Common.{◌≡◌, ◌<◌, ℕ, zero, suc, List, [], ◌∷◌, length, Option, Some, None, false}
-use Rattle.std.proofs.Common.{refl, sym, ap, ◌∙◌, subst, inl, inr, arith, get_or}
-use Rattle.std.specs.Prelude.{slice_get, cond, nat_lt}
-use Rattle.std.specs.List.{position}
-use Rattle.std.proofs.lemmas.List.Sums.{position_or_len_is}
-use Rattle.std.proofs.lemmas.Bool.{lt-ltb}
-use Rattle.std.proofs.lemmas.Option.{slice_get-get_or, slice_get_within, get_or_from_slice_get}
+use Rattle.std.proofs.Common.{◌≡◌, ◌<◌, ℕ, zero, suc, List, [], ◌∷◌, length, Option, Some, None, false, refl, sym, ap}
+use Rattle.std.proofs.{Common.{◌∙◌, subst, inl, inr, arith, get_or}, lemmas.List.Sums.{position_or_len_is}}
+use Rattle.std.proofs.{lemmas.Bool.{lt-ltb}, lemmas.Option.{slice_get-get_or, slice_get_within, get_or_from_slice_get}}
+use Rattle.std.specs.{Prelude.{slice_get, cond, nat_lt}, List.{position}}
 use Rattle.sect_lemmas.specs.Lists.{Has}
-use Rattle.sect_types.specs.declared.expansion.action.Action.TheVariants as action
 use Rattle.sect_types.specs.declared.expansion.action.Label.{Label}
-use Rattle.sect_types.specs.declared.expansion.action.Label.TheVariants as label
 use Rattle.sect_graph.specs.declared.flow.Node.{Node}
 use Rattle.sect_points.specs.Paths.{PathView}
-use Rattle.sect_names.specs.declared.link.Link.{Link}
-use Rattle.sect_names.specs.declared.lock.Effect.{Effect}
-use Rattle.sect_names.specs.declared.lock.Effect.TheVariants as effect
-use Rattle.sect_names.specs.declared.lock.Lock.{Lock}
-use Rattle.sect_names.specs.declared.lock.Lock.TheVariants as lock
-use Rattle.sect_names.specs.Schemes.{SchemeView, guard_of}
-use Rattle.sect_names.specs.Carrying.{Generated, Makes, CarriedBack}
+use Rattle.sect_names.specs.{declared.link.Link.{Link}, declared.lock.Effect.{Effect}, declared.lock.Lock.{Lock}}
+use Rattle.sect_names.specs.{Schemes.{SchemeView, guard_of}, Carrying.{Generated, Makes, CarriedBack}}
 use Rattle.sect_names.specs.Chains.{AreLinked, LinksTo}
 use Rattle.sect_warnings.specs.ClassLocks.{class_lock}
 use Rattle.sect_warnings.specs.steps.Reasons.{is_on_path}
+use Rattle.sect_types.specs.declared.expansion.action.Action.TheVariants as action
+use Rattle.sect_types.specs.declared.expansion.action.Label.TheVariants as label
+use Rattle.sect_names.specs.declared.lock.Effect.TheVariants as effect
+use Rattle.sect_names.specs.declared.lock.Lock.TheVariants as lock
 
 -- to make an object no class is locked for reading or writing
 not_to_make : (s : SchemeView) (o : Option ℕ) (i n : ℕ) (e : Effect) → Makes s o i (class_lock n e) → ⊥

@@ -1,25 +1,17 @@
 -- Why a section locks a whole class: which statement needs it, and which path gets too long.
 use Rattle.std.specs.Prelude.{◌≡◌, ◌<◌, ℕ, suc, ◌-◌, List, [], ◌++◌, Option, Some, None, codes, length, slice_get}
-use Rattle.std.specs.Prelude.{slice_index_or}
-use Rattle.std.specs.Fmt.{decimal}
+use Rattle.std.specs.{Prelude.{slice_index_or}, Fmt.{decimal}}
 use Rattle.sect_front.specs.TreeView.{TreeView}
-use Rattle.sect_graph.specs.declared.flow.Node.{Node}
-use Rattle.sect_graph.specs.Layout.{flow_nodes}
+use Rattle.sect_graph.specs.{declared.flow.Node.{Node}, Layout.{flow_nodes}}
 use Rattle.sect_places.specs.Origins.{origin, section_origins_of}
-use Rattle.sect_points.specs.Paths.{PathView}
-use Rattle.sect_points.specs.Partitions.{HasClass}
-use Rattle.sect_names.specs.declared.link.Link.{Link}
-use Rattle.sect_names.specs.declared.lock.Effect.{Effect}
-use Rattle.sect_names.specs.declared.lock.Lock.{Lock}
-use Rattle.sect_names.specs.declared.lock.Lock.TheVariants as lock
-use Rattle.sect_names.specs.Carrying.{right_for, Before}
-use Rattle.sect_names.specs.Locks.{depth}
-use Rattle.sect_names.specs.Needed.{end_of}
+use Rattle.sect_points.specs.{Paths.{PathView}, Partitions.{HasClass}}
+use Rattle.sect_names.specs.{declared.link.Link.{Link}, declared.lock.Effect.{Effect}, declared.lock.Lock.{Lock}}
+use Rattle.sect_names.specs.{Carrying.{right_for, Before}, Locks.{depth}, Needed.{end_of}}
 use Rattle.sect_names.specs.Printing.{lock_text, path_text}
 use Rattle.sect_chains.specs.Chains.{IsFirstChain}
-use Rattle.sect_emit.specs.Compiled.{CompiledView}
-use Rattle.sect_emit.specs.Explaining.{section_at, section_deed}
+use Rattle.sect_emit.specs.{Compiled.{CompiledView}, Explaining.{section_at, section_deed}}
 use Rattle.sect_warnings.specs.Hinting.{touched_at}
+use Rattle.sect_names.specs.declared.lock.Lock.TheVariants as lock
 
 -- the lock on a class for reading or for writing
 abbrev pub class_lock : ℕ → Effect → Lock

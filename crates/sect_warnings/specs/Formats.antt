@@ -1,20 +1,13 @@
 -- What is printed of warnings, in each form.
-use Rattle.std.specs.Prelude.{◌≡◌, ℕ, List, [], ◌∷◌, ◌++◌, codes}
-use Rattle.std.specs.List.{flat_map}
+use Rattle.std.specs.{Prelude.{◌≡◌, ℕ, List, [], ◌∷◌, ◌++◌, codes}, List.{flat_map}}
 use Rattle.serde_json.specs.Written.{compact_text}
-use Rattle.sect_lint.specs.declared.format.Format.{Format}
-use Rattle.sect_lint.specs.declared.format.Format.TheVariants.{Text, Json, Sarif}
+use Rattle.sect_lint.specs.{declared.format.Format.{Format}, declared.format.Format.TheVariants.{Text, Json, Sarif}}
 use Rattle.sect_lint.specs.Formats.{clean}
 use Rattle.sect_emit.specs.Compiled.{CompiledView}
-use Rattle.sect_warnings.specs.declared.warning.Warning.{Warning}
-use Rattle.sect_warnings.specs.Placed.{PlacedView}
-use Rattle.sect_places.specs.declared.name_use.NameSpan.{NameSpan}
-use Rattle.sect_places.specs.NameSpans.{AreNameSpans}
-use Rattle.sect_warnings.specs.Warnings.{AreWarnings}
-use Rattle.sect_warnings.specs.Spares.{AreSpares}
-use Rattle.sect_warnings.specs.Reports.{ArePlaced, reports}
-use Rattle.sect_warnings.specs.Json.{warning_json}
+use Rattle.sect_warnings.specs.{declared.warning.Warning.{Warning}, Placed.{PlacedView}, Warnings.{AreWarnings}}
+use Rattle.sect_warnings.specs.{Spares.{AreSpares}, Reports.{ArePlaced, reports}, Json.{warning_json}}
 use Rattle.sect_warnings.specs.Sarif.{warnings_log}
+use Rattle.sect_places.specs.{declared.name_use.NameSpan.{NameSpan}, NameSpans.{AreNameSpans}}
 
 -- a warning as an object of JSON in a line
 unfoldable pub json_line : List ℕ → PlacedView → List ℕ

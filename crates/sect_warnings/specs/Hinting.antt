@@ -1,24 +1,17 @@
 -- Hints that would spare a section a lock on a whole class, as it is found by trying.
 use Rattle.std.specs.Prelude.{◌≡◌, ◌≢◌, ◌⊎◌, ℕ, Bool, not, ◌&&◌, nat_eq, is_some, List, [], ◌++◌, Option, Some, None}
 use Rattle.std.specs.Prelude.{codes, drop, take, position, slice_get}
-use Rattle.sect_front.specs.TreeView.{TreeView}
-use Rattle.sect_front.specs.declared.tree.Record.{Record}
-use Rattle.sect_types.specs.declared.expansion.action.Action.TheVariants as action
+use Rattle.sect_front.specs.{TreeView.{TreeView}, declared.tree.Record.{Record}}
 use Rattle.sect_types.specs.declared.expansion.action.Label.{Label}
-use Rattle.sect_types.specs.declared.expansion.action.Label.TheVariants as label
-use Rattle.sect_graph.specs.declared.flow.Node.{Node}
-use Rattle.sect_graph.specs.Layout.{flow_nodes}
-use Rattle.sect_places.specs.Declarations.{record_of}
-use Rattle.sect_places.specs.declared.name_use.NameSpan.{NameSpan}
-use Rattle.sect_names.specs.declared.lock.Lock.{Lock}
-use Rattle.sect_names.specs.declared.refusal.SourceRefusal.{SourceRefusal}
-use Rattle.sect_names.specs.declared.refusal.SourceRefusal.TheVariants as refusal
-use Rattle.sect_names.specs.Printing.{global_name}
-use Rattle.sect_names.specs.Schemes.{SchemeView, guard_of}
-use Rattle.sect_names.specs.Sources.{IsDue}
-use Rattle.sect_emit.specs.Compiled.{CompiledView, IsCompiledFrom}
-use Rattle.sect_emit.specs.Explaining.{section_at}
+use Rattle.sect_graph.specs.{declared.flow.Node.{Node}, Layout.{flow_nodes}}
+use Rattle.sect_places.specs.{Declarations.{record_of}, declared.name_use.NameSpan.{NameSpan}}
+use Rattle.sect_names.specs.{declared.lock.Lock.{Lock}, declared.refusal.SourceRefusal.{SourceRefusal}}
+use Rattle.sect_names.specs.{Printing.{global_name}, Schemes.{SchemeView, guard_of}, Sources.{IsDue}}
+use Rattle.sect_emit.specs.{Compiled.{CompiledView, IsCompiledFrom}, Explaining.{section_at}}
 use Rattle.sect_warnings.specs.Outcomes.{IsOutcome}
+use Rattle.sect_types.specs.declared.expansion.action.Action.TheVariants as action
+use Rattle.sect_types.specs.declared.expansion.action.Label.TheVariants as label
+use Rattle.sect_names.specs.declared.refusal.SourceRefusal.TheVariants as refusal
 
 -- the record of the object that a node loads from or stores to
 abbrev pub touched : Label → Option ℕ

@@ -3,8 +3,7 @@ use Rattle.std.specs.Prelude.{ℕ, List, [], ◌∷◌, codes}
 use Rattle.serde_json.specs.Data.{Data, string, object, no_members, member}
 use Rattle.sect_front.specs.declared.span.Span.{Span}
 use Rattle.sect_lint.specs.Json.{list, label_json, span_json}
-use Rattle.sect_warnings.specs.Placed.{PlacedView}
-use Rattle.sect_warnings.specs.Titles.{told_name, told_title}
+use Rattle.sect_warnings.specs.{Placed.{PlacedView}, Titles.{told_name, told_title}}
 
 -- what is said of marked bytes, if anything
 abbrev pub labels_json : List ℕ → Span → List ℕ → Data

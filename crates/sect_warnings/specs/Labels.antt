@@ -2,17 +2,12 @@
 use Rattle.std.specs.Prelude.{◌≡◌, ℕ, List, [], ◌++◌, Option, codes}
 use Rattle.sect_front.specs.TreeView.{TreeView}
 use Rattle.sect_places.specs.declared.name_use.NameSpan.{NameSpan}
-use Rattle.sect_names.specs.declared.lock.Lock.{Lock}
-use Rattle.sect_names.specs.Printing.{lock_text}
+use Rattle.sect_names.specs.{declared.lock.Lock.{Lock}, Printing.{lock_text}}
 use Rattle.sect_emit.specs.Compiled.{CompiledView}
-use Rattle.sect_warnings.specs.declared.warning.Finding.{Finding}
+use Rattle.sect_warnings.specs.{declared.warning.Finding.{Finding}, declared.warning.Warning.{Warning}}
+use Rattle.sect_warnings.specs.{Warnings.{WouldDo}, ClassLocks.{class_lock, IsClassMarked}, Marks.{MarkView}}
+use Rattle.sect_warnings.specs.{Remedies.{IsClassNote}, Titles.{note_of}}
 use Rattle.sect_warnings.specs.declared.warning.Finding.TheVariants as finding
-use Rattle.sect_warnings.specs.declared.warning.Warning.{Warning}
-use Rattle.sect_warnings.specs.Warnings.{WouldDo}
-use Rattle.sect_warnings.specs.ClassLocks.{class_lock, IsClassMarked}
-use Rattle.sect_warnings.specs.Marks.{MarkView}
-use Rattle.sect_warnings.specs.Remedies.{IsClassNote}
-use Rattle.sect_warnings.specs.Titles.{note_of}
 
 -- of a section marked `all`: which lock it would take without the mark
 abbrev pub would_take : TreeView → Lock → List ℕ

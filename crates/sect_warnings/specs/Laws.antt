@@ -1,12 +1,9 @@
 -- What a warning means for runs.
 use Rattle.std.specs.Prelude.{◌≡◌, ℕ, List}
 use Rattle.sect_types.specs.declared.meaning.store.ObjectName.{ObjectName}
-use Rattle.sect_types.specs.declared.meaning.store.Datum.TheVariants.{Refers}
-use Rattle.sect_types.specs.Meaning.{local_datum}
-use Rattle.sect_emit.specs.Compiled.{CompiledView}
-use Rattle.sect_emit.specs.State.{ThreadState, State, IsThread}
-use Rattle.sect_world.specs.declared.event.Event.{Event}
-use Rattle.sect_world.specs.Runs.{IsRun}
+use Rattle.sect_types.specs.{declared.meaning.store.Datum.TheVariants.{Refers}, Meaning.{local_datum}}
+use Rattle.sect_emit.specs.{Compiled.{CompiledView}, State.{ThreadState, State, IsThread}}
+use Rattle.sect_world.specs.{declared.event.Event.{Event}, Runs.{IsRun}}
 use Rattle.sect_points.specs.NeverFilled.{IsNeverFilled}
 
 -- in no state of a run does a local that is never filled refer to an object

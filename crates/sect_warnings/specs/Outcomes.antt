@@ -1,8 +1,7 @@
 -- What comes of a change that is tried.
 use Rattle.std.specs.Prelude.{◌≡◌, ◌⊎◌, ℕ, List, ◌++◌, codes}
 use Rattle.sect_lemmas.specs.Lists.{Has}
-use Rattle.sect_names.specs.declared.lock.Lock.{Lock}
-use Rattle.sect_names.specs.Printing.{locks_text}
+use Rattle.sect_names.specs.{declared.lock.Lock.{Lock}, Printing.{locks_text}}
 use Rattle.sect_emit.specs.Compiled.{CompiledView}
 use Rattle.sect_conflicts.specs.Conflicts.{set_at}
 

@@ -3,9 +3,7 @@ use Rattle.std.specs.Prelude.{◌≡◌, ◌<◌, ◌⊎◌, ℕ, List, [], ◌+
 use Rattle.sect_places.specs.declared.name_use.NameSpan.{NameSpan}
 use Rattle.sect_names.specs.declared.lock.Lock.{Lock}
 use Rattle.sect_emit.specs.Compiled.{CompiledView, IsCompiledFrom}
-use Rattle.sect_warnings.specs.Hinting.{IsHintSaid}
-use Rattle.sect_warnings.specs.Outcomes.{IsOutcome}
-use Rattle.sect_warnings.specs.Titles.{class_note}
+use Rattle.sect_warnings.specs.{Hinting.{IsHintSaid}, Outcomes.{IsOutcome}, Titles.{class_note}}
 
 -- where paths may have more fields, what the most of them come to
 abbrev pub IsDeepSaid : List ℕ → CompiledView → ℕ → Lock → List ℕ → Type 0

@@ -1,23 +1,13 @@
 -- What is printed of warnings.
-use Rattle.std.specs.Prelude.{◌≡◌, ℕ, List, [], ◌∷◌, ◌++◌, map, get_or, codes, All}
-use Rattle.std.specs.List.{AllZip, flat_map}
-use Rattle.sect_front.specs.Front.{IsSpelled, line_of}
-use Rattle.sect_front.specs.FaultPlaces.{token_span, IsWithin}
-use Rattle.sect_front.specs.TreeView.{TreeView}
+use Rattle.std.specs.{Prelude.{◌≡◌, ℕ, List, [], ◌∷◌, ◌++◌, map, get_or, codes, All}, List.{AllZip, flat_map}}
+use Rattle.sect_front.specs.{Front.{IsSpelled, line_of}, FaultPlaces.{token_span, IsWithin}, TreeView.{TreeView}}
 use Rattle.sect_front.specs.declared.span.Span.{Span}
-use Rattle.sect_places.specs.declared.name_use.NameSpan.{NameSpan}
-use Rattle.sect_places.specs.Ranges.{item_tokens}
-use Rattle.sect_places.specs.Spans.{span_in}
-use Rattle.sect_lint.specs.Excerpts.{excerpt, margin}
-use Rattle.sect_lint.specs.Places.{no_range}
+use Rattle.sect_places.specs.{declared.name_use.NameSpan.{NameSpan}, Ranges.{item_tokens}, Spans.{span_in}}
+use Rattle.sect_lint.specs.{Excerpts.{excerpt, margin}, Places.{no_range}}
 use Rattle.sect_emit.specs.Compiled.{CompiledView}
-use Rattle.sect_warnings.specs.declared.warning.Warning.{Warning}
-use Rattle.sect_warnings.specs.declared.warning.Told.{Told}
+use Rattle.sect_warnings.specs.{declared.warning.Warning.{Warning}, declared.warning.Told.{Told}, Marks.{MarkView}}
+use Rattle.sect_warnings.specs.{Labels.{IsMarkOf}, Placed.{PlacedView, behind}, Titles.{told_name, told_title}}
 use Rattle.sect_warnings.specs.declared.warning.Told.TheVariants as told
-use Rattle.sect_warnings.specs.Marks.{MarkView}
-use Rattle.sect_warnings.specs.Labels.{IsMarkOf}
-use Rattle.sect_warnings.specs.Placed.{PlacedView, behind}
-use Rattle.sect_warnings.specs.Titles.{told_name, told_title}
 
 -- the bytes of an item of a tree that the text spells
 abbrev pub span_of : (source : List ℕ) (tree : TreeView) → IsSpelled source tree → ℕ → Span

@@ -1,16 +1,14 @@
 -- Warnings as a log of SARIF 2.1.0.
 use Rattle.std.specs.Prelude.{ℕ, List, [], ◌∷◌, ◌++◌, map, codes}
 use Rattle.serde_json.specs.Data.{Data, string, object, no_members, member}
-use Rattle.sect_lint.specs.Json.{list}
-use Rattle.sect_lint.specs.Sarif.{text_json, location_json, tool_json, run_json, log_json}
-use Rattle.sect_names.specs.declared.lock.Effect.TheVariants as effect
-use Rattle.sect_warnings.specs.declared.warning.Finding.{Finding}
-use Rattle.sect_warnings.specs.declared.warning.Finding.TheVariants as finding
-use Rattle.sect_places.specs.declared.name_use.Thing.TheVariants as thing
-use Rattle.sect_warnings.specs.declared.warning.Spare.{Spare}
-use Rattle.sect_warnings.specs.declared.warning.Spare.TheVariants as spare
+use Rattle.sect_lint.specs.{Json.{list}, Sarif.{text_json, location_json, tool_json, run_json, log_json}}
+use Rattle.sect_warnings.specs.{declared.warning.Finding.{Finding}, declared.warning.Spare.{Spare}}
 use Rattle.sect_warnings.specs.Placed.{PlacedView, behind}
 use Rattle.sect_warnings.specs.Titles.{name_of, note_of, spare_name, spare_note, told_name, told_title}
+use Rattle.sect_names.specs.declared.lock.Effect.TheVariants as effect
+use Rattle.sect_warnings.specs.declared.warning.Finding.TheVariants as finding
+use Rattle.sect_places.specs.declared.name_use.Thing.TheVariants as thing
+use Rattle.sect_warnings.specs.declared.warning.Spare.TheVariants as spare
 
 -- what is told, and what is said of the marked bytes
 abbrev pub message_of : PlacedView → List ℕ

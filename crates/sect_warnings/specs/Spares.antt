@@ -1,18 +1,13 @@
 -- What is told of the declarations of a text.
-use Rattle.std.specs.Prelude.{◌≡◌, List, [], ◌∷◌, ◌++◌, map}
-use Rattle.std.specs.List.{flat_map}
+use Rattle.std.specs.{Prelude.{◌≡◌, List, [], ◌∷◌, ◌++◌, map}, List.{flat_map}}
 use Rattle.sect_front.specs.declared.span.Span.{Span}
-use Rattle.sect_places.specs.declared.name_use.NameSpan.{NameSpan}
-use Rattle.sect_places.specs.declared.name_use.Role.{Role}
-use Rattle.sect_places.specs.declared.name_use.Role.TheVariants as role
+use Rattle.sect_places.specs.{declared.name_use.NameSpan.{NameSpan}, declared.name_use.Role.{Role}}
 use Rattle.sect_names.specs.Schemes.{SchemeView}
-use Rattle.sect_lint.specs.Unused.{AreUnused}
-use Rattle.sect_lint.specs.Idle.{idle_from}
-use Rattle.sect_warnings.specs.declared.warning.Spare.{Spare}
+use Rattle.sect_lint.specs.{Unused.{AreUnused}, Idle.{idle_from}}
+use Rattle.sect_warnings.specs.{declared.warning.Spare.{Spare}, Placed.{PlacedView}, Titles.{spare_note}}
+use Rattle.sect_places.specs.declared.name_use.Role.TheVariants as role
 use Rattle.sect_warnings.specs.declared.warning.Spare.TheVariants as spare
 use Rattle.sect_warnings.specs.declared.warning.Told.TheVariants as told
-use Rattle.sect_warnings.specs.Placed.{PlacedView}
-use Rattle.sect_warnings.specs.Titles.{spare_note}
 
 abbrev pub spare_at : Span → Spare → PlacedView
 spare_at span s = record { told = told.Declaration s; span = span; label = []; note = spare_note s }

@@ -1,16 +1,13 @@
 -- What is said of a warning.
-use Rattle.std.specs.Prelude.{ℕ, List, ◌++◌, codes}
-use Rattle.std.specs.Fmt.{decimal}
-use Rattle.sect_places.specs.declared.name_use.Thing.TheVariants as thing
+use Rattle.std.specs.{Prelude.{ℕ, List, ◌++◌, codes}, Fmt.{decimal}}
 use Rattle.sect_names.specs.declared.lock.Effect.{Effect}
+use Rattle.sect_warnings.specs.{declared.warning.Finding.{Finding}, declared.warning.Spare.{Spare}}
+use Rattle.sect_warnings.specs.{declared.warning.Told.{Told}, declared.warning.Warning.{Warning}}
+use Rattle.sect_places.specs.declared.name_use.Thing.TheVariants as thing
 use Rattle.sect_names.specs.declared.lock.Effect.TheVariants as effect
-use Rattle.sect_warnings.specs.declared.warning.Finding.{Finding}
 use Rattle.sect_warnings.specs.declared.warning.Finding.TheVariants as finding
-use Rattle.sect_warnings.specs.declared.warning.Spare.{Spare}
 use Rattle.sect_warnings.specs.declared.warning.Spare.TheVariants as spare
-use Rattle.sect_warnings.specs.declared.warning.Told.{Told}
 use Rattle.sect_warnings.specs.declared.warning.Told.TheVariants as told
-use Rattle.sect_warnings.specs.declared.warning.Warning.{Warning}
 
 -- its name
 abbrev pub name_of : Finding → List ℕ

@@ -1,34 +1,25 @@
 -- Which warnings are due of a compiled program.
 use Rattle.std.specs.Prelude.{◌≡◌, ◌<◌, ℕ, zero, suc, All, List, [], ◌∷◌, ◌++◌, length, Option, Some, None, slice_get}
-use Rattle.std.specs.Prelude.{slice_index_or}
-use Rattle.std.specs.List.{flat_map}
+use Rattle.std.specs.{Prelude.{slice_index_or}, List.{flat_map}}
 use Rattle.sect_lemmas.specs.Lists.{Has}
 use Rattle.sect_front.specs.TreeView.{TreeView}
-use Rattle.sect_types.specs.Items.{items}
-use Rattle.sect_types.specs.Sections.{SectionView, sections_of}
-use Rattle.sect_types.specs.declared.expansion.action.Action.TheVariants as action
-use Rattle.sect_types.specs.declared.expansion.action.Base.{Base}
-use Rattle.sect_types.specs.declared.expansion.action.Base.TheVariants as base
+use Rattle.sect_types.specs.{Items.{items}, Sections.{SectionView, sections_of}, declared.expansion.action.Base.{Base}}
 use Rattle.sect_types.specs.declared.expansion.action.Label.{Label}
-use Rattle.sect_types.specs.declared.expansion.action.Label.TheVariants as label
-use Rattle.sect_graph.specs.declared.flow.Node.{Node}
-use Rattle.sect_graph.specs.Layout.{flow_nodes}
+use Rattle.sect_graph.specs.{declared.flow.Node.{Node}, Layout.{flow_nodes}}
 use Rattle.sect_points.specs.NeverFilled.{IsNeverFilled}
-use Rattle.sect_places.specs.declared.origin.Origin.{Origin}
-use Rattle.sect_places.specs.Origins.{section_origins_of}
+use Rattle.sect_places.specs.{declared.origin.Origin.{Origin}, Origins.{section_origins_of}}
 use Rattle.sect_places.specs.SectionItems.{section_items_of}
-use Rattle.sect_names.specs.Carrying.{right_for}
+use Rattle.sect_names.specs.{Carrying.{right_for}, declared.lock.Lock.{Lock}, Needed.{end_of, IsLeast}}
+use Rattle.sect_emit.specs.{Compiled.{CompiledView}, Explaining.{section_at}}
+use Rattle.sect_conflicts.specs.Conflicts.{set_at, Selects}
+use Rattle.sect_warnings.specs.{declared.warning.Finding.{Finding}, declared.warning.Warning.{Warning}}
+use Rattle.sect_types.specs.declared.expansion.action.Action.TheVariants as action
+use Rattle.sect_types.specs.declared.expansion.action.Base.TheVariants as base
+use Rattle.sect_types.specs.declared.expansion.action.Label.TheVariants as label
 use Rattle.sect_names.specs.declared.lock.Effect.TheVariants as effect
-use Rattle.sect_names.specs.declared.lock.Lock.{Lock}
 use Rattle.sect_names.specs.declared.lock.Lock.TheVariants as lock
 use Rattle.sect_names.specs.declared.lock.Right.TheVariants as right
-use Rattle.sect_names.specs.Needed.{end_of, IsLeast}
-use Rattle.sect_emit.specs.Compiled.{CompiledView}
-use Rattle.sect_emit.specs.Explaining.{section_at}
-use Rattle.sect_conflicts.specs.Conflicts.{set_at, Selects}
-use Rattle.sect_warnings.specs.declared.warning.Finding.{Finding}
 use Rattle.sect_warnings.specs.declared.warning.Finding.TheVariants as finding
-use Rattle.sect_warnings.specs.declared.warning.Warning.{Warning}
 
 -- section i is marked `all`, and if it weren't, its lock set would be this lock alone
 abbrev pub WouldDo : CompiledView → ℕ → Lock → Type 0

@@ -1,24 +1,19 @@
 //! Why a section locks a whole class: the statement that needs it, and the path that gets too long.
 
 ghost use Rattle.std.specs.Prelude.{◌≡◌, ◌<◌, ◌↔◌, ◌-◌, ◌++◌, Some, length, slice_get, true, IfOk, IsTrue, OnOk};
-ghost use Rattle.std.specs.List.{position};
-ghost use Rattle.std.specs.String.{string_bytes};
+ghost use Rattle.std.specs.{List.{position}, String.{string_bytes}};
 ghost use Rattle.sect_lemmas.specs.Lists.{Has};
-ghost use Rattle.sect_types.specs.Items.{items};
-ghost use Rattle.sect_types.specs.Sections.{sections_of};
+ghost use Rattle.sect_types.specs.{Items.{items}, Sections.{sections_of}};
 ghost use Rattle.sect_places.specs.NodeOrigins.{AreOrigins};
 ghost use Rattle.sect_points.specs.Paths.{PathView};
-ghost use Rattle.sect_names.specs.declared.link.Link.{Link};
-ghost use Rattle.sect_emit.specs.Words.{IsChainNamed};
+ghost use Rattle.sect_names.specs.{declared.link.Link.{Link}, Locks.{IsPathOf}, Printing.{IsNamed}};
+ghost use Rattle.sect_emit.specs.{Words.{IsChainNamed}, Explaining.{section_at}};
 ghost use Rattle.sect_conflicts.specs.Conflicts.{set_at};
 ghost use Rattle.sect_graph.specs.Layout.{flow_nodes};
-ghost use Rattle.sect_emit.specs.Explaining.{section_at};
-ghost use Rattle.sect_names.specs.Locks.{IsPathOf};
-ghost use Rattle.sect_names.specs.Printing.{IsNamed};
 ghost use Rattle.sect_warnings.specs.ClassLocks.{class_lock, need_text, limit_text, where_text, IsReason};
 ghost use Rattle.sect_warnings.specs.ClassLocks.{IsClassMarked};
-ghost use Rattle.sect_warnings.specs.steps.Reasons.{AreReasons, is_on_path as is_on_path_by, IsLong};
-ghost use Rattle.sect_warnings.specs.steps.Reasons.{ArePathsBefore, IsTurn, IsLabelled};
+ghost use Rattle.sect_warnings.specs.steps.Reasons.{AreReasons, is_on_path as is_on_path_by, IsLong, ArePathsBefore};
+ghost use Rattle.sect_warnings.specs.steps.Reasons.{IsTurn, IsLabelled};
 
 use crate::hinting::touched_at;
 use crate::reasons::Reasons;

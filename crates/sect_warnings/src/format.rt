@@ -1,13 +1,10 @@
 //! The forms in which warnings are printed.
 
-ghost use Rattle.std.specs.Prelude.{◌≡◌, ◌++◌, IfOk, OnOk, length};
-ghost use Rattle.std.specs.List.{flat_map};
-ghost use Rattle.std.specs.String.{string_bytes};
-ghost use Rattle.sect_front.specs.Front.{IsSpelled};
-ghost use Rattle.sect_front.specs.FaultPlaces.{IsWithin};
+ghost use Rattle.std.specs.{Prelude.{◌≡◌, ◌++◌, IfOk, OnOk, length}, List.{flat_map}, String.{string_bytes}};
+ghost use Rattle.sect_front.specs.{Front.{IsSpelled}, FaultPlaces.{IsWithin}};
 ghost use Rattle.sect_warnings.specs.Reports.{AreWithin};
-ghost use Rattle.sect_warnings.specs.Formats.{json_line, told as told_by, printed as printed_by};
-ghost use Rattle.sect_warnings.specs.Formats.{AreAllPlaced, AreWarningsPrinted};
+ghost use Rattle.sect_warnings.specs.Formats.{json_line, told as told_by, printed as printed_by, AreAllPlaced};
+ghost use Rattle.sect_warnings.specs.Formats.{AreWarningsPrinted};
 
 use crate::json::warning_value;
 use crate::judge::warnings;

@@ -1,9 +1,8 @@
 //! Hints that would spare a section a lock on a whole class.
 
-ghost use Rattle.std.specs.Prelude.{◌≡◌, ◌<◌, ◌≤◌, ◌++◌, ℕ, List, Some, IfOk, IfSome, OnOk};
-ghost use Rattle.std.specs.Prelude.{length, position, slice_get};
+ghost use Rattle.std.specs.Prelude.{◌≡◌, ◌<◌, ◌≤◌, ◌++◌, ℕ, List, Some, IfOk, IfSome, OnOk, length, position};
+ghost use Rattle.std.specs.{Prelude.{slice_get}, String.{string_bytes}};
 ghost use Rattle.sect_places.specs.NameSpans.{AreNameSpans};
-ghost use Rattle.std.specs.String.{string_bytes};
 ghost use Rattle.sect_types.specs.Sections.{sections_of};
 ghost use Rattle.sect_graph.specs.Layout.{flow_nodes};
 ghost use Rattle.sect_names.specs.Printing.{global_name};

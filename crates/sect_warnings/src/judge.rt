@@ -1,14 +1,12 @@
 //! Which warnings are due.
 
-ghost use Rattle.std.specs.Prelude.{◌≡◌, ◌<◌, ◌↔◌, [], ◌∷◌, ◌++◌, length, IsTrue, IfOk, OnOk};
+ghost use Rattle.std.specs.{Prelude.{◌≡◌, ◌<◌, ◌↔◌, [], ◌∷◌, ◌++◌, length, IsTrue, IfOk, OnOk}, List.{flat_map}};
 ghost use Rattle.sect_types.specs.Sections.{sections_of};
 ghost use Rattle.sect_graph.specs.Layout.{flow_nodes};
 ghost use Rattle.sect_emit.specs.Explaining.{section_at};
 ghost use Rattle.sect_warnings.specs.Warnings.{warning, through as through_by, unfilled_at, to_node, at_section};
 ghost use Rattle.sect_warnings.specs.Warnings.{class_at, IsDue, AreWarnings, AreAtItems};
-ghost use Rattle.sect_conflicts.specs.Conflicts.{set_at};
-ghost use Rattle.std.specs.List.{flat_map};
-ghost use Rattle.sect_conflicts.specs.Selecting.{Adds};
+ghost use Rattle.sect_conflicts.specs.{Conflicts.{set_at}, Selecting.{Adds}};
 
 use crate::marked::takes_all_for_one;
 use crate::warning::{Finding, Warning};

@@ -3,14 +3,11 @@
 ghost use Rattle.std.specs.Prelude.{◌≡◌, ◌<◌, ℕ, Option, None, IfOk, IfSome, length};
 ghost use Rattle.sect_lemmas.specs.Lists.{Has};
 ghost use Rattle.sect_types.specs.Items.{items};
-ghost use Rattle.sect_places.specs.NameSpans.{AreNameSpans};
-ghost use Rattle.sect_places.specs.NodeOrigins.{AreOrigins};
+ghost use Rattle.sect_places.specs.{NameSpans.{AreNameSpans}, NodeOrigins.{AreOrigins}};
 ghost use Rattle.sect_emit.specs.Compiled.{IsCompiledFrom};
 ghost use Rattle.sect_conflicts.specs.Conflicts.{set_at};
-ghost use Rattle.sect_warnings.specs.ClassLocks.{class_lock, IsClassMarked};
-ghost use Rattle.sect_warnings.specs.Labels.{IsMarkOf};
-ghost use Rattle.sect_warnings.specs.Remedies.{IsClassNote};
-ghost use Rattle.sect_warnings.specs.Warnings.{IsDue};
+ghost use Rattle.sect_warnings.specs.{ClassLocks.{class_lock, IsClassMarked}, Labels.{IsMarkOf}};
+ghost use Rattle.sect_warnings.specs.{Remedies.{IsClassNote}, Warnings.{IsDue}};
 ghost use Rattle.sect_warnings.specs.steps.Reasons.{AreReasons};
 
 use crate::class_mark::{ClassLock, Need, need_of};

@@ -1,10 +1,8 @@
 //! Sections that are marked `all`, and what they would take without the mark.
 
-ghost use Rattle.std.specs.Prelude.{◌≡◌, ◌<◌, ◌↔◌, length, IsTrue, IfOk};
-ghost use Rattle.std.specs.String.{string_bytes};
+ghost use Rattle.std.specs.{Prelude.{◌≡◌, ◌<◌, ◌↔◌, length, IsTrue, IfOk}, String.{string_bytes}};
 ghost use Rattle.sect_types.specs.Sections.{sections_of};
-ghost use Rattle.sect_warnings.specs.Warnings.{IsDueOf};
-ghost use Rattle.sect_warnings.specs.Labels.{IsLabelOf};
+ghost use Rattle.sect_warnings.specs.{Warnings.{IsDueOf}, Labels.{IsLabelOf}};
 
 use crate::warning::Finding;
 use sect_emit::Compiled;

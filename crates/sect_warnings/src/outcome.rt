@@ -1,11 +1,9 @@
 //! What comes of a change that is tried: whether a section takes a lock still.
 
-ghost use Rattle.std.specs.Prelude.{◌≡◌, ◌↔◌, ◌++◌, List, ℕ, IsTrue, OnOk};
-ghost use Rattle.std.specs.String.{string_bytes};
+ghost use Rattle.std.specs.{Prelude.{◌≡◌, ◌↔◌, ◌++◌, List, ℕ, IsTrue, OnOk}, String.{string_bytes}};
 ghost use Rattle.sect_lemmas.specs.Lists.{Has};
 ghost use Rattle.sect_conflicts.specs.Conflicts.{set_at};
-ghost use Rattle.sect_warnings.specs.ClassLocks.{class_lock};
-ghost use Rattle.sect_warnings.specs.Outcomes.{IsOutcome};
+ghost use Rattle.sect_warnings.specs.{ClassLocks.{class_lock}, Outcomes.{IsOutcome}};
 
 use crate::class_mark::{ClassLock, is_class_lock};
 use sect_emit::Compiled;

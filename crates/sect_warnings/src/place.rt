@@ -1,15 +1,11 @@
 //! Where warnings stand, and what is said there.
 
 ghost use Rattle.std.specs.Prelude.{◌≡◌, ◌<◌, IfOk, All, length, get_or};
-ghost use Rattle.sect_front.specs.Front.{IsSpelled};
-ghost use Rattle.sect_front.specs.FaultPlaces.{IsWithin};
+ghost use Rattle.sect_front.specs.{Front.{IsSpelled}, FaultPlaces.{IsWithin}};
 ghost use Rattle.sect_types.specs.Items.{items};
-ghost use Rattle.sect_places.specs.NameSpans.{AreNameSpans};
-ghost use Rattle.sect_places.specs.Ranges.{AreAmong};
-ghost use Rattle.sect_places.specs.Spans.{span_in};
+ghost use Rattle.sect_places.specs.{NameSpans.{AreNameSpans}, Ranges.{AreAmong}, Spans.{span_in}};
 ghost use Rattle.sect_lint.specs.Places.{no_range};
-ghost use Rattle.sect_warnings.specs.Warnings.{IsDue, AreAtItems};
-ghost use Rattle.sect_warnings.specs.Reports.{ArePlaced, AreWithin};
+ghost use Rattle.sect_warnings.specs.{Warnings.{IsDue, AreAtItems}, Reports.{ArePlaced, AreWithin}};
 
 use crate::mark::{Kept, Mark, mark_of};
 use crate::placed::Placed;

@@ -1,7 +1,6 @@
 //! Warnings with their places.
 
-ghost use Rattle.std.specs.Prelude.{◌≡◌, ◌++◌, OnOk};
-ghost use Rattle.std.specs.String.{string_bytes};
+ghost use Rattle.std.specs.{Prelude.{◌≡◌, ◌++◌, OnOk}, String.{string_bytes}};
 ghost use Rattle.sect_warnings.specs.Placed.{behind};
 
 use crate::warning::Told;

@@ -1,11 +1,9 @@
 //! What a lock on a whole class means, and whether longer paths would spare a section it.
 
-ghost use Rattle.std.specs.Prelude.{◌≡◌, ◌++◌, List, ℕ, IfOk, IfSome, OnOk};
-ghost use Rattle.std.specs.String.{string_bytes};
+ghost use Rattle.std.specs.{Prelude.{◌≡◌, ◌++◌, List, ℕ, IfOk, IfSome, OnOk}, String.{string_bytes}};
 ghost use Rattle.sect_places.specs.NameSpans.{AreNameSpans};
 ghost use Rattle.sect_emit.specs.Compiled.{IsCompiledFrom};
-ghost use Rattle.sect_warnings.specs.ClassLocks.{class_lock};
-ghost use Rattle.sect_warnings.specs.Remedies.{IsClassNote, IsDeepSaid};
+ghost use Rattle.sect_warnings.specs.{ClassLocks.{class_lock}, Remedies.{IsClassNote, IsDeepSaid}};
 
 use crate::class_mark::ClassLock;
 use crate::hinting::put_hint;

@@ -1,8 +1,6 @@
 //! What is reported of warnings, for a reader.
 
-ghost use Rattle.std.specs.Prelude.{◌≡◌, ◌++◌, OnOk, IfOk, length, codes};
-ghost use Rattle.std.specs.List.{flat_map};
-ghost use Rattle.std.specs.Fmt.{decimal};
+ghost use Rattle.std.specs.{Prelude.{◌≡◌, ◌++◌, OnOk, IfOk, length, codes}, List.{flat_map}, Fmt.{decimal}};
 ghost use Rattle.std.specs.String.{string_bytes};
 ghost use Rattle.sect_front.specs.FaultPlaces.{IsWithin};
 ghost use Rattle.sect_warnings.specs.Titles.{title_of, told_of, told_title, doing as doing_by};

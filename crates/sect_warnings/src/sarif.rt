@@ -1,13 +1,12 @@
 //! Warnings as a log of SARIF 2.1.0.
 
-ghost use Rattle.std.specs.Prelude.{◌≡◌, map, IfOk, length};
-ghost use Rattle.std.specs.String.{string_bytes};
+ghost use Rattle.std.specs.{Prelude.{◌≡◌, map, IfOk, length}, String.{string_bytes}};
 ghost use Rattle.serde_json.specs.View.{view};
 ghost use Rattle.sect_front.specs.FaultPlaces.{IsWithin};
 ghost use Rattle.sect_lint.specs.Json.{list};
 ghost use Rattle.sect_warnings.specs.Reports.{AreWithin};
-ghost use Rattle.sect_warnings.specs.Sarif.{result_json, rule_json, finding_rule, spare_rule};
-ghost use Rattle.sect_warnings.specs.Sarif.{message_of as message_by, rules as rules_by, warnings_log as log_by};
+ghost use Rattle.sect_warnings.specs.Sarif.{result_json, rule_json, finding_rule, spare_rule, message_of as message_by};
+ghost use Rattle.sect_warnings.specs.Sarif.{rules as rules_by, warnings_log as log_by};
 
 use crate::placed::{Placed, put_behind};
 use crate::report::title;

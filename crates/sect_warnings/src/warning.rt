@@ -1,8 +1,8 @@
 //! What is worth a second look.
 
 ghost use Rattle.std.specs.Prelude.{◌≡◌};
-ghost use Rattle.sect_warnings.specs.Titles.{name_of, note_of, spare_name, spare_title, spare_note};
-ghost use Rattle.sect_warnings.specs.Titles.{told_name, told_note};
+ghost use Rattle.sect_warnings.specs.Titles.{name_of, note_of, spare_name, spare_title, spare_note, told_name};
+ghost use Rattle.sect_warnings.specs.Titles.{told_note};
 
 use sect_names::Effect;
 use sect_places::Thing;

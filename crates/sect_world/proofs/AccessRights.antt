@@ -4,30 +4,23 @@ use Rattle.std.proofs.Common.{false, ◌||◌, refl, sym, ap, ◌∙◌, append-
 use Rattle.sect_modes.specs.declared.mode.Mode.{Mode}
 use Rattle.sect_modes.specs.declared.mode.Mode.TheVariants.{IntentionShared, IntentionExclusive, Shared}
 use Rattle.sect_modes.specs.declared.mode.Mode.TheVariants.{SharedIntentionExclusive, Exclusive}
-use Rattle.sect_modes.specs.declared.key.Key.{Key}
-use Rattle.sect_modes.specs.declared.key.Key.TheVariants as key
-use Rattle.sect_modes.specs.Key.{is_same_key}
-use Rattle.sect_modes.specs.Mode.{is_reading}
+use Rattle.sect_modes.specs.{declared.key.Key.{Key}, Key.{is_same_key}, Mode.{is_reading}}
 use Rattle.sect_types.specs.declared.meaning.store.ObjectName.{ObjectName}
 use Rattle.sect_types.specs.declared.meaning.store.ObjectName.TheVariants.{Global, Made}
-use Rattle.sect_emit.specs.declared.plan.Grip.{Grip}
 use Rattle.sect_types.specs.Store.{ObjectView, StoreView, same_name, count, object_at}
 use Rattle.sect_types.specs.Meaning.{Change, Unchanged, Written, Added, after_change}
-use Rattle.sect_emit.specs.Plan.{grip, key_of, held_mode}
-use Rattle.sect_emit.specs.Compiled.{CompiledView}
-use Rattle.sect_world.specs.Events.{guard_at, fresh_grip, grips_of}
+use Rattle.sect_emit.specs.{declared.plan.Grip.{Grip}, Plan.{grip, key_of, held_mode}, Compiled.{CompiledView}}
 use Rattle.sect_emit.specs.ModeTests.{passes, is_reading_object, is_writing}
+use Rattle.sect_world.specs.Events.{guard_at, fresh_grip, grips_of}
 use Rattle.sect_world.specs.Held.{holds_all, class_mode_in, mode_of_class, is_held_at, is_held, guard_or}
 use Rattle.sect_world.specs.Held.{locked_object_at, locked_object, may_read, may_write, may_make_by}
-use Rattle.sect_lemmas.proofs.Booleans.{or_right}
-use Rattle.sect_emit.proofs.shared.Keys.{same_key}
-use Rattle.sect_emit.proofs.shared.PlanModes.{key_of-injective}
-use Rattle.sect_emit.proofs.shared.Grips.{held_more, held_one}
+use Rattle.sect_lemmas.proofs.{Booleans.{or_right}, Options.{mapped}}
+use Rattle.sect_emit.proofs.shared.{Keys.{same_key}, PlanModes.{key_of-injective}, Grips.{held_more, held_one}}
 use Rattle.sect_world.proofs.AllowedChanges.{IsAllowed, sites_stay}
-use Rattle.sect_lemmas.proofs.Options.{mapped}
-use Rattle.sect_types.proofs.shared.Stores.{same_name-true, same_name-eq}
 use Rattle.sect_world.proofs.StepChanges.{is_new, touches, object_at-after, site_stays, global_is_old}
 use Rattle.sect_world.proofs.Holding.{holds_same, holds_append, holding_grows}
+use Rattle.sect_types.proofs.shared.Stores.{same_name-true, same_name-eq}
+use Rattle.sect_modes.specs.declared.key.Key.TheVariants as key
 
 -- the site of an object, if it is there
 abbrev pub site_in : Option ObjectView → Option ℕ

@@ -1,24 +1,18 @@
 -- What a table that fits says of the state, and what its calls keep.
-use Rattle.std.proofs.Common.{◌≡◌, ◌≢◌, inl, inr, ℕ, zero, suc, ◌<◌, List, [], ◌∷◌, ◌++◌, length, map, true, false}
-use Rattle.std.proofs.Common.{not, Some, None, refl, sym, ◌∙◌, ap, subst, arith, append_assoc}
-use Rattle.std.specs.Prelude.{ℤ, slice_get, slice_index_or, slice_set, is_some, ◌==◌, ◌||◌}
-use Rattle.std.specs.List.{list_any}
-use Rattle.std.proofs.lemmas.Bool.{eqb-true, eq-eqb, and_parts, cases_Bool}
-use Rattle.std.proofs.lemmas.List.{append-nil}
+use Rattle.std.proofs.Common.{◌≡◌, ◌≢◌, inl, inr, ℕ, zero, suc, ◌<◌, List, [], ◌∷◌, ◌++◌, length, map, true, false, not}
+use Rattle.std.proofs.Common.{Some, None, refl, sym, ◌∙◌, ap, subst, arith, append_assoc}
+use Rattle.std.proofs.{lemmas.Bool.{eqb-true, eq-eqb, and_parts, cases_Bool}, lemmas.List.{append-nil}}
+use Rattle.std.specs.{Prelude.{ℤ, slice_get, slice_index_or, slice_set, is_some, ◌==◌, ◌||◌}, List.{list_any}}
 use Rattle.sect_lemmas.specs.Lists.{Has, put_at}
-use Rattle.sect_lemmas.proofs.Membership.{Has-cases, Has-right}
-use Rattle.sect_modes.specs.declared.mode.Mode.{Mode}
-use Rattle.sect_modes.specs.declared.key.Key.{Key}
-use Rattle.sect_modes.specs.Key.{is_same_key}
-use Rattle.sect_table.specs.declared.claims.Claim.{Claim}
-use Rattle.sect_table.specs.declared.claims.Hold.{Hold}
-use Rattle.sect_table.specs.declared.claims.Grant.{Grant}
+use Rattle.sect_lemmas.proofs.{Membership.{Has-cases, Has-right}, Options.{some_injective, none_or_some}}
+use Rattle.sect_lemmas.proofs.Replaced.{at-put_at}
+use Rattle.sect_modes.specs.{declared.mode.Mode.{Mode}, declared.key.Key.{Key}, Key.{is_same_key}}
+use Rattle.sect_table.specs.{declared.claims.Claim.{Claim}, declared.claims.Hold.{Hold}, declared.claims.Grant.{Grant}}
 use Rattle.sect_table.specs.declared.claims.Answer.TheVariants.{Granted, Queued}
 use Rattle.sect_table.specs.Contents.{Entry, Contents, Released, entry_of, put, mode_in, mode_for, stay, is_among}
 use Rattle.sect_table.specs.Contents.{is_waiting, may_join, held_by, first_of, with_holder, with_waiter, claim_of}
 use Rattle.sect_table.specs.Contents.{let_through, without_holder, grant_of, give, give_all, release_key, release_each}
-use Rattle.sect_table.specs.Contents.{released, AreApart}
-use Rattle.sect_table.specs.Answers.{IsAnswered}
+use Rattle.sect_table.specs.{Contents.{released, AreApart}, Answers.{IsAnswered}}
 use Rattle.sect_table.specs.Sound.{waits_of, AreEntriesApart, IsKept, IsFirstBlocked}
 use Rattle.sect_table.proofs.shared.Shown.{same_key, key_itself, entry_of-here, entry_of-later}
 use Rattle.sect_table.proofs.shared.Entries.{entry_key, entry-new, entry_of-put, entry_of-put_other}
@@ -26,17 +20,11 @@ use Rattle.sect_table.proofs.shared.Claiming.{apart_left, mode_for-here, mode_fo
 use Rattle.sect_table.proofs.shared.Claiming.{mode_for-stay_other, missing_stay, missing-claims_by}
 use Rattle.sect_table.proofs.shared.Sounding.{waits_at-le, waits_for_none}
 use Rattle.sect_types.specs.Store.{StoreView}
-use Rattle.sect_emit.specs.Plan.{held_mode}
-use Rattle.sect_emit.specs.Compiled.{CompiledView}
-use Rattle.sect_emit.specs.State.{Entered, ThreadState, State, IsThread}
-use Rattle.sect_world.specs.Events.{Happens}
-use Rattle.sect_world.specs.Runs.{RunsTo}
-use Rattle.sect_world.specs.Blocked.{WantsFirst, IsBlocked}
-use Rattle.sect_lemmas.proofs.Options.{some_injective, none_or_some}
-use Rattle.sect_lemmas.proofs.Replaced.{at-put_at}
+use Rattle.sect_emit.specs.{Plan.{held_mode}, Compiled.{CompiledView}, State.{Entered, ThreadState, State, IsThread}}
+use Rattle.sect_world.specs.{Events.{Happens}, Runs.{RunsTo}, Blocked.{WantsFirst, IsBlocked}}
 use Rattle.sect_world.specs.Waiting.{grips, Asks, AllWaitersAsk}
-use Rattle.sect_world.specs.steps.Fits.{Fits, FitsBut, granted, all_granted, take_of}
-use Rattle.sect_world.specs.steps.Fits.{takes, given_to, grants_at, grants_of, entries_left, takes_first}
+use Rattle.sect_world.specs.steps.Fits.{Fits, FitsBut, granted, all_granted, take_of, takes, given_to, grants_at}
+use Rattle.sect_world.specs.steps.Fits.{grants_of, entries_left, takes_first}
 use Rattle.sect_world.proofs.Claims.{held-grips, in_the_way, not_claiming, get-changed_other}
 use Rattle.sect_world.proofs.Letting.{take_happens, keys_let_in}
 

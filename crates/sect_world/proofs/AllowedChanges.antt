@@ -3,17 +3,14 @@ use Rattle.std.proofs.Common.{◌≡◌, ◌≢◌, ◌⊎◌, inl, inr, ℕ, �
 use Rattle.std.proofs.Common.{refl, sym, ap, ◌∙◌, subst}
 use Rattle.std.specs.Prelude.{⊤, if◌then◌else◌}
 use Rattle.sect_types.specs.declared.meaning.store.ObjectName.{ObjectName}
-use Rattle.sect_types.specs.declared.meaning.store.ObjectName.TheVariants as object
-use Rattle.sect_emit.specs.declared.plan.Grip.{Grip}
 use Rattle.sect_types.specs.Store.{ObjectView, StoreView, same_name, object_at, count, with_field, write}
 use Rattle.sect_types.specs.Meaning.{Change, Unchanged, Written, Added, after_change}
-use Rattle.sect_emit.specs.Compiled.{CompiledView}
-use Rattle.sect_world.specs.Held.{may_write, may_make, Access, Storing, Making, may}
-use Rattle.sect_world.specs.Accesses.{Asks}
+use Rattle.sect_emit.specs.{declared.plan.Grip.{Grip}, Compiled.{CompiledView}, Pointed.{ObjectsStay}}
+use Rattle.sect_world.specs.{Held.{may_write, may_make, Access, Storing, Making, may}, Accesses.{Asks}}
 use Rattle.sect_lemmas.proofs.Options.{mapped}
 use Rattle.sect_types.proofs.shared.Stores.{object_at-write, object_at-add, same_name-true}
 use Rattle.sect_emit.proofs.shared.Pointing.{none_made}
-use Rattle.sect_emit.specs.Pointed.{ObjectsStay}
+use Rattle.sect_types.specs.declared.meaning.store.ObjectName.TheVariants as object
 
 -- the change by thread t writes no object of this name and adds none
 abbrev pub LeavesAlone : ℕ → StoreView → Change → ObjectName → Type 0

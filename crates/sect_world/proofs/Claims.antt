@@ -1,28 +1,19 @@
 -- Small facts on holds, claims and threads.
 use Rattle.std.proofs.Common.{◌≡◌, ◌≢◌, ◌⊎◌, inl, inr, ℕ, zero, suc, List, [], ◌∷◌, ◌++◌, Bool, true, false, not}
 use Rattle.std.proofs.Common.{Option, Some, None, refl, sym, ◌∙◌, ap, subst, arith}
-use Rattle.std.specs.Prelude.{slice_get, ◌==◌, ◌||◌, ◌&&◌, if◌then◌else◌}
-use Rattle.std.specs.List.{list_all}
 use Rattle.std.proofs.lemmas.Bool.{eqb-true, eq-eqb, and_parts, cases_Bool}
-use Rattle.sect_lemmas.specs.Lists.{Has, changed_at}
-use Rattle.sect_modes.specs.declared.mode.Mode.{Mode}
-use Rattle.sect_modes.specs.declared.key.Key.{Key}
-use Rattle.sect_modes.specs.Key.{is_same_key}
+use Rattle.std.specs.{Prelude.{slice_get, ◌==◌, ◌||◌, ◌&&◌, if◌then◌else◌}, List.{list_all}}
+use Rattle.sect_lemmas.specs.{Lists.{Has, changed_at}, Numbers.{same_number}}
+use Rattle.sect_modes.specs.{declared.mode.Mode.{Mode}, declared.key.Key.{Key}, Key.{is_same_key}}
 use Rattle.sect_modes.specs.Mode.{are_compatible}
-use Rattle.sect_table.specs.declared.claims.Claim.{Claim}
-use Rattle.sect_table.specs.declared.claims.Hold.{Hold}
+use Rattle.sect_table.specs.{declared.claims.Claim.{Claim}, declared.claims.Hold.{Hold}}
 use Rattle.sect_table.specs.Contents.{mode_in, mode_for, may_join, is_among, stay}
 use Rattle.sect_table.proofs.shared.Shown.{key_itself, same_key as key_of_test}
-use Rattle.sect_table.proofs.shared.Claiming.{true_or_false, mode_in-here, mode_in-later, mode_for-here}
-use Rattle.sect_table.proofs.shared.Claiming.{mode_for-later}
-use Rattle.sect_emit.specs.declared.plan.Grip.{Grip}
-use Rattle.sect_lemmas.specs.Numbers.{same_number}
-use Rattle.sect_emit.specs.Plan.{grip, held_mode}
-use Rattle.sect_world.specs.Events.{all_but, lets}
+use Rattle.sect_table.proofs.shared.Claiming.{true_or_false, mode_in-here, mode_in-later, mode_for-here, mode_for-later}
+use Rattle.sect_emit.specs.{declared.plan.Grip.{Grip}, Plan.{grip, held_mode}}
+use Rattle.sect_world.specs.{Events.{all_but, lets}, Waiting.{grips}}
 use Rattle.sect_lemmas.proofs.Options.{some_injective, none_or_some, mapped}
-use Rattle.sect_lemmas.proofs.Replaced.{get-changed_at, same_number-true, same_number-refl}
-use Rattle.sect_world.specs.Waiting.{grips}
-use Rattle.sect_lemmas.proofs.Booleans.{neither}
+use Rattle.sect_lemmas.proofs.{Replaced.{get-changed_at, same_number-true, same_number-refl}, Booleans.{neither}}
 
 -- keys, the other way
 pub other_key : (a b : Key) → is_same_key a b ≡ false → is_same_key b a ≡ false

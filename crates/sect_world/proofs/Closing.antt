@@ -1,13 +1,9 @@
 -- All that the serial meaning stands on holds of compiled programs.
 use Rattle.sect_emit.specs.Compiled.{CompiledView, IsCompiled}
-use Rattle.sect_world.specs.Laws.{EveryRunIsSerial}
-use Rattle.sect_world.specs.Excluding.{ReadersAndWritersExclude}
-use Rattle.sect_world.proofs.Tidy.{StatesAreTidy}
+use Rattle.sect_world.specs.{Laws.{EveryRunIsSerial}, Excluding.{ReadersAndWritersExclude}}
 use Rattle.sect_world.specs.SerialFacts.{OnlySectionsDiffer, SectionsAreReplayed}
-use Rattle.sect_world.proofs.KeptStates.{runs_are_well_kept}
-use Rattle.sect_world.proofs.Tidy.{well_kept_is_tidy}
-use Rattle.sect_world.proofs.Excluding.{readers_and_writers_exclude}
-use Rattle.sect_world.proofs.GoodRuns.{runs_are_good, accesses_are_held}
+use Rattle.sect_world.proofs.{Tidy.{StatesAreTidy, well_kept_is_tidy}, KeptStates.{runs_are_well_kept}}
+use Rattle.sect_world.proofs.{Excluding.{readers_and_writers_exclude}, GoodRuns.{runs_are_good, accesses_are_held}}
 use Rattle.sect_world.proofs.Serializing.{only_sections_differ, sections_are_replayed, every_run_is_serial}
 
 -- each state of a run is tidy

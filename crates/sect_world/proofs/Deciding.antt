@@ -1,31 +1,22 @@
 -- What may happen, tested: `after` gives the state that an event leads to, where it is enabled.
 -- Only `EventRows`, which tests definitions, cites it.
 use Rattle.std.proofs.Common.{◌≡◌, ℕ, Bool, true, false, refl, sym, ap, ◌∙◌, List, [], ◌∷◌, Option, Some, None}
-use Rattle.std.proofs.Common.{true≢false}
+use Rattle.std.proofs.{Common.{true≢false}, lemmas.Bool.{and_parts, and_from}}
 use Rattle.std.specs.Prelude.{◌&&◌, slice_get, if◌then◌else◌}
-use Rattle.sect_types.specs.Statements.{TextView, Stop, Section}
-use Rattle.sect_modes.specs.declared.mode.Mode.{Mode}
-use Rattle.sect_modes.specs.declared.mode.Mode.TheVariants as mode
-use Rattle.sect_modes.specs.declared.key.Key.{Key}
-use Rattle.sect_modes.specs.Key.{is_same_key}
-use Rattle.sect_types.specs.declared.meaning.store.Fault.{Fault}
-use Rattle.sect_types.specs.declared.meaning.store.End.{End}
-use Rattle.sect_emit.specs.declared.plan.Grip.{Grip}
+use Rattle.sect_types.specs.{Statements.{TextView, Stop, Section}, declared.meaning.store.Fault.{Fault}}
+use Rattle.sect_types.specs.{declared.meaning.store.End.{End}, Meaning.{begins_step}, Whole.{local_step}}
+use Rattle.sect_modes.specs.{declared.mode.Mode.{Mode}, declared.key.Key.{Key}, Key.{is_same_key}}
+use Rattle.sect_emit.specs.{declared.plan.Grip.{Grip}, Plan.{grip, meets}, Compiled.{CompiledView, program_of}}
+use Rattle.sect_emit.specs.State.{Position, Outside, Entered, Running, Faulted, ThreadState, State, plan_at}
+use Rattle.sect_emit.specs.State.{with_thread}
 use Rattle.sect_world.specs.declared.event.Deed.{Deed}
 use Rattle.sect_world.specs.declared.event.Deed.TheVariants.{Local, Enter, Take, Begin, Again, Act, Leave}
 use Rattle.sect_world.specs.declared.event.Event.{Event}
-use Rattle.sect_types.specs.Meaning.{begins_step}
-use Rattle.sect_types.specs.Whole.{local_step}
-use Rattle.sect_emit.specs.Plan.{grip, meets}
-use Rattle.sect_emit.specs.Compiled.{CompiledView, program_of}
-use Rattle.sect_emit.specs.State.{Position, Outside, Entered, Running, Faulted, ThreadState, State, plan_at}
-use Rattle.sect_emit.specs.State.{with_thread}
 use Rattle.sect_world.specs.Events.{all_but, lets_in, IsOver, entering, taking, beginning, giving_back, with_frame}
-use Rattle.sect_world.specs.Events.{after_act, after_leave, step_in, MayDo, Happens}
-use Rattle.sect_world.specs.Runs.{RunsTo}
+use Rattle.sect_world.specs.{Events.{after_act, after_leave, step_in, MayDo, Happens}, Runs.{RunsTo}}
 use Rattle.sect_lemmas.proofs.Options.{some_injective, none_or_some}
 use Rattle.sect_emit.proofs.shared.Keys.{same_key, key_itself}
-use Rattle.std.proofs.lemmas.Bool.{and_parts, and_from}
+use Rattle.sect_modes.specs.declared.mode.Mode.TheVariants as mode
 
 abbrev same_mode : Mode → Mode → Bool
 same_mode mode.IntentionShared mode.IntentionShared = true

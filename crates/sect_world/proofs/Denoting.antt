@@ -1,12 +1,11 @@
 -- A path denotes the same in two stores that agree on its beginnings.
 use Rattle.std.proofs.Common.{◌≡◌, inl, inr, List, refl, ap, ◌∙◌}
-use Rattle.sect_types.specs.declared.expansion.action.Field.{Field}
-use Rattle.sect_points.specs.Paths.{PathView, var, dot}
-use Rattle.sect_names.specs.Along.{GoesBy}
-use Rattle.sect_types.specs.declared.meaning.store.ObjectName.{ObjectName}
+use Rattle.sect_types.specs.{declared.expansion.action.Field.{Field}, declared.meaning.store.ObjectName.{ObjectName}}
 use Rattle.sect_types.specs.declared.meaning.store.Datum.{Datum}
 use Rattle.sect_types.specs.declared.meaning.store.Datum.TheVariants.{Number, Null, Refers}
 use Rattle.sect_types.specs.Store.{StoreView, object_at}
+use Rattle.sect_points.specs.Paths.{PathView, var, dot}
+use Rattle.sect_names.specs.Along.{GoesBy}
 use Rattle.sect_emit.specs.Plan.{field_datum, field_of, path_datum}
 
 -- a path denotes the same in two stores where its beginnings denote the same objects

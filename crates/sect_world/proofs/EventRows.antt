@@ -2,37 +2,29 @@
 -- Nothing cites this: it tests definitions.
 use Rattle.std.proofs.Common.{◌≡◌, ℕ, List, [], ◌∷◌, ◌++◌, Option, Some, None, true, false, refl, arith, Bool}
 use Rattle.std.specs.Prelude.{map, slice_get}
-use Rattle.sect_types.specs.declared.declarations.types.ValueType.TheVariants.{Int}
-use Rattle.sect_modes.specs.declared.mode.Mode.TheVariants as mode
-use Rattle.sect_modes.specs.declared.key.Key.TheVariants as key
-use Rattle.sect_types.specs.Programs.{ProgramView}
-use Rattle.sect_points.specs.declared.holders.Variable.TheVariants as variable
-use Rattle.sect_points.specs.Paths.{PathView, var, dot}
-use Rattle.sect_names.specs.declared.lock.Effect.TheVariants as effect
-use Rattle.sect_names.specs.declared.lock.Right.TheVariants as right
-use Rattle.sect_names.specs.declared.lock.Lock.{Lock}
-use Rattle.sect_names.specs.declared.lock.Lock.TheVariants as lock
+use Rattle.sect_types.specs.{declared.declarations.types.ValueType.TheVariants.{Int}, Programs.{ProgramView}}
 use Rattle.sect_types.specs.declared.meaning.store.ObjectName.TheVariants.{Global, Made}
 use Rattle.sect_types.specs.declared.meaning.store.Datum.TheVariants.{Null, Refers}
-use Rattle.sect_types.specs.declared.meaning.store.Fault.TheVariants as fault
-use Rattle.sect_types.specs.declared.meaning.store.End.TheVariants.{Done, Failed}
-use Rattle.sect_emit.specs.declared.plan.Grip.{Grip}
+use Rattle.sect_types.specs.{declared.meaning.store.End.TheVariants.{Done, Failed}, Store.{StoreView}}
+use Rattle.sect_types.specs.Whole.{SerialEndView}
+use Rattle.sect_points.specs.Paths.{PathView, var, dot}
+use Rattle.sect_names.specs.declared.lock.Lock.{Lock}
+use Rattle.sect_emit.specs.{declared.plan.Grip.{Grip}, Plan.{grip, gathered, IsFixedPart}, Compiled.{CompiledView}}
+use Rattle.sect_emit.specs.State.{State, ThreadState, IsThread, start}
 use Rattle.sect_world.specs.declared.event.Deed.{Deed}
 use Rattle.sect_world.specs.declared.event.Deed.TheVariants.{Local, Enter, Take, Begin, Again, Act, Leave}
-use Rattle.sect_world.specs.declared.event.Event.{Event}
-use Rattle.sect_types.specs.Store.{StoreView}
-use Rattle.sect_types.specs.Whole.{SerialEndView}
-use Rattle.sect_emit.specs.Plan.{grip, gathered, IsFixedPart}
-use Rattle.sect_emit.specs.Compiled.{CompiledView}
-use Rattle.sect_emit.specs.State.{State, ThreadState, IsThread, start}
-use Rattle.sect_world.specs.Runs.{IsRun, IsComplete, order_of}
-use Rattle.sect_world.specs.Blocked.{IsBlocked}
+use Rattle.sect_world.specs.{declared.event.Event.{Event}, Runs.{IsRun, IsComplete, order_of}, Blocked.{IsBlocked}}
 use Rattle.sect_world.specs.Held.{may_read, may_write, may_make}
 use Rattle.sect_world.proofs.Deciding.{ran, ran_sound, after}
-use Rattle.sect_types.proofs.shared.ProgramTexts.{numbered, two_bumps, sum_and_push, null_after_write}
-use Rattle.sect_types.proofs.shared.ProgramTexts.{one_object_twice}
-use Rattle.sect_types.proofs.shared.ProgramTexts.{read_behind, turned_back, link}
-use Rattle.sect_types.proofs.shared.WholeRows.{int, object, ending}
+use Rattle.sect_types.proofs.shared.ProgramTexts.{numbered, two_bumps, sum_and_push, null_after_write, one_object_twice}
+use Rattle.sect_types.proofs.shared.{ProgramTexts.{read_behind, turned_back, link}, WholeRows.{int, object, ending}}
+use Rattle.sect_modes.specs.declared.mode.Mode.TheVariants as mode
+use Rattle.sect_modes.specs.declared.key.Key.TheVariants as key
+use Rattle.sect_points.specs.declared.holders.Variable.TheVariants as variable
+use Rattle.sect_names.specs.declared.lock.Effect.TheVariants as effect
+use Rattle.sect_names.specs.declared.lock.Right.TheVariants as right
+use Rattle.sect_names.specs.declared.lock.Lock.TheVariants as lock
+use Rattle.sect_types.specs.declared.meaning.store.Fault.TheVariants as fault
 
 abbrev compiled : ProgramView → List ℕ → List (Option ℕ) → List (List Lock) → List (List Grip) → CompiledView
 compiled p numbers guards sets parts = record {

@@ -1,22 +1,17 @@
 -- Readers and writers keep apart: of two threads none may read what the other may write.
 use Rattle.std.proofs.Common.{◌≡◌, ◌≢◌, inl, inr, ℕ, List, true, Option, Some, None, sym, ◌∙◌, subst, Bool}
 use Rattle.std.specs.Prelude.{slice_get}
-use Rattle.sect_modes.specs.declared.mode.Mode.{Mode}
-use Rattle.sect_modes.specs.declared.key.Key.{Key}
-use Rattle.sect_modes.specs.declared.key.Key.TheVariants as key
+use Rattle.sect_modes.specs.{declared.mode.Mode.{Mode}, declared.key.Key.{Key}}
 use Rattle.sect_modes.specs.Mode.{are_compatible, is_at_least, intention_of, is_reading, is_making}
-use Rattle.sect_types.specs.declared.meaning.store.ObjectName.{ObjectName}
-use Rattle.sect_emit.specs.declared.plan.Grip.{Grip}
-use Rattle.sect_types.specs.Store.{ObjectView, StoreView, object_at}
-use Rattle.sect_emit.specs.Plan.{key_of, held_mode}
-use Rattle.sect_emit.specs.Compiled.{CompiledView}
-use Rattle.sect_emit.specs.State.{ThreadState, State, IsThread}
-use Rattle.sect_emit.specs.ModeTests.{is_reading_object, is_writing}
+use Rattle.sect_types.specs.{declared.meaning.store.ObjectName.{ObjectName}, Store.{ObjectView, StoreView, object_at}}
+use Rattle.sect_emit.specs.{declared.plan.Grip.{Grip}, Plan.{key_of, held_mode}, Compiled.{CompiledView}}
+use Rattle.sect_emit.specs.{State.{ThreadState, State, IsThread}, ModeTests.{is_reading_object, is_writing}}
 use Rattle.sect_world.specs.Held.{holds_all, class_mode_in, mode_of_class, locked_object, may_read, may_write}
 use Rattle.sect_world.specs.Kept.{HaveTheirClass, IsWellKept}
 use Rattle.sect_emit.proofs.shared.Modes.{writing_is, sharing_turned, apart_from_writing, apart_from_making}
 use Rattle.sect_emit.proofs.shared.PlanModes.{key_of-injective, class_or_object, all_or_object}
 use Rattle.sect_world.proofs.Holding.{passes_in, IsHeldPart, IsHeldBy, held_is, class_is}
+use Rattle.sect_modes.specs.declared.key.Key.TheVariants as key
 
 -- who holds an object or its class holds `all` in some mode
 all_in : (c : CompiledView) (s : StoreView) (held : List Grip) → HaveTheirClass c s held

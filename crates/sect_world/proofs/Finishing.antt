@@ -1,23 +1,15 @@
 -- How the threads of a world have ended.
 use Rattle.std.proofs.Common.{◌≡◌, ℕ, zero, suc, List, [], ◌∷◌, length, map, true, Option, Some, None, refl, sym, ◌∙◌}
-use Rattle.std.proofs.Common.{ap, subst, arith, false, Bool}
-use Rattle.std.specs.Prelude.{slice_get}
-use Rattle.std.specs.List.{list_all}
-use Rattle.sect_types.specs.declared.meaning.store.End.{End}
-use Rattle.sect_types.specs.Statements.{TextView}
+use Rattle.std.proofs.{Common.{ap, subst, arith, false, Bool}, lemmas.Bool.{and_parts, and_from}}
+use Rattle.std.specs.{Prelude.{slice_get}, List.{list_all}}
+use Rattle.sect_types.specs.{declared.meaning.store.End.{End}, Statements.{TextView}}
 use Rattle.sect_types.specs.Whole.{SerialEndView, RunsWhole, has_ended}
 use Rattle.sect_lemmas.proofs.Options.{some_injective, none_or_some}
 use Rattle.sect_table.specs.declared.claims.Hold.{Hold}
-use Rattle.sect_emit.specs.Compiled.{CompiledView, IsCompiled, program_of}
-use Rattle.sect_emit.specs.State.{ThreadState, State}
-use Rattle.sect_world.specs.declared.event.Event.{Event}
-use Rattle.sect_world.specs.declared.runner.Runner.{Runner}
-use Rattle.sect_world.specs.Runs.{IsRun, IsComplete, order_of}
-use Rattle.sect_world.specs.Worlds.{AllEnded}
-use Rattle.sect_world.specs.Viewing.{threads_of}
-use Rattle.sect_world.proofs.Closing.{runs_are_serial}
-use Rattle.sect_world.proofs.Viewing.{seen, seen_at}
-use Rattle.std.proofs.lemmas.Bool.{and_parts, and_from}
+use Rattle.sect_emit.specs.{Compiled.{CompiledView, IsCompiled, program_of}, State.{ThreadState, State}}
+use Rattle.sect_world.specs.{declared.event.Event.{Event}, declared.runner.Runner.{Runner}}
+use Rattle.sect_world.specs.{Runs.{IsRun, IsComplete, order_of}, Worlds.{AllEnded}, Viewing.{threads_of}}
+use Rattle.sect_world.proofs.{Closing.{runs_are_serial}, Viewing.{seen, seen_at}}
 
 -- how the runners have ended is how the threads have
 pub runners_end : (c : CompiledView) (texts : List TextView) (rs : List Runner) (held : List (List Hold))

@@ -1,43 +1,32 @@
 -- The serial store follows each event.
 use Rattle.std.proofs.Common.{true≢false, ◌≡◌, ◌≢◌, ℕ, ◌<◌, ◌++◌, List, length, Option, Some, None, Bool, true, false}
 use Rattle.std.proofs.Common.{refl, sym, ap, ◌∙◌, subst, append-nil, slice_get}
-use Rattle.sect_types.specs.Statements.{TextView, Section}
-use Rattle.sect_types.specs.declared.meaning.store.ObjectName.{ObjectName}
-use Rattle.sect_types.specs.declared.meaning.store.ObjectName.TheVariants.{Made}
-use Rattle.sect_types.specs.declared.meaning.store.Fault.{Fault}
-use Rattle.sect_emit.specs.declared.plan.Grip.{Grip}
-use Rattle.sect_modes.specs.declared.mode.Mode.{Mode}
-use Rattle.sect_modes.specs.declared.key.Key.{Key}
-use Rattle.sect_modes.specs.declared.key.Key.TheVariants as key
-use Rattle.sect_modes.specs.Mode.{is_reading}
+use Rattle.sect_types.specs.{Statements.{TextView, Section}, declared.meaning.store.ObjectName.{ObjectName}}
+use Rattle.sect_types.specs.{declared.meaning.store.ObjectName.TheVariants.{Made}, declared.meaning.store.Fault.{Fault}}
 use Rattle.sect_types.specs.Store.{ObjectView, StoreView, count, object_at}
-use Rattle.sect_lemmas.specs.Lists.{put_at}
 use Rattle.sect_types.specs.Meaning.{Change, Unchanged, after_change, found_at, Next, On, Off, looks, begins_step}
 use Rattle.sect_types.specs.Whole.{FrameView, ahead, local_step, RunView, after_section, section_in, section_of_thread}
 use Rattle.sect_types.specs.Whole.{run_section}
-use Rattle.sect_emit.specs.Compiled.{CompiledView, program_of}
+use Rattle.sect_emit.specs.{declared.plan.Grip.{Grip}, Compiled.{CompiledView, program_of}}
 use Rattle.sect_emit.specs.State.{Position, Outside, Entered, Running, Faulted, ThreadState, State, IsThread}
-use Rattle.sect_emit.specs.State.{with_thread}
-use Rattle.sect_emit.specs.Plan.{held_mode}
+use Rattle.sect_emit.specs.{State.{with_thread}, Plan.{held_mode}, ModeTests.{is_writing, is_reading_object}}
+use Rattle.sect_modes.specs.{declared.mode.Mode.{Mode}, declared.key.Key.{Key}, Mode.{is_reading}}
+use Rattle.sect_lemmas.specs.Lists.{put_at}
 use Rattle.sect_world.specs.Events.{grips_of, IsFree, IsReady, IsOver, entering, taking, beginning, giving_back}
 use Rattle.sect_world.specs.Events.{with_frame, acting, changed_by, after_act, frame_out, after_leave, step_in}
-use Rattle.sect_emit.specs.ModeTests.{is_writing, is_reading_object}
 use Rattle.sect_world.specs.Held.{may_read, may_write, Access, next_access, may, HoldsEnough}
-use Rattle.sect_world.specs.Excluding.{IsInSection, Excludes}
+use Rattle.sect_world.specs.{Excluding.{IsInSection, Excludes}, Replay.{NobodyWrites}, Accesses.{change_in, Asks}}
 use Rattle.sect_world.proofs.Tidy.{IsTidy}
-use Rattle.sect_world.specs.Replay.{NobodyWrites}
 use Rattle.sect_world.proofs.SerialFrames.{Agrees, Replayed, IsApart, IsBefore, IsInside, Follows, HasFrame, Serializes}
-use Rattle.sect_types.proofs.shared.Stores.{next_is_free}
-use Rattle.sect_types.proofs.shared.RunningAhead.{ahead_standing, ahead_after_local}
-use Rattle.sect_world.specs.Accesses.{change_in, Asks}
 use Rattle.sect_world.proofs.StepChanges.{touches, object_at-after, count-after_other, rows-after, untouched}
-use Rattle.sect_world.proofs.StepChanges.{change_is_asked}
-use Rattle.sect_world.proofs.AllowedChanges.{IsAllowed, asked_is_allowed}
+use Rattle.sect_world.proofs.{StepChanges.{change_is_asked}, AllowedChanges.{IsAllowed, asked_is_allowed}}
 use Rattle.sect_world.proofs.AccessRights.{own_grows, other_grows, writers_read, touched_is_written}
-use Rattle.sect_lemmas.proofs.Replaced.{put_same, put_other, each_put, each_before, length-put_at}
-use Rattle.sect_lemmas.proofs.Options.{some_injective}
 use Rattle.sect_world.proofs.Replaying.{still_left, left_at, replay_keeps, not_before, agrees_before, own_step}
 use Rattle.sect_world.proofs.Replaying.{others_step}
+use Rattle.sect_types.proofs.shared.{Stores.{next_is_free}, RunningAhead.{ahead_standing, ahead_after_local}}
+use Rattle.sect_lemmas.proofs.Replaced.{put_same, put_other, each_put, each_before, length-put_at}
+use Rattle.sect_lemmas.proofs.Options.{some_injective}
+use Rattle.sect_modes.specs.declared.key.Key.TheVariants as key
 
 -- not in a section
 abbrev pub IsOut : Position → Type 0

@@ -2,42 +2,32 @@
 use Rattle.std.proofs.Common.{◌≡◌, ◌<◌, [], ℕ, zero, suc, Bool, true, false, List, Option, Some, None, Result, Ok, Err}
 use Rattle.std.proofs.Common.{OnOk, refl, sym, ap, ◌∙◌, subst, arith}
 use Rattle.std.specs.Prelude.{option_map, if◌then◌else◌, ℤ}
-use Rattle.sect_types.specs.declared.expansion.action.Action.{Action}
-use Rattle.sect_types.specs.declared.expansion.action.Action.TheVariants as action
-use Rattle.sect_types.specs.declared.expansion.action.Condition.{Condition}
+use Rattle.sect_types.specs.{declared.expansion.action.Action.{Action}, declared.expansion.action.Condition.{Condition}}
 use Rattle.sect_types.specs.declared.expansion.action.Label.TheVariants.{Act, Test, Section as WholeSection}
 use Rattle.sect_types.specs.declared.meaning.store.ObjectName.{ObjectName}
 use Rattle.sect_types.specs.declared.meaning.store.ObjectName.TheVariants.{Made}
-use Rattle.sect_types.specs.Statements.{TextView, Stop, Do, Choose, Loop, Section}
-use Rattle.sect_types.specs.Programs.{ProgramView}
-use Rattle.sect_types.specs.Store.{ObjectView, StoreView, add}
-use Rattle.sect_types.specs.declared.meaning.store.Datum.TheVariants.{Number}
-use Rattle.sect_types.specs.declared.meaning.store.Fault.TheVariants as fault
+use Rattle.sect_types.specs.{Statements.{TextView, Stop, Do, Choose, Loop, Section}, Programs.{ProgramView}}
+use Rattle.sect_types.specs.{Store.{ObjectView, StoreView, add}, declared.meaning.store.Datum.TheVariants.{Number}}
 use Rattle.sect_types.specs.Meaning.{WorkView, Came, Went, Fell, Unchanged, Added, assigned, On, done, paid, one, going}
 use Rattle.sect_types.specs.Meaning.{taken, next, looked, looks, found_at, fits, computed, stored, result_of}
 use Rattle.sect_types.specs.Meaning.{integer_of, value_datum, base_datum, name_in}
 use Rattle.sect_lemmas.proofs.Options.{some_injective}
-use Rattle.sect_graph.specs.declared.flow.Node.{Node}
-use Rattle.sect_graph.specs.declared.flow.Successors.{Successors}
-use Rattle.sect_graph.specs.declared.flow.Successors.TheVariants.{Next as To}
-use Rattle.sect_graph.specs.Rests.{Begins}
+use Rattle.sect_graph.specs.{declared.flow.Node.{Node}, declared.flow.Successors.{Successors}}
+use Rattle.sect_graph.specs.{declared.flow.Successors.TheVariants.{Next as To}, Rests.{Begins}}
 use Rattle.sect_names.specs.Schemes.{guard_of}
 use Rattle.sect_names.proofs.shared.Placing.{statement_sited}
 use Rattle.sect_points.specs.Statements.{thread_action}
 use Rattle.sect_modes.specs.declared.mode.Mode.TheVariants.{Exclusive}
-use Rattle.sect_table.specs.declared.claims.Answer.TheVariants.{Granted}
-use Rattle.sect_table.specs.Contents.{Contents}
-use Rattle.sect_table.specs.Answers.{IsAnswered}
+use Rattle.sect_table.specs.{declared.claims.Answer.TheVariants.{Granted}, Contents.{Contents}, Answers.{IsAnswered}}
 use Rattle.sect_table.specs.Sound.{IsKept}
-use Rattle.sect_emit.specs.declared.plan.Grip.{Grip}
-use Rattle.sect_emit.specs.Plan.{key_of}
-use Rattle.sect_emit.specs.Compiled.{CompiledView, IsCompiled, program_of}
+use Rattle.sect_emit.specs.{declared.plan.Grip.{Grip}, Plan.{key_of}, Compiled.{CompiledView, IsCompiled, program_of}}
 use Rattle.sect_emit.proofs.shared.TypedPrograms.{typed_program}
-use Rattle.sect_world.specs.Events.{guard_at, fresh_grip, grips_of, step_in}
-use Rattle.sect_world.specs.Kept.{IsTextOf}
+use Rattle.sect_world.specs.{Events.{guard_at, fresh_grip, grips_of, step_in}, Kept.{IsTextOf}}
 use Rattle.sect_world.specs.declared.inside.Making.{Making}
 use Rattle.sect_world.specs.steps.Moves.{Goes, GivesKey, HoldsMore, chosen, grips_by, object_by}
 use Rattle.sect_world.proofs.MetPlans.{guard_of_site}
+use Rattle.sect_types.specs.declared.expansion.action.Action.TheVariants as action
+use Rattle.sect_types.specs.declared.meaning.store.Fault.TheVariants as fault
 
 -- a node that does a statement begins statements with it
 pub record BeginsWith (rest : ℕ → TextView) (x : Node) (a : Action) (k : TextView) : Type 0 where

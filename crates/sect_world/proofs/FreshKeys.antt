@@ -2,20 +2,16 @@
 use Rattle.std.proofs.Common.{◌≡◌, ℕ, List, [], ◌∷◌, length, Option, Some, None, refl, sym, ◌∙◌, ap}
 use Rattle.std.specs.Prelude.{slice_get}
 use Rattle.sect_modes.specs.declared.mode.Mode.{Mode}
-use Rattle.sect_table.specs.Contents.{Contents, entry_of}
-use Rattle.sect_table.specs.Sound.{IsKept}
-use Rattle.sect_emit.specs.declared.plan.Grip.{Grip}
+use Rattle.sect_table.specs.{Contents.{Contents, entry_of}, Sound.{IsKept}}
+use Rattle.sect_emit.specs.{declared.plan.Grip.{Grip}, Plan.{grip, key_of, held_mode}, Compiled.{CompiledView}}
+use Rattle.sect_emit.specs.State.{State}
 use Rattle.sect_types.specs.declared.meaning.store.ObjectName.TheVariants.{Made}
 use Rattle.sect_types.specs.Store.{ObjectView, StoreView, row, count}
-use Rattle.sect_emit.specs.Plan.{grip, key_of, held_mode}
-use Rattle.sect_emit.specs.Compiled.{CompiledView}
-use Rattle.sect_emit.specs.State.{State}
 use Rattle.sect_world.specs.Kept.{AreGripsKept, IsWellKept}
 use Rattle.sect_lemmas.proofs.Options.{none_or_some}
 use Rattle.sect_table.proofs.shared.Shown.{key_itself}
 use Rattle.sect_world.specs.steps.Fits.{Fits}
-use Rattle.sect_world.proofs.Claims.{held-here}
-use Rattle.sect_world.proofs.Agreeing.{nobody_claims}
+use Rattle.sect_world.proofs.{Claims.{held-here}, Agreeing.{nobody_claims}}
 
 past_last : (xs : List ObjectView) → slice_get xs (length xs) ≡ None
 past_last [] = refl

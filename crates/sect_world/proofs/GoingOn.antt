@@ -1,29 +1,20 @@
 -- While some thread hasn't ended, some event is enabled.
 use Rattle.std.proofs.Common.{◌≡◌, ◌≢◌, ℕ, zero, suc, Bool, true, false, refl, sym, ap, subst, ◌⊎◌, inl, inr, ⊎_elim}
 use Rattle.std.proofs.Common.{List, [], ◌∷◌, Option, Some, None, true≢false}
-use Rattle.std.specs.Prelude.{slice_get, ◌&&◌}
-use Rattle.std.specs.List.{list_all}
-use Rattle.sect_types.specs.Statements.{TextView, Stop, Do, Choose, Loop, Section}
-use Rattle.sect_types.specs.Programs.{environment_at}
-use Rattle.sect_types.specs.Sound.{IsSound}
-use Rattle.sect_modes.specs.declared.mode.Mode.{Mode}
-use Rattle.sect_modes.specs.declared.key.Key.{Key}
-use Rattle.sect_types.specs.declared.meaning.store.End.{End}
-use Rattle.sect_emit.specs.declared.plan.Grip.{Grip}
-use Rattle.sect_world.specs.declared.event.Deed.{Deed}
-use Rattle.sect_world.specs.declared.event.Deed.TheVariants.{Local, Enter, Take, Begin, Again, Act, Leave}
-use Rattle.sect_types.specs.Meaning.{begins_step}
+use Rattle.std.specs.{Prelude.{slice_get, ◌&&◌}, List.{list_all}}
+use Rattle.sect_types.specs.{Statements.{TextView, Stop, Do, Choose, Loop, Section}, Programs.{environment_at}}
+use Rattle.sect_types.specs.{Sound.{IsSound}, declared.meaning.store.End.{End}, Meaning.{begins_step}}
 use Rattle.sect_types.specs.Whole.{has_ended}
-use Rattle.sect_emit.specs.Plan.{grip, held_mode, meets}
+use Rattle.sect_modes.specs.{declared.mode.Mode.{Mode}, declared.key.Key.{Key}}
+use Rattle.sect_emit.specs.{declared.plan.Grip.{Grip}, Plan.{grip, held_mode, meets}}
 use Rattle.sect_emit.specs.Compiled.{CompiledView, IsCompiled, program_of}
 use Rattle.sect_emit.specs.State.{Position, Outside, Entered, Running, Faulted, ThreadState, State, IsThread, plan_at}
-use Rattle.sect_world.specs.Events.{all_but, lets, lets_in, MayDo}
-use Rattle.sect_world.specs.Blocked.{IsBlocked, CanGoOn}
-use Rattle.sect_world.specs.Laws.{SomethingHappens}
-use Rattle.sect_world.specs.Kept.{IsAt, IsThreadKept, IsWellKept}
+use Rattle.sect_world.specs.declared.event.Deed.{Deed}
+use Rattle.sect_world.specs.declared.event.Deed.TheVariants.{Local, Enter, Take, Begin, Again, Act, Leave}
+use Rattle.sect_world.specs.{Events.{all_but, lets, lets_in, MayDo}, Blocked.{IsBlocked, CanGoOn}}
+use Rattle.sect_world.specs.{Laws.{SomethingHappens}, Kept.{IsAt, IsThreadKept, IsWellKept}}
 use Rattle.sect_lemmas.proofs.Options.{some_injective, none_or_some}
-use Rattle.sect_world.proofs.Stuck.{none_stuck}
-use Rattle.sect_world.proofs.KeptStates.{runs_are_well_kept}
+use Rattle.sect_world.proofs.{Stuck.{none_stuck}, KeptStates.{runs_are_well_kept}}
 
 abbrev IsFound : {X : Type 0} → ℕ → (X → Bool) → List X → Type 0
 IsFound {X} t test xs = (u : ℕ) × (x : X) × (t ≢ u) × (slice_get xs u ≡ Some x) × (test x ≡ false)

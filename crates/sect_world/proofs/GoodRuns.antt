@@ -1,32 +1,21 @@
 -- The states of runs are good, so accesses are held.
 use Rattle.std.proofs.Common.{true, ◌≡◌, ℕ, List, [], ◌∷◌, ◌++◌, refl, sym, ap, ◌∙◌, subst}
 use Rattle.sect_lemmas.proofs.Replaced.{slice_get-map}
-use Rattle.sect_world.proofs.LongerRuns.{run_on}
-use Rattle.sect_types.specs.Statements.{TextView}
-use Rattle.sect_types.specs.declared.expansion.action.Field.{Field}
-use Rattle.sect_points.specs.Paths.{PathView}
-use Rattle.sect_names.specs.declared.lock.Effect.{Effect}
-use Rattle.sect_types.specs.declared.meaning.store.ObjectName.{ObjectName}
-use Rattle.sect_types.specs.declared.meaning.store.Datum.TheVariants.{Refers}
-use Rattle.sect_emit.specs.Plan.{path_datum}
-use Rattle.sect_world.proofs.MetPlans.{beginnings_are_held}
-use Rattle.sect_names.specs.declared.lock.Lock.TheVariants as lock
-use Rattle.sect_names.specs.Needed.{end_of}
-use Rattle.sect_names.specs.Along.{NeededIn, GoesBy}
-use Rattle.sect_world.specs.declared.event.Event.{Event}
-use Rattle.sect_types.specs.Whole.{FrameView, first_frames}
-use Rattle.sect_emit.specs.Compiled.{CompiledView, IsCompiled, program_of}
-use Rattle.sect_emit.specs.State.{Outside, Running, ThreadState, State, IsThread, outside, start}
-use Rattle.sect_emit.proofs.shared.TypedPrograms.{typed_program}
-use Rattle.sect_world.specs.Runs.{RunsTo, IsRun}
-use Rattle.sect_world.specs.Held.{HoldsEnough, may_read}
-use Rattle.sect_world.specs.Laws.{AccessesAreHeld, StatesAreWellKept}
-use Rattle.sect_world.specs.Kept.{HaveTheirClass, IsWellKept}
-use Rattle.sect_world.proofs.KeptStates.{runs_are_well_kept}
-use Rattle.sect_world.specs.Secured.{Good}
-use Rattle.sect_world.proofs.KeptPointed.{pointed_thread, stands_inside}
-use Rattle.sect_world.proofs.HeldAccesses.{next_access_is_held}
+use Rattle.sect_world.proofs.{LongerRuns.{run_on}, MetPlans.{beginnings_are_held}, KeptStates.{runs_are_well_kept}}
+use Rattle.sect_world.proofs.{KeptPointed.{pointed_thread, stands_inside}, HeldAccesses.{next_access_is_held}}
 use Rattle.sect_world.proofs.GoodStates.{none_held, event_keeps}
+use Rattle.sect_types.specs.{Statements.{TextView}, declared.expansion.action.Field.{Field}}
+use Rattle.sect_types.specs.declared.meaning.store.ObjectName.{ObjectName}
+use Rattle.sect_types.specs.{declared.meaning.store.Datum.TheVariants.{Refers}, Whole.{FrameView, first_frames}}
+use Rattle.sect_points.specs.Paths.{PathView}
+use Rattle.sect_names.specs.{declared.lock.Effect.{Effect}, Needed.{end_of}, Along.{NeededIn, GoesBy}}
+use Rattle.sect_emit.specs.{Plan.{path_datum}, Compiled.{CompiledView, IsCompiled, program_of}}
+use Rattle.sect_emit.specs.State.{Outside, Running, ThreadState, State, IsThread, outside, start}
+use Rattle.sect_world.specs.{declared.event.Event.{Event}, Runs.{RunsTo, IsRun}, Held.{HoldsEnough, may_read}}
+use Rattle.sect_world.specs.{Laws.{AccessesAreHeld, StatesAreWellKept}, Kept.{HaveTheirClass, IsWellKept}}
+use Rattle.sect_world.specs.Secured.{Good}
+use Rattle.sect_emit.proofs.shared.TypedPrograms.{typed_program}
+use Rattle.sect_names.specs.declared.lock.Lock.TheVariants as lock
 
 module _ (c : CompiledView) where
   -- at the start all threads are outside and hold nothing

@@ -1,59 +1,40 @@
 -- Each event keeps a state good.
 use Rattle.std.proofs.Common.{◌≡◌, ◌≢◌, inl, inr, ℕ, List, [], ◌∷◌, ◌++◌, true, Some, None, refl, sym, ap, ◌∙◌, subst}
-use Rattle.std.proofs.Common.{arith}
+use Rattle.std.proofs.{Common.{arith}, lemmas.Option.{slice_get_within, slice_get-get_or}, lemmas.Bool.{false≢true}}
 use Rattle.std.specs.Prelude.{ℤ, slice_get, slice_index_or}
-use Rattle.std.proofs.lemmas.Option.{slice_get_within, slice_get-get_or}
-use Rattle.sect_types.specs.Statements.{TextView, Section}
-use Rattle.sect_types.specs.Sections.{sections_of}
+use Rattle.sect_types.specs.{Statements.{TextView, Section}, Sections.{sections_of}}
+use Rattle.sect_types.specs.{declared.meaning.store.ObjectName.{ObjectName}, Store.{ObjectView, StoreView, count}}
+use Rattle.sect_types.specs.Meaning.{WorkView, Change, Added, after_change, found_at, looks, Next, On, Off, begins_step}
+use Rattle.sect_types.specs.Whole.{local_step}
 use Rattle.sect_points.specs.Paths.{PathView}
-use Rattle.sect_names.specs.declared.lock.Effect.{Effect}
-use Rattle.sect_names.specs.declared.lock.Lock.TheVariants as lock
-use Rattle.sect_names.specs.Records.{IsTypedProgram}
-use Rattle.sect_names.specs.Needed.{end_of}
-use Rattle.sect_names.proofs.shared.Ends.{end_needable}
-use Rattle.sect_names.specs.Along.{NeededIn}
-use Rattle.sect_names.proofs.shared.Walking.{needed_walk, section_stands}
+use Rattle.sect_names.specs.{declared.lock.Effect.{Effect}, Records.{IsTypedProgram}, Needed.{end_of}, Along.{NeededIn}}
+use Rattle.sect_names.proofs.shared.{Ends.{end_needable}, Walking.{needed_walk, section_stands}}
 use Rattle.sect_names.proofs.shared.Needing.{needed_needable}
-use Rattle.sect_emit.proofs.shared.Securing.{next_does}
-use Rattle.sect_modes.specs.declared.mode.Mode.{Mode}
-use Rattle.sect_modes.specs.declared.mode.Mode.TheVariants.{Exclusive}
-use Rattle.sect_modes.specs.declared.key.Key.{Key}
-use Rattle.sect_modes.specs.declared.key.Key.TheVariants as key
-use Rattle.sect_modes.specs.Key.{is_key_below}
-use Rattle.sect_types.specs.declared.meaning.store.ObjectName.{ObjectName}
-use Rattle.sect_types.specs.declared.meaning.store.ObjectName.TheVariants as object
-use Rattle.sect_emit.specs.declared.plan.Grip.{Grip}
+use Rattle.sect_emit.proofs.shared.{Securing.{next_does}, Plans.{mode_is_there, ascending_across}}
+use Rattle.sect_emit.proofs.shared.{Grips.{held_append, held_split}, TypedPrograms.{typed_program}}
+use Rattle.sect_modes.specs.{declared.mode.Mode.{Mode}, declared.mode.Mode.TheVariants.{Exclusive}}
+use Rattle.sect_modes.specs.{declared.key.Key.{Key}, Key.{is_key_below}}
+use Rattle.sect_emit.specs.{declared.plan.Grip.{Grip}, Plan.{grip, key_of, held_mode, Ascends, meets, path_datum}}
+use Rattle.sect_emit.specs.Compiled.{CompiledView, program_of, IsCompiled}
+use Rattle.sect_emit.specs.{State.{Running, ThreadState, State, IsThread, plan_at}, ModeTests.{is_writing}}
 use Rattle.sect_world.specs.declared.event.Deed.{Deed}
 use Rattle.sect_world.specs.declared.event.Deed.TheVariants.{Local, Enter, Take, Begin, Again, Act, Leave}
 use Rattle.sect_world.specs.declared.event.Event.{Event}
-use Rattle.sect_types.specs.Store.{ObjectView, StoreView, count}
-use Rattle.sect_lemmas.specs.Lists.{put_at}
-use Rattle.sect_types.specs.Meaning.{WorkView, Change, Added, after_change, found_at, looks, Next, On, Off}
-use Rattle.sect_types.specs.Meaning.{begins_step}
-use Rattle.sect_types.specs.Whole.{local_step}
-use Rattle.sect_emit.specs.Plan.{grip, key_of, held_mode, Ascends, meets, path_datum}
-use Rattle.sect_emit.specs.Compiled.{CompiledView, program_of, IsCompiled}
-use Rattle.sect_emit.specs.State.{Running, ThreadState, State, IsThread, plan_at}
 use Rattle.sect_world.specs.Events.{guard_at, fresh_grip, grips_of, entering, taking, beginning, giving_back}
 use Rattle.sect_world.specs.Events.{with_frame, acting, after_act, frame_out, step_in, MayDo, Happens, changed_by}
 use Rattle.sect_world.specs.Kept.{HoldsClassOf, HaveTheirClass, IsPlaced, IsAt, IsWellKept, AreGripsKept}
+use Rattle.sect_world.specs.{Secured.{AllSecured, Good}, Accesses.{change_in, Asks}, Held.{class_mode_in, next_access}}
+use Rattle.sect_lemmas.specs.Lists.{put_at}
 use Rattle.sect_lemmas.proofs.Replaced.{at-put_at, put_same}
-use Rattle.sect_emit.proofs.shared.Plans.{mode_is_there, ascending_across}
-use Rattle.sect_world.specs.Secured.{AllSecured, Good}
-use Rattle.sect_emit.proofs.shared.Grips.{held_append, held_split}
 use Rattle.sect_world.proofs.KeptPointed.{pointed_thread, stands_inside, its_section, held_kept}
-use Rattle.sect_world.proofs.MetPlans.{a_met_plan_secures}
-use Rattle.sect_world.proofs.AllowedChanges.{IsAllowed, asked_is_allowed}
-use Rattle.sect_world.specs.Accesses.{change_in, Asks}
-use Rattle.sect_world.specs.Held.{class_mode_in, next_access}
-use Rattle.sect_emit.specs.ModeTests.{is_writing}
-use Rattle.sect_emit.proofs.shared.TypedPrograms.{typed_program}
-use Rattle.sect_world.proofs.Holding.{passes_in, in_passes, class_is}
-use Rattle.sect_world.proofs.StepChanges.{change_is_asked}
+use Rattle.sect_world.proofs.{MetPlans.{a_met_plan_secures}, AllowedChanges.{IsAllowed, asked_is_allowed}}
+use Rattle.sect_world.proofs.{Holding.{passes_in, in_passes, class_is}, StepChanges.{change_is_asked}}
 use Rattle.sect_world.proofs.HeldAccesses.{next_access_is_held}
 use Rattle.sect_world.proofs.SecuredSteps.{MayChange, classes_stay, others_leave_needed_paths_alone}
 use Rattle.sect_world.proofs.SecuredSteps.{others_leave_secured, step_keeps_secured, step_keeps_classes}
-use Rattle.std.proofs.lemmas.Bool.{false≢true}
+use Rattle.sect_names.specs.declared.lock.Lock.TheVariants as lock
+use Rattle.sect_modes.specs.declared.key.Key.TheVariants as key
+use Rattle.sect_types.specs.declared.meaning.store.ObjectName.TheVariants as object
 
 -- a state in which thread u is replaced and the store may have changed
 abbrev state_with : StoreView → List ℤ → ℕ → ThreadState → State → State

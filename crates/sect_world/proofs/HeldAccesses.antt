@@ -1,51 +1,35 @@
 -- What a thread has secured of a text allows the access of its first statement.
 use Rattle.std.proofs.Common.{◌≡◌, inl, inr, ℕ, zero, suc, List, true, Option, Some, None, refl, sym, ap, ◌∙◌, subst}
-use Rattle.sect_types.specs.declared.expansion.action.Base.{Base}
-use Rattle.sect_types.specs.declared.expansion.action.Base.TheVariants as base
-use Rattle.sect_types.specs.declared.expansion.action.Action.{Action}
-use Rattle.sect_types.specs.declared.expansion.action.Action.TheVariants as action
-use Rattle.sect_types.specs.declared.expansion.action.Label.TheVariants as label
+use Rattle.std.proofs.lemmas.Bool.{or_cases}
+use Rattle.sect_types.specs.{declared.expansion.action.Base.{Base}, declared.expansion.action.Action.{Action}}
 use Rattle.sect_types.specs.Statements.{TextView, Stop, Do, Choose, Loop, Section}
-use Rattle.sect_points.specs.declared.holders.Variable.TheVariants as variable
-use Rattle.sect_points.specs.Paths.{var}
-use Rattle.sect_points.specs.PathClasses.{variable_of}
-use Rattle.sect_names.specs.declared.lock.Effect.{Effect}
-use Rattle.sect_names.specs.declared.lock.Effect.TheVariants as effect
-use Rattle.sect_names.specs.declared.lock.Right.TheVariants as right
-use Rattle.sect_names.specs.declared.lock.Lock.{Lock}
-use Rattle.sect_names.specs.declared.lock.Lock.TheVariants as lock
-use Rattle.sect_names.specs.Needed.{end_of}
-use Rattle.sect_names.specs.Schemes.{IsScheme, guard_of}
-use Rattle.sect_names.specs.Carrying.{Generated}
-use Rattle.sect_names.specs.Records.{IsTypedProgram}
-use Rattle.sect_names.specs.Walks.{StandsInThread}
-use Rattle.sect_names.specs.Along.{read_for}
-use Rattle.sect_emit.specs.Pointed.{IsPointed}
-use Rattle.sect_emit.specs.NeededAccesses.{LooksLocked, MakesLocked}
-use Rattle.sect_names.proofs.shared.Walking.{needed_step}
-use Rattle.sect_emit.proofs.shared.NeedingAccesses.{access_needed}
-use Rattle.sect_modes.specs.declared.mode.Mode.TheVariants.{IntentionExclusive}
-use Rattle.sect_modes.specs.declared.key.Key.TheVariants as key
-use Rattle.sect_modes.specs.Mode.{is_making}
-use Rattle.sect_types.specs.declared.meaning.store.ObjectName.{ObjectName}
-use Rattle.sect_types.specs.declared.meaning.store.ObjectName.TheVariants as object
-use Rattle.sect_types.specs.declared.meaning.store.Datum.{Datum}
-use Rattle.sect_types.specs.declared.meaning.store.Datum.TheVariants.{Number, Null, Refers}
-use Rattle.sect_emit.specs.declared.plan.Grip.{Grip}
-use Rattle.sect_types.specs.Store.{StoreView}
+use Rattle.sect_types.specs.{declared.meaning.store.ObjectName.{ObjectName}, declared.meaning.store.Datum.{Datum}}
+use Rattle.sect_types.specs.{declared.meaning.store.Datum.TheVariants.{Number, Null, Refers}, Store.{StoreView}}
 use Rattle.sect_types.specs.Meaning.{WorkView, base_datum, name_in}
-use Rattle.sect_emit.specs.Plan.{held_mode, is_met, path_datum}
-use Rattle.sect_emit.specs.Compiled.{CompiledView, program_of}
+use Rattle.sect_points.specs.{Paths.{var}, PathClasses.{variable_of}}
+use Rattle.sect_names.specs.{declared.lock.Effect.{Effect}, declared.lock.Lock.{Lock}, Needed.{end_of}}
+use Rattle.sect_names.specs.{Schemes.{IsScheme, guard_of}, Carrying.{Generated}, Records.{IsTypedProgram}}
+use Rattle.sect_names.specs.{Walks.{StandsInThread}, Along.{read_for}}
+use Rattle.sect_emit.specs.{Pointed.{IsPointed}, NeededAccesses.{LooksLocked, MakesLocked}, declared.plan.Grip.{Grip}}
+use Rattle.sect_emit.specs.{Plan.{held_mode, is_met, path_datum}, Compiled.{CompiledView, program_of}}
 use Rattle.sect_emit.specs.ModeTests.{is_writing, passes}
+use Rattle.sect_names.proofs.shared.Walking.{needed_step}
+use Rattle.sect_emit.proofs.shared.{NeedingAccesses.{access_needed}, Modes.{met_mode}}
+use Rattle.sect_modes.specs.{declared.mode.Mode.TheVariants.{IntentionExclusive}, Mode.{is_making}}
 use Rattle.sect_world.specs.Held.{holds_all, mode_of_class, class_mode_in, is_held, locked_object, guard_or, may_write}
 use Rattle.sect_world.specs.Held.{may_make, may_make_by, Access, Loading, Storing, Making, may, load_of, store_of}
-use Rattle.sect_world.specs.Held.{access_of, if_paid, access_in}
-use Rattle.sect_world.specs.Secured.{may_by, Secured, AllSecured}
+use Rattle.sect_world.specs.{Held.{access_of, if_paid, access_in}, Secured.{may_by, Secured, AllSecured}}
 use Rattle.sect_lemmas.proofs.Booleans.{or_left, or_right}
-use Rattle.sect_emit.proofs.shared.Modes.{met_mode}
-use Rattle.sect_world.proofs.Holding.{locked_is}
-use Rattle.sect_world.proofs.MetPlans.{guard_of_site, guard_is_there, guard_or_itself}
-use Rattle.std.proofs.lemmas.Bool.{or_cases}
+use Rattle.sect_world.proofs.{Holding.{locked_is}, MetPlans.{guard_of_site, guard_is_there, guard_or_itself}}
+use Rattle.sect_types.specs.declared.expansion.action.Base.TheVariants as base
+use Rattle.sect_types.specs.declared.expansion.action.Action.TheVariants as action
+use Rattle.sect_types.specs.declared.expansion.action.Label.TheVariants as label
+use Rattle.sect_points.specs.declared.holders.Variable.TheVariants as variable
+use Rattle.sect_names.specs.declared.lock.Effect.TheVariants as effect
+use Rattle.sect_names.specs.declared.lock.Right.TheVariants as right
+use Rattle.sect_names.specs.declared.lock.Lock.TheVariants as lock
+use Rattle.sect_modes.specs.declared.key.Key.TheVariants as key
+use Rattle.sect_types.specs.declared.meaning.store.ObjectName.TheVariants as object
 
 loading : (d : Datum) (x : Access) → load_of (name_in d) ≡ Some x → (o : ObjectName) × (d ≡ Refers o) × (x ≡ Loading o)
 loading (Number n) x e = absurd cc

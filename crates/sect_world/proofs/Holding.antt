@@ -1,28 +1,19 @@
 -- Who holds enough for an access: what it is, and that it only grows.
 use Rattle.std.proofs.Common.{◌≡◌, ◌⊎◌, inl, inr, ℕ, List, ◌++◌, Bool, true, ◌||◌, Option, Some, None, refl, sym, ap}
-use Rattle.std.proofs.Common.{◌∙◌, subst}
+use Rattle.std.proofs.{Common.{◌∙◌, subst}, lemmas.Bool.{or_cases, false≢true}}
 use Rattle.std.specs.Prelude.{slice_get}
 use Rattle.sect_names.specs.declared.lock.Effect.{Effect}
-use Rattle.sect_names.specs.declared.lock.Effect.TheVariants as effect
-use Rattle.sect_modes.specs.declared.mode.Mode.{Mode}
-use Rattle.sect_modes.specs.declared.key.Key.{Key}
-use Rattle.sect_modes.specs.declared.key.Key.TheVariants as key
-use Rattle.sect_modes.specs.Mode.{is_reading}
-use Rattle.sect_types.specs.declared.meaning.store.ObjectName.{ObjectName}
-use Rattle.sect_emit.specs.declared.plan.Grip.{Grip}
-use Rattle.sect_types.specs.Store.{ObjectView, StoreView, object_at}
-use Rattle.sect_emit.specs.Plan.{key_of, held_mode, is_met}
-use Rattle.sect_emit.specs.Compiled.{CompiledView}
+use Rattle.sect_modes.specs.{declared.mode.Mode.{Mode}, declared.key.Key.{Key}, Mode.{is_reading}}
+use Rattle.sect_types.specs.{declared.meaning.store.ObjectName.{ObjectName}, Store.{ObjectView, StoreView, object_at}}
+use Rattle.sect_emit.specs.{declared.plan.Grip.{Grip}, Plan.{key_of, held_mode, is_met}, Compiled.{CompiledView}}
+use Rattle.sect_emit.specs.{ModeTests.{passes, is_reading_object, is_writing}, Pointed.{ObjectsStay}}
 use Rattle.sect_world.specs.Events.{guard_at}
-use Rattle.sect_emit.specs.ModeTests.{passes, is_reading_object, is_writing}
 use Rattle.sect_world.specs.Held.{holds_all, class_mode_in, mode_of_class, is_held_at, is_held, guard_or}
-use Rattle.sect_world.specs.Held.{locked_object_at, locked_object}
-use Rattle.sect_emit.specs.Pointed.{ObjectsStay}
-use Rattle.sect_world.specs.Secured.{may_by}
+use Rattle.sect_world.specs.{Held.{locked_object_at, locked_object}, Secured.{may_by}}
 use Rattle.sect_lemmas.proofs.Booleans.{or_left, or_right}
-use Rattle.sect_emit.proofs.shared.Modes.{met_mode}
-use Rattle.sect_emit.proofs.shared.Grips.{held_append}
-use Rattle.std.proofs.lemmas.Bool.{or_cases, false≢true}
+use Rattle.sect_emit.proofs.shared.{Modes.{met_mode}, Grips.{held_append}}
+use Rattle.sect_names.specs.declared.lock.Effect.TheVariants as effect
+use Rattle.sect_modes.specs.declared.key.Key.TheVariants as key
 
 -- the mode in which something is held passes the test
 abbrev pub IsIn : (Mode → Bool) → Option Mode → Type 0

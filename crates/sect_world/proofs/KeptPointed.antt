@@ -1,16 +1,13 @@
 -- In well kept states references lie in their sets, and texts are those of their threads.
-use Rattle.std.proofs.Common.{◌≡◌, inl, inr, ℕ, ◌++◌, Some, subst, arith}
+use Rattle.std.proofs.{Common.{◌≡◌, inl, inr, ℕ, ◌++◌, Some, subst, arith}, lemmas.Option.{slice_get_within}}
 use Rattle.std.specs.Prelude.{slice_get}
-use Rattle.std.proofs.lemmas.Option.{slice_get_within}
 use Rattle.sect_lemmas.specs.Lists.{Has}
 use Rattle.sect_lemmas.proofs.Membership.{Has-cases}
-use Rattle.sect_types.specs.declared.expansion.action.Action.{Action}
-use Rattle.sect_types.specs.Sections.{sections_of}
+use Rattle.sect_types.specs.{declared.expansion.action.Action.{Action}, Sections.{sections_of}}
 use Rattle.sect_types.specs.Statements.{TextView, Stop, Do, Choose, Loop, Section}
 use Rattle.sect_points.specs.Flow.{actions_of}
 use Rattle.sect_names.specs.Walks.{StandsInThread}
-use Rattle.sect_emit.specs.Pointed.{IsPointedStore, IsPointed}
-use Rattle.sect_emit.specs.Compiled.{CompiledView, program_of}
+use Rattle.sect_emit.specs.{Pointed.{IsPointedStore, IsPointed}, Compiled.{CompiledView, program_of}}
 use Rattle.sect_emit.specs.State.{Running, ThreadState, State, IsThread}
 use Rattle.sect_world.specs.Kept.{Each, AreGripsKept, IsAt, IsWellKept}
 

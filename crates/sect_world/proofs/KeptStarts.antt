@@ -1,18 +1,14 @@
 -- The store and the work at the start of a run are kept.
 use Rattle.std.proofs.Common.{◌≡◌, ℕ, ◌+◌, sym, ap, ◌∙◌, subst, List, [], length, Some, arith}
-use Rattle.std.specs.Prelude.{slice_get, slice_index_or}
 use Rattle.std.proofs.lemmas.List.{length-replicate}
-use Rattle.sect_types.specs.declared.declarations.types.ValueType.{ValueType}
-use Rattle.sect_types.specs.Programs.{sites_of, all_made}
+use Rattle.std.specs.Prelude.{slice_get, slice_index_or}
+use Rattle.sect_types.specs.{declared.declarations.types.ValueType.{ValueType}, Programs.{sites_of, all_made}}
 use Rattle.sect_types.specs.declared.meaning.store.ObjectName.{ObjectName}
 use Rattle.sect_types.specs.declared.meaning.store.ObjectName.TheVariants.{Global, Made}
-use Rattle.sect_types.specs.Store.{ObjectView, object_at}
-use Rattle.sect_types.specs.Whole.{first_store, first_work}
-use Rattle.sect_lemmas.proofs.Options.{none_or_some}
-use Rattle.sect_types.proofs.shared.Data.{fresh_refers, length-fresh}
-use Rattle.sect_types.proofs.shared.Starts.{global_is}
+use Rattle.sect_types.specs.{Store.{ObjectView, object_at}, Whole.{first_store, first_work}}
+use Rattle.sect_lemmas.proofs.{Options.{none_or_some}, Elements.{slice_get-left}}
+use Rattle.sect_types.proofs.shared.{Data.{fresh_refers, length-fresh}, Starts.{global_is}}
 use Rattle.sect_names.specs.Records.{SiteOf}
-use Rattle.sect_lemmas.proofs.Elements.{slice_get-left}
 use Rattle.sect_emit.specs.Compiled.{CompiledView, program_of}
 use Rattle.sect_emit.proofs.shared.Starting.{none_made, first_store_pointed}
 use Rattle.sect_world.specs.Kept.{IsStoreKept, IsWorkKept}

@@ -1,74 +1,59 @@
 -- States of runs are well kept.
 use Rattle.std.proofs.Common.{◌≡◌, ◌≢◌, ℕ, zero, suc, ◌<◌, Bool, true, false, refl, sym, ap, ◌∙◌, subst, ◌⊎◌, inl, inr}
 use Rattle.std.proofs.Common.{⊎_elim, List, [], ◌∷◌, ◌++◌, length, Option, Some, None, true≢false, arith, append_assoc}
-use Rattle.std.proofs.Common.{append-nil}
-use Rattle.std.specs.Prelude.{slice_get, slice_index_or, map, ⊤, ℤ, if◌then◌else◌}
-use Rattle.std.specs.List.{list_all}
-use Rattle.std.proofs.lemmas.Option.{slice_get_within, slice_get-get_or}
+use Rattle.std.proofs.{Common.{append-nil}, lemmas.Option.{slice_get_within, slice_get-get_or}, lemmas.Bool.{and_parts}}
+use Rattle.std.specs.{Prelude.{slice_get, slice_index_or, map, ⊤, ℤ, if◌then◌else◌}, List.{list_all}}
 use Rattle.sect_lemmas.specs.Lists.{Has, put_at}
 use Rattle.sect_types.specs.Statements.{TextView, Stop, Do, Choose, Loop, Section}
-use Rattle.sect_types.specs.Sections.{SectionView, sections_of}
-use Rattle.sect_types.specs.Programs.{environment_at, sites_of}
-use Rattle.sect_points.specs.declared.holders.Variable.TheVariants as variable
-use Rattle.sect_points.specs.declared.holders.Holder.TheVariants as holder
-use Rattle.sect_points.specs.Paths.{PathView, var, dot, PathHas}
-use Rattle.sect_points.specs.Sets.{InSets}
-use Rattle.sect_names.specs.declared.lock.Lock.{Lock}
-use Rattle.sect_names.specs.declared.lock.Lock.TheVariants as lock
-use Rattle.sect_names.specs.declared.lock.Effect.{Effect}
-use Rattle.sect_names.specs.Locks.{IsPathOf, IsPathIn, IsOwn}
-use Rattle.sect_modes.specs.declared.mode.Mode.{Mode}
-use Rattle.sect_modes.specs.declared.mode.Mode.TheVariants.{Exclusive}
-use Rattle.sect_modes.specs.declared.key.Key.{Key}
-use Rattle.sect_modes.specs.declared.key.Key.TheVariants as key
-use Rattle.sect_modes.specs.Mode.{are_compatible, is_at_least, intention_of}
-use Rattle.sect_modes.specs.Key.{is_same_key}
+use Rattle.sect_types.specs.{Sections.{SectionView, sections_of}, Programs.{environment_at, sites_of}}
 use Rattle.sect_types.specs.declared.meaning.store.ObjectName.{ObjectName}
 use Rattle.sect_types.specs.declared.meaning.store.ObjectName.TheVariants.{Global, Made}
 use Rattle.sect_types.specs.declared.meaning.store.Datum.{Datum}
 use Rattle.sect_types.specs.declared.meaning.store.Datum.TheVariants.{Number, Null, Refers}
-use Rattle.sect_types.specs.declared.meaning.store.Fault.{Fault}
-use Rattle.sect_emit.specs.declared.plan.Grip.{Grip}
-use Rattle.sect_world.specs.declared.event.Deed.{Deed}
-use Rattle.sect_world.specs.declared.event.Deed.TheVariants.{Local, Enter, Take, Begin, Again, Act, Leave}
-use Rattle.sect_world.specs.declared.event.Event.{Event}
-use Rattle.sect_types.specs.Store.{ObjectView, StoreView, object_at, count}
+use Rattle.sect_types.specs.{declared.meaning.store.Fault.{Fault}, Store.{ObjectView, StoreView, object_at, count}}
 use Rattle.sect_types.specs.Meaning.{WorkView, Change, Unchanged, Written, Added, after_change, Next, On, Off, next}
 use Rattle.sect_types.specs.Whole.{FrameView, settled, failed, frame_after, local_step, first_store, first_work}
 use Rattle.sect_types.specs.Whole.{first_frames}
+use Rattle.sect_points.specs.{Paths.{PathView, var, dot, PathHas}, Sets.{InSets}}
+use Rattle.sect_names.specs.{declared.lock.Lock.{Lock}, declared.lock.Effect.{Effect}}
+use Rattle.sect_names.specs.Locks.{IsPathOf, IsPathIn, IsOwn}
+use Rattle.sect_modes.specs.{declared.mode.Mode.{Mode}, declared.mode.Mode.TheVariants.{Exclusive}}
+use Rattle.sect_modes.specs.{declared.key.Key.{Key}, Mode.{are_compatible, is_at_least, intention_of}}
+use Rattle.sect_modes.specs.Key.{is_same_key}
+use Rattle.sect_emit.specs.declared.plan.Grip.{Grip}
 use Rattle.sect_emit.specs.Plan.{grip, key_of, path_datum, field_datum, field_of, held_mode, Ascends, IsFixedPart}
 use Rattle.sect_emit.specs.Compiled.{CompiledView, IsCompiled, program_of}
 use Rattle.sect_emit.specs.State.{Position, Outside, Entered, Running, Faulted, ThreadState, State, IsThread, plan_at}
-use Rattle.sect_emit.specs.State.{start, outside}
-use Rattle.sect_world.specs.Events.{all_but, lets, lets_in, guard_at, fresh_grip, grips_of, entering, taking}
-use Rattle.sect_world.specs.Events.{beginning, giving_back, with_frame, emptied, acting, changed_by, frame_out}
-use Rattle.sect_world.specs.Events.{step_in, IsReady, IsOver, MayDo}
-use Rattle.sect_world.specs.Runs.{RunsTo, IsRun}
-use Rattle.sect_emit.specs.ModeTests.{is_reading_object}
+use Rattle.sect_emit.specs.{State.{start, outside}, ModeTests.{is_reading_object}}
+use Rattle.sect_world.specs.declared.event.Deed.{Deed}
+use Rattle.sect_world.specs.declared.event.Deed.TheVariants.{Local, Enter, Take, Begin, Again, Act, Leave}
+use Rattle.sect_world.specs.declared.event.Event.{Event}
+use Rattle.sect_world.specs.Events.{all_but, lets, lets_in, guard_at, fresh_grip, grips_of, entering, taking, beginning}
+use Rattle.sect_world.specs.Events.{giving_back, with_frame, emptied, acting, changed_by, frame_out, step_in, IsReady}
+use Rattle.sect_world.specs.{Events.{IsOver, MayDo}, Runs.{RunsTo, IsRun}}
 use Rattle.sect_world.specs.Kept.{IsPlaced, AsksInOrder, IsTextOf, IsObject, IsStoreKept, IsWorkKept, AreGripsKept}
-use Rattle.sect_world.specs.Kept.{AreApart, HaveTheirClass, IsAt, IsThreadKept, AreCompatible, IsWellKept}
-use Rattle.sect_world.specs.Kept.{HoldsClassOf}
+use Rattle.sect_world.specs.Kept.{AreApart, HaveTheirClass, IsAt, IsThreadKept, AreCompatible, IsWellKept, HoldsClassOf}
+use Rattle.sect_world.specs.Held.{class_mode_in, mode_of_class}
 use Rattle.sect_lemmas.proofs.Options.{some_injective, none_or_some}
-use Rattle.sect_emit.proofs.shared.Keys.{same_key, key_itself, not_below_itself}
-use Rattle.sect_emit.proofs.shared.Modes.{sharing_turned}
 use Rattle.sect_lemmas.proofs.Replaced.{at-put_at, length-changed_at, slice_get-map}
+use Rattle.sect_emit.proofs.shared.{Keys.{same_key, key_itself, not_below_itself}, Modes.{sharing_turned}}
 use Rattle.sect_emit.proofs.shared.Grips.{held_split}
 use Rattle.sect_emit.proofs.shared.Plans.{mode_is_there, ascending_mode, ascends_left, ascends_right}
 use Rattle.sect_emit.proofs.shared.PlanModes.{plan_object, plan_object_mode, plan_holds_the_classes, key_of-injective}
-use Rattle.sect_emit.proofs.shared.PlanModes.{plan_holds_all}
-use Rattle.sect_world.proofs.Planning.{plan_at_ascends}
-use Rattle.sect_world.proofs.Listing.{text_of}
-use Rattle.sect_emit.proofs.shared.Pointing.{others_pointed}
+use Rattle.sect_emit.proofs.shared.{PlanModes.{plan_holds_all}, Pointing.{others_pointed}}
+use Rattle.sect_world.proofs.{Planning.{plan_at_ascends}, Listing.{text_of}}
 use Rattle.sect_world.proofs.KeptSteps.{Grows, grows_same, fresh_name, added_there, IsNextKept, next_kept}
 use Rattle.sect_world.proofs.LocalSteps.{local_looks, IsQuiet, local_quiet}
-use Rattle.sect_types.proofs.shared.Data.{refers_injective, null_refers}
 use Rattle.sect_world.proofs.KeptStarts.{first_store_kept, first_work_kept}
+use Rattle.sect_types.proofs.shared.Data.{refers_injective, null_refers}
 use Rattle.sect_types.proofs.shared.Starts.{first_frame, first_frames-length, settled_text, settled_work}
 use Rattle.sect_types.proofs.shared.TypedPrograms.{program_sound, program_numbered}
-use Rattle.sect_world.specs.Held.{class_mode_in, mode_of_class}
 use Rattle.sect_names.proofs.shared.Sounding.{path_there}
-use Rattle.std.proofs.lemmas.Bool.{and_parts}
 use Rattle.sect_points.proofs.shared.ClassLaws.{path_classes}
+use Rattle.sect_points.specs.declared.holders.Variable.TheVariants as variable
+use Rattle.sect_points.specs.declared.holders.Holder.TheVariants as holder
+use Rattle.sect_names.specs.declared.lock.Lock.TheVariants as lock
+use Rattle.sect_modes.specs.declared.key.Key.TheVariants as key
 
 -- what is there stays there
 object_on : (t : ℕ) (s after : StoreView) → Grows t s after → (o : ObjectName) → IsObject s o → IsObject after o

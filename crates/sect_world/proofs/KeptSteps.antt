@@ -3,38 +3,30 @@ use Rattle.std.proofs.Common.{◌≡◌, ◌≢◌, ℕ, zero, suc, ◌<◌, Boo
 use Rattle.std.proofs.Common.{Option, Some, None}
 use Rattle.std.specs.Prelude.{⊤, slice_index_or, if◌then◌else◌}
 use Rattle.sect_lemmas.specs.Lists.{Has}
-use Rattle.sect_types.specs.declared.expansion.action.Condition.{Condition}
-use Rattle.sect_types.specs.declared.expansion.action.Action.{Action}
-use Rattle.sect_types.specs.declared.expansion.action.Action.TheVariants as action
+use Rattle.sect_types.specs.{declared.expansion.action.Condition.{Condition}, declared.expansion.action.Action.{Action}}
 use Rattle.sect_types.specs.declared.expansion.action.Label.TheVariants.{Act}
-use Rattle.sect_types.specs.Statements.{TextView, Stop, Do, Choose, Loop, Section, joined}
-use Rattle.sect_types.specs.Programs.{ProgramView}
-use Rattle.sect_points.specs.Statements.{thread_action, thread_actions}
-use Rattle.sect_names.specs.Laws.{IsProgramStep}
+use Rattle.sect_types.specs.{Statements.{TextView, Stop, Do, Choose, Loop, Section, joined}, Programs.{ProgramView}}
 use Rattle.sect_types.specs.declared.meaning.store.ObjectName.{ObjectName}
-use Rattle.sect_types.specs.declared.meaning.store.ObjectName.TheVariants.{Made}
-use Rattle.sect_types.specs.declared.meaning.store.Datum.{Datum}
+use Rattle.sect_types.specs.{declared.meaning.store.ObjectName.TheVariants.{Made}, declared.meaning.store.Datum.{Datum}}
 use Rattle.sect_types.specs.declared.meaning.store.Datum.TheVariants.{Number}
-use Rattle.sect_types.specs.declared.meaning.store.Fault.TheVariants as fault
 use Rattle.sect_types.specs.Store.{ObjectView, StoreView, count, object_at, write, add, with_field, same_name}
 use Rattle.sect_types.specs.Meaning.{WorkView, base_datum, value_datum, name_in, fresh, Unchanged, after_change, Came}
 use Rattle.sect_types.specs.Meaning.{Went, Fell, assigned, integer_of, result_of, fits, stored, done, paid, one, looked}
 use Rattle.sect_types.specs.Meaning.{found_at, Next, On, Off, going, taken, is_true, next, looks}
-use Rattle.sect_lemmas.proofs.Options.{some_injective, none_or_some}
+use Rattle.sect_points.specs.Statements.{thread_action, thread_actions}
+use Rattle.sect_names.specs.{Laws.{IsProgramStep}, Records.{IsTypedProgram, SiteOf}}
+use Rattle.sect_lemmas.proofs.{Options.{some_injective, none_or_some, mapped}, Replaced.{length-changed_at}}
 use Rattle.sect_types.proofs.shared.Data.{length-fresh}
-use Rattle.sect_lemmas.proofs.Options.{mapped}
-use Rattle.sect_lemmas.proofs.Replaced.{length-changed_at}
 use Rattle.sect_types.proofs.shared.Stores.{object_at-write, object_at-add, count-write, count-add_other, rows-write}
-use Rattle.sect_types.proofs.shared.Stores.{rows-add}
-use Rattle.sect_types.proofs.shared.Stores.{next_is_free, same_name-refl}
-use Rattle.sect_names.specs.Records.{IsTypedProgram, SiteOf}
+use Rattle.sect_types.proofs.shared.Stores.{rows-add, next_is_free, same_name-refl}
 use Rattle.sect_names.proofs.shared.Placing.{statement_sited}
 use Rattle.sect_emit.specs.Compiled.{CompiledView, IsCompiled, program_of}
 use Rattle.sect_emit.specs.Pointed.{IsPointed, ArePointed, ObjectsStay, StepsTo}
-use Rattle.sect_emit.proofs.shared.Pointing.{HasDone, action_done, step_pointed}
-use Rattle.sect_emit.proofs.shared.TypedPrograms.{typed_program}
+use Rattle.sect_emit.proofs.shared.{Pointing.{HasDone, action_done, step_pointed}, TypedPrograms.{typed_program}}
 use Rattle.sect_world.specs.Kept.{IsTextOf, IsStoreKept, IsWorkKept}
 use Rattle.sect_world.proofs.Listing.{text_joined}
+use Rattle.sect_types.specs.declared.expansion.action.Action.TheVariants as action
+use Rattle.sect_types.specs.declared.meaning.store.Fault.TheVariants as fault
 
 -- objects stay, each with its site; only thread t makes new ones
 pub record Grows (t : ℕ) (s after : StoreView) : Type 0 where

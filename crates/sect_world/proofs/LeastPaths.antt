@@ -3,13 +3,10 @@ use Rattle.std.proofs.Common.{◌≡◌, ◌⊎◌, inl, inr, ℕ, List, [], ◌
 use Rattle.sect_lemmas.specs.Lists.{Has}
 use Rattle.sect_types.specs.Statements.{TextView}
 use Rattle.sect_points.specs.Paths.{PathView}
-use Rattle.sect_names.specs.declared.lock.Effect.{Effect}
-use Rattle.sect_names.specs.declared.lock.Lock.{Lock}
-use Rattle.sect_names.specs.declared.lock.Lock.TheVariants as lock
-use Rattle.sect_names.specs.Locks.{Covers}
-use Rattle.sect_names.specs.Needed.{IsNeeded, IsLeast}
-use Rattle.sect_names.specs.Schemes.{SchemeView}
+use Rattle.sect_names.specs.{declared.lock.Effect.{Effect}, declared.lock.Lock.{Lock}, Locks.{Covers}}
+use Rattle.sect_names.specs.{Needed.{IsNeeded, IsLeast}, Schemes.{SchemeView}}
 use Rattle.sect_names.proofs.shared.Telling.{lock_cases}
+use Rattle.sect_names.specs.declared.lock.Lock.TheVariants as lock
 
 -- the locks of a list that are others than this one
 abbrev AreOthers : Lock → List Lock → List Lock → Type 0

@@ -1,45 +1,33 @@
 -- A thread gives back what it holds, and others take.
 use Rattle.std.proofs.Common.{◌≡◌, ◌≢◌, ℕ, ◌<◌, List, [], ◌∷◌, ◌++◌, length, drop, Option, Some, None, refl, sym, ◌∙◌}
-use Rattle.std.proofs.Common.{ap, subst, arith}
-use Rattle.std.specs.Prelude.{ℤ, slice_get, slice_index_or, slice_set, false}
-use Rattle.std.proofs.lemmas.List.{append-nil, length-set}
+use Rattle.std.proofs.{Common.{ap, subst, arith}, lemmas.List.{append-nil, length-set}}
 use Rattle.std.proofs.lemmas.Option.{slice_get_within, get_or_from_slice_get}
-use Rattle.sect_types.specs.declared.meaning.store.Fault.{Fault}
-use Rattle.sect_types.specs.Statements.{TextView, Stop}
-use Rattle.sect_types.specs.Store.{StoreView}
+use Rattle.std.specs.Prelude.{ℤ, slice_get, slice_index_or, slice_set, false}
+use Rattle.sect_types.specs.{declared.meaning.store.Fault.{Fault}, Statements.{TextView, Stop}, Store.{StoreView}}
 use Rattle.sect_lemmas.specs.Lists.{changed_at, put_at}
-use Rattle.sect_lemmas.proofs.Options.{some_injective}
-use Rattle.sect_lemmas.proofs.Changed.{set_put}
+use Rattle.sect_lemmas.proofs.{Options.{some_injective}, Changed.{set_put}}
 use Rattle.sect_lemmas.proofs.Replaced.{length-changed_at, length-put_at, put_other, put_same, each_put}
-use Rattle.sect_table.specs.declared.claims.Hold.{Hold}
-use Rattle.sect_table.specs.declared.claims.Grant.{Grant}
+use Rattle.sect_table.specs.{declared.claims.Hold.{Hold}, declared.claims.Grant.{Grant}}
 use Rattle.sect_table.specs.Contents.{Contents, give, hold_of, held_by, is_waiting, released}
 use Rattle.sect_table.specs.Sound.{IsKept as IsTableKept}
-use Rattle.sect_emit.specs.Plan.{grip}
-use Rattle.sect_emit.specs.Compiled.{CompiledView, program_of}
+use Rattle.sect_emit.specs.{Plan.{grip}, Compiled.{CompiledView, program_of}}
 use Rattle.sect_emit.specs.State.{Entered, Outside, Position, ThreadState, State, IsThread, start, with_thread}
-use Rattle.sect_world.specs.declared.event.Deed.{Deed}
-use Rattle.sect_world.specs.declared.event.Deed.TheVariants.{Again, Leave}
-use Rattle.sect_world.specs.declared.event.Event.{Event}
-use Rattle.sect_world.specs.declared.runner.Phase.TheVariants as phase
-use Rattle.sect_world.specs.declared.runner.Runner.{Runner}
+use Rattle.sect_world.specs.{declared.event.Deed.{Deed}, declared.event.Deed.TheVariants.{Again, Leave}}
+use Rattle.sect_world.specs.{declared.event.Event.{Event}, declared.runner.Runner.{Runner}}
 use Rattle.sect_world.specs.Events.{MayDo, Happens, IsOver, taking, giving_back, with_frame, frame_out, after_leave}
-use Rattle.sect_world.specs.Runs.{RunsTo, order_of, leaver}
-use Rattle.sect_world.specs.Kept.{IsPlaced}
+use Rattle.sect_world.specs.{Runs.{RunsTo, order_of, leaver}, Kept.{IsPlaced}}
 use Rattle.sect_world.specs.declared.turned.Turned.TheVariants.{Moved}
 use Rattle.sect_world.specs.Worlds.{AreTakesOfOthers, MayFollow, kind_of, threads_of as threads_in}
-use Rattle.sect_world.specs.steps.Fits.{Fits, takes_first, all_granted, takes, given_to, grants_of}
 use Rattle.sect_world.specs.Waiting.{AllWaitersAsk}
+use Rattle.sect_world.specs.Viewing.{text_at, position_of, frame_of, thread_of, threads_of, state_of, IsSited, IsWorld}
+use Rattle.sect_world.specs.steps.Fits.{Fits, takes_first, all_granted, takes, given_to, grants_of}
 use Rattle.sect_world.specs.steps.Taking.{CanAdvance, advanced, advanced_at, all_advanced, takers}
-use Rattle.sect_world.specs.Viewing.{text_at, position_of, frame_of, thread_of, threads_of, state_of, IsSited}
-use Rattle.sect_world.specs.Viewing.{IsWorld}
 use Rattle.sect_world.proofs.Agreeing.{ReleaseLeads, no_waiter, out_fits, release_leads, released_as}
-use Rattle.sect_world.proofs.Claims.{changed-put}
-use Rattle.sect_world.proofs.KeptStates.{runs_are_well_kept}
-use Rattle.sect_world.proofs.Letting.{taken, leads_append}
+use Rattle.sect_world.proofs.{Claims.{changed-put}, KeptStates.{runs_are_well_kept}, Letting.{taken, leads_append}}
 use Rattle.sect_world.proofs.LongerRuns.{order_of-append}
 use Rattle.sect_world.proofs.Viewing.{Seen, seen, state_granted, states_granted, replaced_threads, world_fits}
 use Rattle.sect_world.proofs.Viewing.{each_advanced, first_dropped, TurnsInto}
+use Rattle.sect_world.specs.declared.runner.Phase.TheVariants as phase
 
 length-advanced : (gs : List Grant) (rs : List Runner) → length (all_advanced gs rs) ≡ length rs
 length-advanced [] rs = refl

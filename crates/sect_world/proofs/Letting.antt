@@ -1,41 +1,29 @@
 -- The grants of a release are `take` events that may happen one after another.
-use Rattle.std.proofs.Common.{◌≡◌, ◌≢◌, ◌⊎◌, inl, inr, ℕ, ◌+◌, ◌≤◌, List, [], ◌∷◌, ◌++◌, length, map, drop, true}
-use Rattle.std.proofs.Common.{false, Some, None, refl, sym, ◌∙◌, ap, subst, arith, append_assoc}
+use Rattle.std.proofs.Common.{◌≡◌, ◌≢◌, ◌⊎◌, inl, inr, ℕ, ◌+◌, ◌≤◌, List, [], ◌∷◌, ◌++◌, length, map, drop, true, false}
+use Rattle.std.proofs.Common.{Some, None, refl, sym, ◌∙◌, ap, subst, arith, append_assoc}
+use Rattle.std.proofs.{lemmas.Bool.{eqb-true, eq-eqb, cases_Bool}, lemmas.List.{append-nil, map-append}}
 use Rattle.std.specs.Prelude.{slice_get, ◌==◌}
-use Rattle.std.proofs.lemmas.Bool.{eqb-true, eq-eqb, cases_Bool}
-use Rattle.std.proofs.lemmas.List.{append-nil, map-append}
 use Rattle.sect_lemmas.specs.Lists.{Has, changed_at}
-use Rattle.sect_modes.specs.declared.mode.Mode.{Mode}
-use Rattle.sect_modes.specs.declared.key.Key.{Key}
-use Rattle.sect_modes.specs.Key.{is_same_key}
-use Rattle.sect_table.specs.declared.claims.Claim.{Claim}
-use Rattle.sect_table.specs.declared.claims.Hold.{Hold}
-use Rattle.sect_table.specs.declared.claims.Grant.{Grant}
+use Rattle.sect_modes.specs.{declared.mode.Mode.{Mode}, declared.key.Key.{Key}, Key.{is_same_key}}
+use Rattle.sect_table.specs.{declared.claims.Claim.{Claim}, declared.claims.Hold.{Hold}, declared.claims.Grant.{Grant}}
 use Rattle.sect_table.specs.Contents.{Entry, entry_of, put, mode_for, stay, is_among, may_join, let_in, let_through}
-use Rattle.sect_table.specs.Contents.{without_holder, grant_of, AreApart}
-use Rattle.sect_table.specs.Sound.{waits_of, claims_by}
+use Rattle.sect_table.specs.{Contents.{without_holder, grant_of, AreApart}, Sound.{waits_of, claims_by}}
 use Rattle.sect_table.proofs.shared.Shown.{same_key, key_itself}
 use Rattle.sect_table.proofs.shared.Entries.{entry_key, entry_of-put, entry_of-put_other, put-put}
 use Rattle.sect_table.proofs.shared.Claiming.{true_or_false, among-append, among_append, among_one, apart_swap}
-use Rattle.sect_table.proofs.shared.Claiming.{apart_stay}
-use Rattle.sect_table.proofs.shared.Claiming.{mode_for-missing, mode_for-push, mode_for-push_other, missing_stay}
-use Rattle.sect_table.proofs.shared.Claiming.{missing-claims_by, claims_by-drop}
+use Rattle.sect_table.proofs.shared.Claiming.{apart_stay, mode_for-missing, mode_for-push, mode_for-push_other}
+use Rattle.sect_table.proofs.shared.Claiming.{missing_stay, missing-claims_by, claims_by-drop}
 use Rattle.sect_table.proofs.shared.Sounding.{put_all, waits_of-put, waits_at-le}
 use Rattle.sect_table.proofs.shared.Passing.{let_through-yes, let_through-no}
-use Rattle.sect_emit.specs.declared.plan.Grip.{Grip}
-use Rattle.sect_world.specs.declared.event.Event.{Event}
-use Rattle.sect_emit.specs.Plan.{grip, held_mode}
-use Rattle.sect_emit.specs.Compiled.{CompiledView}
+use Rattle.sect_emit.specs.{declared.plan.Grip.{Grip}, Plan.{grip, held_mode}, Compiled.{CompiledView}}
 use Rattle.sect_emit.specs.State.{ThreadState, State, IsThread}
-use Rattle.sect_world.specs.Events.{taking, lets_in, all_but, Happens}
-use Rattle.sect_world.specs.Runs.{RunsTo}
-use Rattle.sect_lemmas.proofs.Options.{some_injective}
+use Rattle.sect_world.specs.{declared.event.Event.{Event}, Events.{taking, lets_in, all_but, Happens}, Runs.{RunsTo}}
 use Rattle.sect_world.specs.Waiting.{Asks}
+use Rattle.sect_lemmas.proofs.{Options.{some_injective}, Booleans.{neither}}
 use Rattle.sect_world.specs.steps.Fits.{FitsBut, takes_first, granted, all_granted, take_of, takes, grants_at}
 use Rattle.sect_world.specs.steps.Fits.{entries_after, grants_of, entries_left}
 use Rattle.sect_world.proofs.Claims.{held-push, held-push_other, joins, all_but_of, lets_of, get-changed_other}
 use Rattle.sect_world.proofs.Claims.{get-changed_here, changed-put, not_claiming, stay-missing}
-use Rattle.sect_lemmas.proofs.Booleans.{neither}
 
 abbrev entry : Key → List Claim → List Claim → Entry
 entry k hs ws = record { key = k; holders = hs; waiters = ws }

@@ -1,28 +1,22 @@
 -- The texts of a program's threads.
 use Rattle.std.proofs.Common.{◌≡◌, ℕ, zero, suc, ◌+◌, Bool, true, false, refl, sym, ap, ◌∙◌, subst, inl, inr, List, []}
 use Rattle.std.proofs.Common.{◌∷◌, ◌++◌, length, Some, arith, None}
-use Rattle.sect_lemmas.proofs.Membership.{Has-left, Has-right}
-use Rattle.std.specs.Prelude.{slice_get, map}
-use Rattle.std.proofs.lemmas.Option.{get_or_from_slice_get, slice_get-map}
+use Rattle.std.proofs.{lemmas.Option.{get_or_from_slice_get, slice_get-map}, lemmas.List.{length-map}}
+use Rattle.std.proofs.lemmas.Bool.{false≢true}
+use Rattle.sect_lemmas.proofs.{Membership.{Has-left, Has-right}, Elements.{slice_get-left}}
+use Rattle.sect_lemmas.proofs.{Options.{some_injective, none_or_some}, Listing.{Has-map}}
+use Rattle.std.specs.{Prelude.{slice_get, map}, Option.{option_map}}
 use Rattle.sect_lemmas.specs.Lists.{Has}
 use Rattle.sect_types.specs.declared.declarations.types.ValueType.{ValueType}
 use Rattle.sect_types.specs.declared.expansion.action.Action.{Action}
 use Rattle.sect_types.specs.Statements.{TextView, Stop, Do, Choose, Loop, Section, joined, section_bodies}
 use Rattle.sect_types.specs.Sections.{SectionView, sections_from, sections_of, AreNumbered, AllNumbered}
-use Rattle.sect_types.specs.Environments.{Environment}
-use Rattle.sect_types.specs.Sound.{IsSound, AreSound}
+use Rattle.sect_types.specs.{Environments.{Environment}, Sound.{IsSound, AreSound}}
 use Rattle.sect_types.specs.Programs.{ProgramView, environment_at}
-use Rattle.sect_points.specs.Flow.{actions_of}
-use Rattle.sect_points.specs.Statements.{thread_action, actions_from, thread_actions}
+use Rattle.sect_points.specs.{Flow.{actions_of}, Statements.{thread_action, actions_from, thread_actions}}
 use Rattle.sect_points.specs.declared.holders.ThreadAction.{ThreadAction}
 use Rattle.sect_world.specs.Kept.{Each, IsTextOf}
-use Rattle.sect_lemmas.proofs.Elements.{slice_get-left}
-use Rattle.sect_lemmas.proofs.Options.{some_injective, none_or_some}
 use Rattle.sect_types.proofs.shared.Joining.{sound_joined}
-use Rattle.std.proofs.lemmas.List.{length-map}
-use Rattle.sect_lemmas.proofs.Listing.{Has-map}
-use Rattle.std.specs.Option.{option_map}
-use Rattle.std.proofs.lemmas.Bool.{false≢true}
 
 -- what holds of the statements of both holds of the joined ones
 pub each_joined : (A : Action → Type 0) (S : ℕ → TextView → Type 0) (p k : TextView) → Each A S p → Each A S k

@@ -1,19 +1,15 @@
 -- Steps outside sections: they look into no object, and change and print nothing.
 use Rattle.std.proofs.Common.{◌≡◌, ℕ, zero, suc, Bool, true, false, refl, sym, ap, None, true≢false}
 use Rattle.std.specs.Prelude.{if◌then◌else◌}
-use Rattle.sect_types.specs.declared.expansion.action.Condition.{Condition}
-use Rattle.sect_types.specs.declared.expansion.action.Action.{Action}
-use Rattle.sect_types.specs.declared.expansion.action.Action.TheVariants as action
-use Rattle.sect_types.specs.Statements.{TextView, Stop, Do, Choose, Loop, Section, joined}
-use Rattle.sect_types.specs.Environments.{Environment}
-use Rattle.sect_types.specs.Sound.{IsSound, is_shared}
-use Rattle.sect_types.specs.Programs.{ProgramView}
-use Rattle.sect_types.specs.declared.meaning.store.Datum.TheVariants.{Number}
-use Rattle.sect_types.specs.declared.meaning.store.Fault.TheVariants as fault
-use Rattle.sect_types.specs.Store.{StoreView}
+use Rattle.sect_types.specs.{declared.expansion.action.Condition.{Condition}, declared.expansion.action.Action.{Action}}
+use Rattle.sect_types.specs.{Statements.{TextView, Stop, Do, Choose, Loop, Section, joined}, Environments.{Environment}}
+use Rattle.sect_types.specs.{Sound.{IsSound, is_shared}, Programs.{ProgramView}}
+use Rattle.sect_types.specs.{declared.meaning.store.Datum.TheVariants.{Number}, Store.{StoreView}}
 use Rattle.sect_types.specs.Meaning.{WorkView, value_datum, Unchanged, Came, Went, Fell, assigned, integer_of}
 use Rattle.sect_types.specs.Meaning.{result_of, fits, done, paid, one, found_at, Next, On, Off, going, taken, next}
 use Rattle.sect_types.specs.Meaning.{looks}
+use Rattle.sect_types.specs.declared.expansion.action.Action.TheVariants as action
+use Rattle.sect_types.specs.declared.meaning.store.Fault.TheVariants as fault
 
 -- outside sections no object is looked into
 looks_nowhere : (e : Environment) (k : TextView) (w : WorkView) → IsSound e false k → looks k w ≡ None

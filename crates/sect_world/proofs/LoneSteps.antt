@@ -1,44 +1,31 @@
 -- A thread runs its local code and a whole section while all others stand outside.
-use Rattle.std.proofs.Common.{true≢false, ◌≡◌, ◌≢◌, ◌≤◌, ◌++◌, ◌∙◌, refl, sym, ap, subst, arith, ℕ, zero, suc}
-use Rattle.std.proofs.Common.{inl, inr, Bool, true, false, List, [], ◌∷◌, map, Option, Some, None, if◌then◌else◌}
-use Rattle.std.specs.Prelude.{ℤ, slice_get}
-use Rattle.std.specs.List.{list_all}
-use Rattle.std.proofs.lemmas.Bool.{and_from}
-use Rattle.std.proofs.lemmas.List.{append-nil, append_assoc}
+use Rattle.std.proofs.Common.{true≢false, ◌≡◌, ◌≢◌, ◌≤◌, ◌++◌, ◌∙◌, refl, sym, ap, subst, arith, ℕ, zero, suc, inl, inr}
+use Rattle.std.proofs.Common.{Bool, true, false, List, [], ◌∷◌, map, Option, Some, None, if◌then◌else◌}
+use Rattle.std.proofs.{lemmas.Bool.{and_from}, lemmas.List.{append-nil, append_assoc}}
+use Rattle.std.specs.{Prelude.{ℤ, slice_get}, List.{list_all}}
 use Rattle.sect_lemmas.specs.Lists.{Has, put_at}
-use Rattle.sect_lemmas.proofs.Options.{some_injective, none_or_some}
-use Rattle.sect_lemmas.proofs.Replaced.{put_same}
-use Rattle.sect_types.specs.declared.meaning.store.End.{End}
-use Rattle.sect_types.specs.declared.meaning.store.Fault.{Fault}
-use Rattle.sect_types.specs.Programs.{ProgramView}
-use Rattle.sect_types.specs.Statements.{TextView, Stop, Do, Choose, Loop, Section, joined}
-use Rattle.sect_types.specs.Store.{ObjectView, StoreView}
-use Rattle.sect_types.specs.declared.expansion.action.Condition.{Condition}
-use Rattle.sect_types.specs.declared.meaning.store.Fault.TheVariants as fault
+use Rattle.sect_lemmas.proofs.{Options.{some_injective, none_or_some}, Replaced.{put_same}}
+use Rattle.sect_types.specs.{declared.meaning.store.End.{End}, declared.meaning.store.Fault.{Fault}}
+use Rattle.sect_types.specs.{Programs.{ProgramView}, Statements.{TextView, Stop, Do, Choose, Loop, Section, joined}}
+use Rattle.sect_types.specs.{Store.{ObjectView, StoreView}, declared.expansion.action.Condition.{Condition}}
 use Rattle.sect_types.specs.Meaning.{WorkView, Came, Went, Fell, Change, Next, On, Off, after_change, going, paid, done}
 use Rattle.sect_types.specs.Meaning.{taken, next, looks, found_at, begins_step}
 use Rattle.sect_types.specs.Whole.{FrameView, RunView, Left, Through, Broken, body_of, ahead, up_to, local_step}
 use Rattle.sect_types.specs.Whole.{is_standing, has_ended, begins_section, frame_left, store_left, printed_left}
 use Rattle.sect_types.specs.Whole.{after_section, run_section, section_of_thread, section_by}
-use Rattle.sect_types.proofs.shared.BodySteps.{left_after, step_keeps}
-use Rattle.sect_types.proofs.shared.RunningAhead.{LeavesFuel, done_leaves}
-use Rattle.sect_modes.specs.declared.mode.Mode.{Mode}
-use Rattle.sect_modes.specs.declared.key.Key.{Key}
-use Rattle.sect_emit.specs.declared.plan.Grip.{Grip}
-use Rattle.sect_emit.specs.Plan.{Ascends, meets, is_met, held_mode}
+use Rattle.sect_types.proofs.shared.{BodySteps.{left_after, step_keeps}, RunningAhead.{LeavesFuel, done_leaves}}
+use Rattle.sect_modes.specs.{declared.mode.Mode.{Mode}, declared.key.Key.{Key}}
+use Rattle.sect_emit.specs.{declared.plan.Grip.{Grip}, Plan.{Ascends, meets, is_met, held_mode}}
 use Rattle.sect_emit.specs.Compiled.{CompiledView, IsCompiled, program_of}
-use Rattle.sect_emit.specs.State.{Position, Entered, Running, Faulted, ThreadState, State, IsThread, outside}
-use Rattle.sect_emit.specs.State.{plan_at}
-use Rattle.sect_emit.proofs.shared.Plans.{ascending_mode}
-use Rattle.sect_emit.proofs.shared.Modes.{at_least_itself}
+use Rattle.sect_emit.specs.State.{Position, Entered, Running, Faulted, ThreadState, State, IsThread, outside, plan_at}
+use Rattle.sect_emit.proofs.shared.{Plans.{ascending_mode}, Modes.{at_least_itself}}
 use Rattle.sect_world.specs.declared.event.Deed.{Deed}
 use Rattle.sect_world.specs.declared.event.Deed.TheVariants.{Local, Enter, Take, Begin, Act, Leave}
 use Rattle.sect_world.specs.declared.event.Event.{Event}
 use Rattle.sect_world.specs.Events.{Happens, all_but, lets_in, acting, changed_by, step_in, grips_of}
-use Rattle.sect_world.specs.Runs.{IsRun, leaver, order_of}
-use Rattle.sect_world.specs.Kept.{IsWellKept}
-use Rattle.sect_world.proofs.KeptStates.{runs_are_well_kept}
-use Rattle.sect_world.proofs.LongerRuns.{run_on, order_of-more}
+use Rattle.sect_world.specs.{Runs.{IsRun, leaver, order_of}, Kept.{IsWellKept}}
+use Rattle.sect_world.proofs.{KeptStates.{runs_are_well_kept}, LongerRuns.{run_on, order_of-more}}
+use Rattle.sect_types.specs.declared.meaning.store.Fault.TheVariants as fault
 
 -- an element that is put twice is put once
 pub put_twice : {A : Type 0} (t : ℕ) (x y : A) (xs : List A) → put_at t y (put_at t x xs) ≡ put_at t y xs

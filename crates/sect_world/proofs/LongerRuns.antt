@@ -1,10 +1,7 @@
 -- Runs that go on: events after events, and one event more.
 use Rattle.std.proofs.Common.{◌≡◌, ◌++◌, ℕ, List, [], ◌∷◌, refl, sym, ap, ◌∙◌, append-nil, append_assoc}
-use Rattle.sect_emit.specs.Compiled.{CompiledView}
-use Rattle.sect_emit.specs.State.{State, start}
-use Rattle.sect_world.specs.declared.event.Event.{Event}
-use Rattle.sect_world.specs.Events.{Happens}
-use Rattle.sect_world.specs.Runs.{IsRun, leaver, order_of}
+use Rattle.sect_emit.specs.{Compiled.{CompiledView}, State.{State, start}}
+use Rattle.sect_world.specs.{declared.event.Event.{Event}, Events.{Happens}, Runs.{IsRun, leaver, order_of}}
 use Rattle.sect_world.proofs.shared.LongerRuns.{leads_more}
 
 -- a run and one event more

@@ -1,12 +1,9 @@
 -- A plan is met where each of its keys is, one after another.
 use Rattle.std.proofs.Common.{◌≡◌, ◌<◌, ◌+◌, ℕ, zero, suc, Bool, false, List, [], ◌∷◌, Some, None, length, drop, get_or}
 use Rattle.std.proofs.Common.{refl, sym, ap, ◌∙◌, arith, ◌&&◌}
-use Rattle.sect_modes.specs.declared.mode.Mode.{Mode}
-use Rattle.sect_modes.specs.Mode.{is_at_least}
-use Rattle.sect_table.specs.declared.claims.Hold.{Hold}
-use Rattle.sect_table.specs.Contents.{mode_in}
-use Rattle.sect_emit.specs.declared.plan.Grip.{Grip}
-use Rattle.sect_emit.specs.Plan.{is_met, meets}
+use Rattle.sect_modes.specs.{declared.mode.Mode.{Mode}, Mode.{is_at_least}}
+use Rattle.sect_table.specs.{declared.claims.Hold.{Hold}, Contents.{mode_in}}
+use Rattle.sect_emit.specs.{declared.plan.Grip.{Grip}, Plan.{is_met, meets}}
 use Rattle.sect_world.specs.Waiting.{grips}
 use Rattle.sect_world.proofs.Claims.{held-grips}
 

@@ -1,54 +1,36 @@
 -- What is secured: what a covering lock or a plan that is met secures, and what that allows.
 use Rattle.std.proofs.Common.{◌≡◌, inl, inr, ℕ, List, Bool, true, ◌||◌, Option, Some, None, refl, sym, ap, ◌∙◌, subst}
+use Rattle.std.proofs.{lemmas.Option.{get_or_from_slice_get}, lemmas.Bool.{or_cases}}
 use Rattle.std.specs.Prelude.{slice_get}
-use Rattle.std.proofs.lemmas.Option.{get_or_from_slice_get}
 use Rattle.sect_lemmas.specs.Lists.{Has}
-use Rattle.sect_types.specs.Programs.{sites_of, all_made}
-use Rattle.sect_types.specs.Statements.{TextView}
-use Rattle.sect_types.specs.declared.expansion.action.Field.{Field}
-use Rattle.sect_points.specs.Paths.{PathView}
-use Rattle.sect_points.specs.Partitions.{HasClass}
-use Rattle.sect_names.specs.declared.lock.Effect.{Effect}
-use Rattle.sect_names.specs.declared.lock.Effect.TheVariants as effect
-use Rattle.sect_names.specs.declared.lock.Lock.{Lock}
-use Rattle.sect_names.specs.declared.lock.Lock.TheVariants as lock
-use Rattle.sect_names.specs.Schemes.{IsScheme, guard_of}
-use Rattle.sect_names.specs.Locks.{Allows, Covers, PathTo, IsOwn}
-use Rattle.sect_names.specs.Records.{IsTypedProgram, SiteOf, IsNeedable}
-use Rattle.sect_names.specs.Walks.{StandsInThread}
-use Rattle.sect_names.specs.Needed.{end_of}
-use Rattle.sect_names.specs.Along.{NeededIn, GoesBy, read_for}
-use Rattle.sect_emit.specs.Pointed.{IsPointedStore, IsPointed}
-use Rattle.sect_lemmas.proofs.Elements.{slice_get-left}
-use Rattle.sect_names.proofs.shared.Walking.{reads_in}
-use Rattle.sect_emit.proofs.shared.Pointing.{denoted}
-use Rattle.sect_lemmas.proofs.Booleans.{or_left, or_right}
-use Rattle.sect_names.proofs.shared.Ends.{end_needable, end_reads}
-use Rattle.sect_names.proofs.shared.Needing.{needed_needable}
-use Rattle.sect_names.proofs.shared.Beginning.{begins_to, begins_own}
-use Rattle.sect_modes.specs.declared.mode.Mode.{Mode}
-use Rattle.sect_modes.specs.declared.mode.Mode.TheVariants.{Exclusive}
-use Rattle.sect_modes.specs.declared.key.Key.TheVariants as key
-use Rattle.sect_modes.specs.Mode.{is_at_least, is_reading}
-use Rattle.sect_types.specs.declared.meaning.store.ObjectName.{ObjectName}
-use Rattle.sect_types.specs.declared.meaning.store.ObjectName.TheVariants as object
+use Rattle.sect_types.specs.{Programs.{sites_of, all_made}, Statements.{TextView}}
+use Rattle.sect_types.specs.{declared.expansion.action.Field.{Field}, declared.meaning.store.ObjectName.{ObjectName}}
 use Rattle.sect_types.specs.declared.meaning.store.Datum.TheVariants.{Refers}
-use Rattle.sect_emit.specs.declared.plan.Grip.{Grip}
-use Rattle.sect_types.specs.Store.{ObjectView, StoreView, object_at}
-use Rattle.sect_types.specs.Meaning.{WorkView}
+use Rattle.sect_types.specs.{Store.{ObjectView, StoreView, object_at}, Meaning.{WorkView}}
+use Rattle.sect_points.specs.{Paths.{PathView}, Partitions.{HasClass}}
+use Rattle.sect_names.specs.{declared.lock.Effect.{Effect}, declared.lock.Lock.{Lock}, Schemes.{IsScheme, guard_of}}
+use Rattle.sect_names.specs.{Locks.{Allows, Covers, PathTo, IsOwn}, Records.{IsTypedProgram, SiteOf, IsNeedable}}
+use Rattle.sect_names.specs.{Walks.{StandsInThread}, Needed.{end_of}, Along.{NeededIn, GoesBy, read_for}}
+use Rattle.sect_emit.specs.{Pointed.{IsPointedStore, IsPointed}, declared.plan.Grip.{Grip}}
 use Rattle.sect_emit.specs.Plan.{IsFixedPart, plan_of, path_datum, held_mode, is_met, meets, class_mode, object_mode}
-use Rattle.sect_emit.specs.Compiled.{CompiledView, program_of}
-use Rattle.sect_world.specs.Events.{guard_at}
-use Rattle.sect_emit.specs.ModeTests.{passes, is_reading_object, is_writing}
-use Rattle.sect_world.specs.Held.{holds_all, class_mode_in, is_held, locked_object, guard_or, may_read}
-use Rattle.sect_world.specs.Kept.{AreGripsKept}
+use Rattle.sect_emit.specs.{Compiled.{CompiledView, program_of}, ModeTests.{passes, is_reading_object, is_writing}}
+use Rattle.sect_lemmas.proofs.{Elements.{slice_get-left}, Booleans.{or_left, or_right}}
+use Rattle.sect_names.proofs.shared.{Walking.{reads_in}, Ends.{end_needable, end_reads}, Needing.{needed_needable}}
+use Rattle.sect_names.proofs.shared.Beginning.{begins_to, begins_own}
+use Rattle.sect_emit.proofs.shared.Pointing.{denoted}
 use Rattle.sect_emit.proofs.shared.Modes.{at_least_along, writing_is, met_mode, met_less, allows_mode, grants_mode}
-use Rattle.sect_emit.proofs.shared.Modes.{includes_mode}
-use Rattle.sect_world.specs.Secured.{may_by, Secured, AllSecured}
-use Rattle.sect_emit.proofs.shared.Grips.{path_met, class_met, all_met}
+use Rattle.sect_emit.proofs.shared.{Modes.{includes_mode}, Grips.{path_met, class_met, all_met}}
+use Rattle.sect_modes.specs.{declared.mode.Mode.{Mode}, declared.mode.Mode.TheVariants.{Exclusive}}
+use Rattle.sect_modes.specs.Mode.{is_at_least, is_reading}
+use Rattle.sect_world.specs.Events.{guard_at}
+use Rattle.sect_world.specs.Held.{holds_all, class_mode_in, is_held, locked_object, guard_or, may_read}
+use Rattle.sect_world.specs.{Kept.{AreGripsKept}, Secured.{may_by, Secured, AllSecured}}
 use Rattle.sect_world.proofs.Holding.{IsHeldBy, held_is, is_held_so, locked_is}
-use Rattle.std.proofs.lemmas.Bool.{or_cases}
 use Rattle.sect_points.proofs.shared.ClassLaws.{path_classes}
+use Rattle.sect_names.specs.declared.lock.Effect.TheVariants as effect
+use Rattle.sect_names.specs.declared.lock.Lock.TheVariants as lock
+use Rattle.sect_modes.specs.declared.key.Key.TheVariants as key
+use Rattle.sect_types.specs.declared.meaning.store.ObjectName.TheVariants as object
 
 -- the modes of a key and of a class that are enough for an effect
 abbrev pub key_test : Effect → Mode → Bool

@@ -1,46 +1,31 @@
 -- What a move makes of a thread is what the machine does to it, so it is a turn.
 use Rattle.std.proofs.Common.{◌≡◌, ◌≢◌, inl, inr, option_map, ℕ, ◌<◌, List, [], ◌∷◌, ◌++◌, length, drop, true, false}
-use Rattle.std.proofs.Common.{true≢false, Some, refl, sym, ◌∙◌, ap, subst}
-use Rattle.std.specs.Prelude.{ℤ, slice_get, slice_set}
-use Rattle.std.proofs.lemmas.Bool.{cases_lt}
+use Rattle.std.proofs.{Common.{true≢false, Some, refl, sym, ◌∙◌, ap, subst}, lemmas.Bool.{cases_lt}}
 use Rattle.std.proofs.lemmas.Option.{slice_get_within}
-use Rattle.sect_types.specs.Statements.{TextView, Stop, Do, Choose, Loop, Section}
-use Rattle.sect_types.specs.Sections.{sections_of}
-use Rattle.sect_types.specs.Store.{StoreView}
-use Rattle.sect_lemmas.specs.Lists.{put_at}
-use Rattle.sect_types.specs.Sound.{IsSound}
-use Rattle.sect_types.specs.Programs.{environment_at}
-use Rattle.sect_types.specs.Meaning.{begins_step}
-use Rattle.sect_types.specs.Whole.{local_step}
-use Rattle.sect_lemmas.proofs.Options.{some_injective}
-use Rattle.sect_lemmas.proofs.Places.{at_of}
-use Rattle.sect_types.specs.declared.expansion.action.Label.{Label}
-use Rattle.sect_graph.specs.declared.flow.Node.{Node}
-use Rattle.sect_graph.specs.Rests.{Begins, rest_at}
-use Rattle.sect_table.specs.Contents.{Contents, held_by, entry_of}
-use Rattle.sect_emit.specs.Plan.{meets, key_of}
-use Rattle.sect_emit.specs.Compiled.{CompiledView, IsCompiled, program_of}
-use Rattle.sect_emit.specs.State.{Outside, Entered, Running, Faulted, ThreadState, State, IsThread, plan_at}
+use Rattle.std.specs.Prelude.{ℤ, slice_get, slice_set}
+use Rattle.sect_types.specs.{Statements.{TextView, Stop, Do, Choose, Loop, Section}, Sections.{sections_of}}
+use Rattle.sect_types.specs.{Store.{StoreView}, Sound.{IsSound}, Programs.{environment_at}, Meaning.{begins_step}}
+use Rattle.sect_types.specs.{Whole.{local_step}, declared.expansion.action.Label.{Label}}
 use Rattle.sect_types.specs.declared.meaning.store.ObjectName.TheVariants.{Made}
-use Rattle.sect_world.specs.declared.event.Deed.TheVariants.{Local, Enter, Begin, Act}
-use Rattle.sect_world.specs.declared.event.Event.{Event}
-use Rattle.sect_world.specs.declared.runner.Phase.{Phase}
-use Rattle.sect_world.specs.declared.runner.Phase.TheVariants as phase
-use Rattle.sect_world.specs.declared.runner.Runner.{Runner}
-use Rattle.sect_world.specs.declared.turned.EventKind.TheVariants as kind
+use Rattle.sect_lemmas.specs.Lists.{put_at}
+use Rattle.sect_lemmas.proofs.{Options.{some_injective}, Places.{at_of}}
+use Rattle.sect_graph.specs.{declared.flow.Node.{Node}, Rests.{Begins, rest_at}}
+use Rattle.sect_table.specs.Contents.{Contents, held_by, entry_of}
+use Rattle.sect_emit.specs.{Plan.{meets, key_of}, Compiled.{CompiledView, IsCompiled, program_of}}
+use Rattle.sect_emit.specs.State.{Outside, Entered, Running, Faulted, ThreadState, State, IsThread, plan_at}
+use Rattle.sect_world.specs.{declared.event.Deed.TheVariants.{Local, Enter, Begin, Act}, declared.event.Event.{Event}}
+use Rattle.sect_world.specs.{declared.runner.Phase.{Phase}, declared.runner.Runner.{Runner}}
 use Rattle.sect_world.specs.declared.turned.Turned.TheVariants.{Moved}
 use Rattle.sect_world.specs.Events.{IsFree, IsReady, with_frame, entering, beginning, acting, step_in, changed_by}
-use Rattle.sect_world.specs.Kept.{IsTextOf, IsThreadKept, IsAt}
-use Rattle.sect_world.specs.Waiting.{grips}
+use Rattle.sect_world.specs.{Kept.{IsTextOf, IsThreadKept, IsAt}, Waiting.{grips}}
+use Rattle.sect_world.specs.Viewing.{text_at, body_at, body_in, position_of, frame_of, thread_of, threads_of, state_of}
+use Rattle.sect_world.specs.Viewing.{shown, IsSited, IsWorld}
 use Rattle.sect_world.specs.steps.Moves.{HoldsMore, IsNext, grips_by}
-use Rattle.sect_world.specs.Viewing.{text_at, body_at, body_in, position_of, frame_of, thread_of, threads_of}
-use Rattle.sect_world.specs.Viewing.{state_of, shown, IsSited, IsWorld}
-use Rattle.sect_world.proofs.FreshKeys.{next_key_free}
-use Rattle.sect_world.proofs.FreshGrips.{looked_up}
-use Rattle.sect_world.proofs.KeptStates.{runs_are_well_kept}
-use Rattle.sect_world.proofs.NodeSteps.{at_exit, at_end, section_graph, thread_graph}
-use Rattle.sect_world.proofs.Turning.{standing, went_on}
+use Rattle.sect_world.proofs.{FreshKeys.{next_key_free}, FreshGrips.{looked_up}, KeptStates.{runs_are_well_kept}}
+use Rattle.sect_world.proofs.{NodeSteps.{at_exit, at_end, section_graph, thread_graph}, Turning.{standing, went_on}}
 use Rattle.sect_world.proofs.Viewing.{world_fits, TurnsInto}
+use Rattle.sect_world.specs.declared.runner.Phase.TheVariants as phase
+use Rattle.sect_world.specs.declared.turned.EventKind.TheVariants as kind
 
 -- what a node begins, its label says
 next_of : (rest : ℕ → TextView) (x : Node) (k : TextView) (l : Label) → Begins rest x k → x.label ≡ l → IsNext l k

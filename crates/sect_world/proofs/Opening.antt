@@ -1,29 +1,21 @@
 -- The world in which runs start; and where the text of a thread is at its end.
 use Rattle.std.proofs.Common.{◌≡◌, ℕ, zero, suc, ◌<◌, ◌≤◌, List, [], ◌∷◌, ◌++◌, length, map, drop, Some, None, refl}
-use Rattle.std.proofs.Common.{sym, ◌∙◌, ap, subst, arith}
-use Rattle.std.specs.Prelude.{slice_get, slice_index_or, replicate}
-use Rattle.std.proofs.lemmas.List.{length-replicate}
+use Rattle.std.proofs.{Common.{sym, ◌∙◌, ap, subst, arith}, lemmas.List.{length-replicate}}
 use Rattle.std.proofs.lemmas.Option.{get_or_from_slice_get}
+use Rattle.std.specs.Prelude.{slice_get, slice_index_or, replicate}
 use Rattle.sect_types.specs.declared.declarations.types.ValueType.{ValueType}
-use Rattle.sect_types.specs.declared.meaning.store.End.TheVariants.{Done}
+use Rattle.sect_types.specs.{declared.meaning.store.End.TheVariants.{Done}, Statements.{TextView, Stop}}
+use Rattle.sect_types.specs.{Meaning.{WorkView}, Whole.{settled, first_work, first_frames, first_store}}
 use Rattle.sect_lemmas.specs.Lists.{Has}
-use Rattle.sect_types.specs.Statements.{TextView, Stop}
-use Rattle.sect_types.specs.Meaning.{WorkView}
-use Rattle.sect_types.specs.Whole.{settled, first_work, first_frames, first_store}
 use Rattle.sect_lemmas.proofs.Options.{some_injective, none_or_some}
-use Rattle.sect_graph.specs.declared.flow.Node.{Node}
-use Rattle.sect_graph.specs.Rests.{rest_at}
-use Rattle.sect_table.specs.Contents.{Contents, IsEmptyFor, entry_of}
-use Rattle.sect_table.specs.Sound.{IsKept as IsTableKept}
-use Rattle.sect_emit.specs.Compiled.{CompiledView, IsCompiled, program_of}
-use Rattle.sect_emit.specs.State.{outside, start}
-use Rattle.sect_world.specs.declared.runner.Phase.TheVariants as phase
-use Rattle.sect_world.specs.declared.runner.Runner.{Runner}
-use Rattle.sect_world.specs.Events.{emptied}
-use Rattle.sect_world.specs.Worlds.{first_world}
-use Rattle.sect_world.proofs.NodeSteps.{thread_graph, at_exit, before_exit, settled_at_exit}
+use Rattle.sect_graph.specs.{declared.flow.Node.{Node}, Rests.{rest_at}}
+use Rattle.sect_table.specs.{Contents.{Contents, IsEmptyFor, entry_of}, Sound.{IsKept as IsTableKept}}
+use Rattle.sect_emit.specs.{Compiled.{CompiledView, IsCompiled, program_of}, State.{outside, start}}
+use Rattle.sect_world.specs.{declared.runner.Runner.{Runner}, Events.{emptied}, Worlds.{first_world}}
 use Rattle.sect_world.specs.Viewing.{text_at, position_of, frame_of, BeginsSo, EndsSo, IsFirst, AreFirst, IsSited}
 use Rattle.sect_world.specs.Viewing.{IsWorld, thread_of, threads_of, state_of, shown}
+use Rattle.sect_world.proofs.NodeSteps.{thread_graph, at_exit, before_exit, settled_at_exit}
+use Rattle.sect_world.specs.declared.runner.Phase.TheVariants as phase
 
 module _ (c : CompiledView) (is : IsCompiled c) (t : ℕ) (within : t < length (program_of c).texts) (g : List Node)
     (at : slice_get c.scheme.graphs.threads t ≡ Some g) where

@@ -1,80 +1,61 @@
 -- What a section in progress has made is its own: no other thread refers to it, and no section that goes together with
 -- it asks for its key.
-use Rattle.std.proofs.Common.{◌≡◌, ◌≢◌, ◌⊎◌, inl, inr, ℕ, ◌<◌, ◌≤◌, List, [], ◌∷◌, ◌++◌, length, Bool, true}
-use Rattle.std.proofs.Common.{false, Option, Some, None, refl, sym, ap, ◌∙◌, subst, arith, append-nil}
-use Rattle.std.specs.Prelude.{ℤ, slice_get, slice_index_or}
+use Rattle.std.proofs.Common.{◌≡◌, ◌≢◌, ◌⊎◌, inl, inr, ℕ, ◌<◌, ◌≤◌, List, [], ◌∷◌, ◌++◌, length, Bool, true, false}
+use Rattle.std.proofs.Common.{Option, Some, None, refl, sym, ap, ◌∙◌, subst, arith, append-nil}
 use Rattle.std.proofs.lemmas.Option.{slice_get_within, slice_get-get_or}
+use Rattle.std.specs.Prelude.{ℤ, slice_get, slice_index_or}
 use Rattle.sect_lemmas.specs.Lists.{Has}
-use Rattle.sect_lemmas.proofs.Membership.{Has-cases, Has-left, Has-right}
-use Rattle.sect_lemmas.proofs.Options.{none_or_some, some_injective}
+use Rattle.sect_lemmas.proofs.{Membership.{Has-cases, Has-left, Has-right}, Options.{none_or_some, some_injective}}
 use Rattle.sect_lemmas.proofs.Replaced.{each_put, put_other}
-use Rattle.sect_types.specs.Statements.{TextView, Section}
-use Rattle.sect_types.specs.Sections.{sections_of}
-use Rattle.sect_types.specs.declared.expansion.action.Field.{Field}
-use Rattle.sect_types.specs.declared.meaning.store.Fault.{Fault}
+use Rattle.sect_types.specs.{Statements.{TextView, Section}, Sections.{sections_of}}
+use Rattle.sect_types.specs.{declared.expansion.action.Field.{Field}, declared.meaning.store.Fault.{Fault}}
 use Rattle.sect_types.specs.declared.meaning.store.ObjectName.{ObjectName}
 use Rattle.sect_types.specs.declared.meaning.store.ObjectName.TheVariants.{Global, Made}
 use Rattle.sect_types.specs.declared.meaning.store.Datum.{Datum}
 use Rattle.sect_types.specs.declared.meaning.store.Datum.TheVariants.{Number, Null, Refers}
 use Rattle.sect_types.specs.Store.{ObjectView, StoreView, object_at, row, count}
 use Rattle.sect_types.specs.Meaning.{WorkView, Change, Unchanged, Written, Added, after_change, found_at, looks, next}
-use Rattle.sect_types.specs.Meaning.{Next, On, Off}
-use Rattle.sect_types.specs.Whole.{FrameView, local_step, settled}
-use Rattle.sect_points.specs.declared.holders.Variable.TheVariants as variable
+use Rattle.sect_types.specs.{Meaning.{Next, On, Off}, Whole.{FrameView, local_step, settled}}
 use Rattle.sect_points.specs.Paths.{PathView, var, dot}
-use Rattle.sect_names.specs.declared.lock.Effect.{Effect}
-use Rattle.sect_names.specs.declared.lock.Lock.TheVariants as lock
-use Rattle.sect_names.specs.Needed.{end_of}
-use Rattle.sect_names.specs.Along.{NeededIn, GoesBy}
+use Rattle.sect_names.specs.{declared.lock.Effect.{Effect}, Needed.{end_of}, Along.{NeededIn, GoesBy}}
 use Rattle.sect_names.proofs.shared.Walking.{needed_walk, section_stands}
-use Rattle.sect_modes.specs.declared.mode.Mode.{Mode}
-use Rattle.sect_modes.specs.declared.key.Key.{Key}
-use Rattle.sect_modes.specs.declared.key.Key.TheVariants as key
-use Rattle.sect_modes.specs.Mode.{are_compatible}
+use Rattle.sect_modes.specs.{declared.mode.Mode.{Mode}, declared.key.Key.{Key}, Mode.{are_compatible}}
 use Rattle.sect_emit.specs.declared.plan.Grip.{Grip}
 use Rattle.sect_emit.specs.Plan.{grip, held_mode, meets, IsFixedPart, field_datum, field_of, path_datum}
 use Rattle.sect_emit.specs.Compiled.{CompiledView, IsCompiled, AreSetsLeast, program_of}
 use Rattle.sect_emit.specs.State.{Position, Outside, Entered, Running, Faulted, ThreadState, State, IsThread, start}
-use Rattle.sect_emit.specs.State.{plan_at}
-use Rattle.sect_emit.specs.ModeTests.{is_writing}
-use Rattle.sect_emit.proofs.shared.Modes.{sharing_turned}
-use Rattle.sect_emit.proofs.shared.Plans.{mode_is_there, ascending_mode, ascends_right}
-use Rattle.sect_emit.proofs.shared.PlanModes.{plan_object}
-use Rattle.sect_emit.proofs.shared.TypedPrograms.{typed_program}
+use Rattle.sect_emit.specs.{State.{plan_at}, ModeTests.{is_writing}}
+use Rattle.sect_emit.proofs.shared.{Modes.{sharing_turned}, Plans.{mode_is_there, ascending_mode, ascends_right}}
+use Rattle.sect_emit.proofs.shared.{PlanModes.{plan_object}, TypedPrograms.{typed_program}}
 use Rattle.sect_types.proofs.shared.Data.{refers_injective, null_refers}
 use Rattle.sect_conflicts.specs.Laws.{IsSectionOver, PlansNeverClash}
 use Rattle.sect_world.specs.declared.event.Deed.{Deed}
 use Rattle.sect_world.specs.declared.event.Deed.TheVariants.{Local, Enter, Take, Begin, Again, Act, Leave}
 use Rattle.sect_world.specs.declared.event.Event.{Event}
 use Rattle.sect_world.specs.Events.{guard_at, fresh_grip, grips_of, entering, taking, beginning, giving_back}
-use Rattle.sect_world.specs.Events.{with_frame}
-use Rattle.sect_world.specs.Events.{acting, after_act, frame_out, step_in, MayDo}
-use Rattle.sect_world.specs.Accesses.{change_in, Asks}
-use Rattle.sect_world.specs.Excluding.{IsInSection}
+use Rattle.sect_world.specs.Events.{with_frame, acting, after_act, frame_out, step_in, MayDo}
+use Rattle.sect_world.specs.{Accesses.{change_in, Asks}, Excluding.{IsInSection}}
 use Rattle.sect_world.specs.Held.{locked_object, may_read, may_write, Loading, next_access}
-use Rattle.sect_world.specs.Kept.{HaveTheirClass, IsPlaced, IsWellKept}
-use Rattle.sect_world.specs.Runs.{RunsTo, IsRun}
+use Rattle.sect_world.specs.{Kept.{HaveTheirClass, IsPlaced, IsWellKept}, Runs.{RunsTo, IsRun}}
 use Rattle.sect_world.specs.Secured.{AllSecured, Good}
 use Rattle.sect_world.specs.Together.{IsIn, HasEntered, GoTogether, taken_by, taken_after, TogetherNeverWaitForHeld}
 use Rattle.sect_world.proofs.AllowedChanges.{IsAllowed, asked_is_allowed}
 use Rattle.sect_world.proofs.Excluding.{reader_and_writer_clash, readers_and_writers_exclude}
-use Rattle.sect_world.proofs.GoodRuns.{runs_are_good, good_holds_enough}
-use Rattle.sect_world.proofs.GoodStates.{met_plan_secures_all}
+use Rattle.sect_world.proofs.{GoodRuns.{runs_are_good, good_holds_enough}, GoodStates.{met_plan_secures_all}}
 use Rattle.sect_world.proofs.KeptPointed.{pointed_thread, its_section}
-use Rattle.sect_world.proofs.KeptStates.{plan_kept, plan_classes, runs_are_well_kept}
-use Rattle.sect_world.proofs.LeastPaths.{path_is_needed}
-use Rattle.sect_world.proofs.LoneSteps.{meets_itself}
-use Rattle.sect_world.proofs.LongerRuns.{run_on}
-use Rattle.sect_world.proofs.MetPlans.{beginnings_are_held}
+use Rattle.sect_world.proofs.{KeptStates.{plan_kept, plan_classes, runs_are_well_kept}, LeastPaths.{path_is_needed}}
+use Rattle.sect_world.proofs.{LoneSteps.{meets_itself}, LongerRuns.{run_on}, MetPlans.{beginnings_are_held}}
 use Rattle.sect_world.proofs.Planning.{plan_at_ascends}
-use Rattle.sect_world.proofs.References.{HasReference, FieldRefers, Writes, work_after, frame_work}
-use Rattle.sect_world.proofs.References.{next_refers, next_writes, field_after}
+use Rattle.sect_world.proofs.References.{HasReference, FieldRefers, Writes, work_after, frame_work, next_refers}
+use Rattle.sect_world.proofs.References.{next_writes, field_after}
 use Rattle.sect_world.proofs.AccessRights.{at_locked, own_grows, other_grows, touched_is_written}
 use Rattle.sect_world.proofs.SecuredSteps.{next_not_held}
 use Rattle.sect_world.proofs.StepChanges.{count_after, count-after_own, count-after_other, change_is_asked}
 use Rattle.sect_world.proofs.Together.{state_with, taken_next, each_taken, starts_outside, IsAsked, AllFollow}
-use Rattle.sect_world.proofs.Together.{same_stays}
-use Rattle.sect_world.proofs.Together.{deed_follows, all_follow, together_never_wait}
+use Rattle.sect_world.proofs.Together.{same_stays, deed_follows, all_follow, together_never_wait}
+use Rattle.sect_points.specs.declared.holders.Variable.TheVariants as variable
+use Rattle.sect_names.specs.declared.lock.Lock.TheVariants as lock
+use Rattle.sect_modes.specs.declared.key.Key.TheVariants as key
 
 -- a path that begins with `q.f` goes by the field f of q
 goes_before : (p q : PathView) (f g : Field) → GoesBy p (dot q f) g → GoesBy p q f

@@ -1,13 +1,10 @@
 -- The plan of a section is in key order.
 use Rattle.std.proofs.Common.{◌≡◌, ℕ, zero, suc, refl, sym, ◌∙◌, subst, List, [], ◌∷◌, Option, Some, None}
-use Rattle.std.specs.Prelude.{slice_get, slice_index_or}
 use Rattle.std.proofs.lemmas.Option.{get_or_from_slice_get}
+use Rattle.std.specs.Prelude.{slice_get, slice_index_or}
 use Rattle.sect_names.specs.declared.lock.Lock.{Lock}
-use Rattle.sect_types.specs.declared.meaning.store.Datum.{Datum}
-use Rattle.sect_emit.specs.declared.plan.Grip.{Grip}
-use Rattle.sect_types.specs.Store.{StoreView}
-use Rattle.sect_emit.specs.Plan.{plan_of, Ascends}
-use Rattle.sect_emit.specs.Compiled.{CompiledView, IsCompiled}
+use Rattle.sect_types.specs.{declared.meaning.store.Datum.{Datum}, Store.{StoreView}}
+use Rattle.sect_emit.specs.{declared.plan.Grip.{Grip}, Plan.{plan_of, Ascends}, Compiled.{CompiledView, IsCompiled}}
 use Rattle.sect_emit.specs.State.{plan_at}
 use Rattle.sect_lemmas.proofs.Options.{none_or_some}
 use Rattle.sect_emit.proofs.shared.Plans.{plan_ascends}

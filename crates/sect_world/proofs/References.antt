@@ -2,32 +2,28 @@
 use Rattle.std.proofs.Common.{◌≡◌, ◌≢◌, ◌⊎◌, inl, inr, ℕ, ℤ, zero, suc, ◌<◌, List, [], length, Option, Some, None, Bool}
 use Rattle.std.proofs.Common.{true, false, refl, sym, ap, ◌∙◌, subst}
 use Rattle.std.specs.Prelude.{slice_get, slice_index_or, pos, if◌then◌else◌}
-use Rattle.sect_types.specs.declared.expansion.action.Action.{Action}
-use Rattle.sect_types.specs.declared.expansion.action.Action.TheVariants as action
-use Rattle.sect_types.specs.declared.expansion.action.Condition.{Condition}
+use Rattle.sect_types.specs.{declared.expansion.action.Action.{Action}, declared.expansion.action.Condition.{Condition}}
 use Rattle.sect_types.specs.declared.expansion.action.Value.{Value}
-use Rattle.sect_types.specs.declared.expansion.action.Value.TheVariants as value
-use Rattle.sect_types.specs.Statements.{TextView, Stop, Do, Choose, Loop, Section, joined}
-use Rattle.sect_types.specs.Programs.{ProgramView}
+use Rattle.sect_types.specs.{Statements.{TextView, Stop, Do, Choose, Loop, Section, joined}, Programs.{ProgramView}}
 use Rattle.sect_types.specs.declared.meaning.store.ObjectName.{ObjectName}
 use Rattle.sect_types.specs.declared.meaning.store.ObjectName.TheVariants.{Global, Made}
 use Rattle.sect_types.specs.declared.meaning.store.Datum.{Datum}
 use Rattle.sect_types.specs.declared.meaning.store.Datum.TheVariants.{Number, Refers}
-use Rattle.sect_types.specs.declared.meaning.store.Fault.TheVariants as fault
 use Rattle.sect_types.specs.Store.{ObjectView, StoreView, same_name, object_at, count, with_field}
+use Rattle.sect_types.specs.Meaning.{WorkView, local_datum, datum_or_null, base_datum, value_datum, integer_of, fits}
+use Rattle.sect_types.specs.Meaning.{name_in, Change, Unchanged, Written, Added, after_change, Came, Went, Fell}
+use Rattle.sect_types.specs.Meaning.{result_of, assigned, stored, done, looked, paid, one, Next, On, Off, going, taken}
+use Rattle.sect_types.specs.{Meaning.{next, looks}, Whole.{frame_after, settled}}
 use Rattle.sect_lemmas.specs.Lists.{put_at}
-use Rattle.sect_types.specs.Meaning.{WorkView, local_datum, datum_or_null, base_datum, value_datum, integer_of}
-use Rattle.sect_types.specs.Meaning.{fits, name_in, Change, Unchanged, Written, Added, after_change, Came, Went, Fell}
-use Rattle.sect_types.specs.Meaning.{result_of, assigned, stored, done, looked, paid, one, Next, On, Off, going}
-use Rattle.sect_types.specs.Meaning.{taken, next, looks}
-use Rattle.sect_types.specs.Whole.{frame_after, settled}
-use Rattle.sect_world.specs.Accesses.{change_in}
-use Rattle.sect_world.specs.Held.{Loading, load_of, access_of, if_paid, next_access}
+use Rattle.sect_world.specs.{Accesses.{change_in}, Held.{Loading, load_of, access_of, if_paid, next_access}}
 use Rattle.sect_lemmas.proofs.Options.{mapped, some_injective, none_or_some}
 use Rattle.sect_types.proofs.shared.Data.{refers_injective, null_refers, number_refers, fresh_refers}
 use Rattle.sect_types.proofs.shared.Stores.{object_at-write, object_at-add}
 use Rattle.sect_emit.proofs.shared.Pointing.{put_or_kept}
 use Rattle.sect_world.proofs.StepChanges.{touches}
+use Rattle.sect_types.specs.declared.expansion.action.Action.TheVariants as action
+use Rattle.sect_types.specs.declared.expansion.action.Value.TheVariants as value
+use Rattle.sect_types.specs.declared.meaning.store.Fault.TheVariants as fault
 
 -- one of the locals refers to the object
 abbrev pub HasReference : List Datum → ObjectName → Type 0

@@ -1,30 +1,24 @@
 -- The replay of a section under a step of its own thread, and under a step of another.
 use Rattle.std.proofs.Common.{true≢false, ◌≡◌, ◌≢◌, ℕ, zero, suc, ◌<◌, ◌++◌, List, length, Some, None, Bool, true}
 use Rattle.std.proofs.Common.{false, refl, sym, ap, ◌∙◌, subst}
-use Rattle.sect_types.specs.Statements.{TextView}
-use Rattle.sect_types.specs.Programs.{ProgramView}
-use Rattle.sect_types.specs.declared.meaning.store.ObjectName.{ObjectName}
-use Rattle.sect_emit.specs.declared.plan.Grip.{Grip}
-use Rattle.sect_types.specs.Store.{StoreView, count, object_at}
+use Rattle.sect_types.specs.{Statements.{TextView}, Programs.{ProgramView}}
+use Rattle.sect_types.specs.{declared.meaning.store.ObjectName.{ObjectName}, Store.{StoreView, count, object_at}}
 use Rattle.sect_types.specs.Meaning.{WorkView, Change, after_change, found_at, Next, On, Off, next, looks}
 use Rattle.sect_types.specs.Whole.{Left, Through, Broken, body_of}
-use Rattle.sect_emit.specs.Compiled.{CompiledView, program_of}
+use Rattle.sect_emit.specs.{declared.plan.Grip.{Grip}, Compiled.{CompiledView, program_of}}
 use Rattle.sect_emit.specs.State.{Position, Outside, Entered, Running, Faulted, ThreadState}
+use Rattle.sect_emit.specs.{ModeTests.{is_writing, is_reading_object}, Plan.{held_mode}}
 use Rattle.sect_world.specs.Events.{grips_of, acting, changed_by, step_in}
-use Rattle.sect_emit.specs.ModeTests.{is_writing, is_reading_object}
 use Rattle.sect_world.specs.Held.{may_read, may_write, Access, Loading, next_access, may}
-use Rattle.sect_world.specs.Replay.{Phase, stage_after, one_on, replay}
+use Rattle.sect_world.specs.{Replay.{Phase, stage_after, one_on, replay}, Accesses.{change_in, Asks}}
 use Rattle.sect_world.proofs.SerialFrames.{Agrees, Replayed}
-use Rattle.sect_modes.specs.declared.key.Key.TheVariants as key
-use Rattle.sect_modes.specs.Mode.{is_reading}
-use Rattle.sect_emit.specs.Plan.{held_mode}
-use Rattle.sect_types.proofs.shared.BodySteps.{left_after, step_keeps}
-use Rattle.sect_world.specs.Accesses.{change_in, Asks}
 use Rattle.sect_world.proofs.StepChanges.{is_new, touches, object_after, count_after, object_at-after, count-after_own}
 use Rattle.sect_world.proofs.StepChanges.{count-after_other, rows-after, untouched, new_whatever, untouched_is_old}
-use Rattle.sect_world.proofs.StepChanges.{change_is_asked, same_step}
-use Rattle.sect_world.proofs.AllowedChanges.{IsAllowed, asked_is_allowed}
+use Rattle.sect_world.proofs.{StepChanges.{change_is_asked, same_step}, AllowedChanges.{IsAllowed, asked_is_allowed}}
 use Rattle.sect_world.proofs.AccessRights.{own_test, own_grows, other_test, other_grows, touched_is_written}
+use Rattle.sect_modes.specs.Mode.{is_reading}
+use Rattle.sect_types.proofs.shared.BodySteps.{left_after, step_keeps}
+use Rattle.sect_modes.specs.declared.key.Key.TheVariants as key
 
 -- what a section leaves once what is still to run of it has run
 abbrev pub still_left : ProgramView → ℕ → Position → WorkView → StoreView → Left

@@ -1,19 +1,14 @@
 -- Turns one after another are the turns of a schedule.
 use Rattle.std.proofs.Common.{◌≡◌, inl, inr, ℕ, ◌<◌, ◌++◌, List, [], ◌∷◌, map, length, refl, sym, ◌∙◌, ap, subst}
-use Rattle.std.proofs.Common.{append_assoc}
-use Rattle.std.proofs.lemmas.List.{append-nil, map-append}
+use Rattle.std.proofs.{Common.{append_assoc}, lemmas.List.{append-nil, map-append}}
 use Rattle.sect_lemmas.specs.Lists.{Has}
 use Rattle.sect_lemmas.proofs.Membership.{Has-cases}
-use Rattle.sect_emit.specs.Compiled.{CompiledView, program_of}
-use Rattle.sect_emit.specs.State.{State, start}
-use Rattle.sect_world.specs.declared.event.Event.{Event}
-use Rattle.sect_world.specs.declared.turned.Turned.{Turned}
-use Rattle.sect_world.specs.declared.schedule.Progress.{Progress}
-use Rattle.sect_types.specs.Whole.{SerialEndView, RunsWhole}
-use Rattle.sect_world.specs.Blocked.{IsStuck}
-use Rattle.sect_world.specs.Runs.{IsRun, IsComplete, order_of}
-use Rattle.sect_world.specs.Schedules.{TakeTurns, IsProgress, all_events}
+use Rattle.sect_emit.specs.{Compiled.{CompiledView, program_of}, State.{State, start}}
+use Rattle.sect_world.specs.{declared.event.Event.{Event}, declared.turned.Turned.{Turned}}
+use Rattle.sect_world.specs.{declared.schedule.Progress.{Progress}, Blocked.{IsStuck}}
+use Rattle.sect_world.specs.{Runs.{IsRun, IsComplete, order_of}, Schedules.{TakeTurns, IsProgress, all_events}}
 use Rattle.sect_world.specs.Worlds.{WorldView, Does, AllEnded, outcome_at}
+use Rattle.sect_types.specs.Whole.{SerialEndView, RunsWhole}
 use Rattle.sect_world.specs.steps.Counting.{IsCounted}
 
 -- one turn more

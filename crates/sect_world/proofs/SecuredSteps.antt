@@ -1,55 +1,41 @@
 -- A step of one thread keeps what it and the others have secured.
 use Rattle.std.proofs.Common.{◌≡◌, ◌≢◌, ◌⊎◌, inl, inr, ℕ, ◌<◌, List, [], ◌∷◌, ◌++◌, true, Option, Some, None, length}
-use Rattle.std.proofs.Common.{refl, sym, ap, ◌∙◌, subst}
-use Rattle.sect_types.specs.declared.expansion.action.Action.TheVariants as action
-use Rattle.sect_types.specs.declared.expansion.action.Label.{Label}
-use Rattle.sect_types.specs.declared.expansion.action.Label.TheVariants as label
-use Rattle.sect_types.specs.Statements.{TextView}
-use Rattle.sect_points.specs.Paths.{PathView}
-use Rattle.sect_names.specs.declared.lock.Effect.{Effect}
-use Rattle.sect_names.specs.declared.lock.Effect.TheVariants as effect
-use Rattle.sect_names.specs.declared.lock.Lock.TheVariants as lock
-use Rattle.sect_names.specs.Schemes.{IsScheme}
-use Rattle.sect_names.specs.Carrying.{right_for, CarriedBack}
-use Rattle.sect_names.specs.Records.{IsTypedProgram, IsNeedable}
-use Rattle.sect_names.specs.Walks.{Leads, StandsInThread}
-use Rattle.sect_names.specs.Needed.{end_of}
-use Rattle.sect_names.specs.Along.{NeededIn}
-use Rattle.sect_emit.specs.Pointed.{IsPointed, StepsTo, IsMade}
-use Rattle.sect_names.proofs.shared.Walking.{needed_step, leads_stands}
-use Rattle.sect_emit.proofs.shared.Pointing.{step_pointed}
-use Rattle.sect_names.proofs.shared.Needing.{needed_needable}
-use Rattle.sect_emit.proofs.shared.Securing.{needed_secures}
-use Rattle.sect_modes.specs.declared.mode.Mode.{Mode}
-use Rattle.sect_modes.specs.declared.mode.Mode.TheVariants.{Exclusive}
-use Rattle.sect_modes.specs.declared.key.Key.TheVariants as key
-use Rattle.sect_modes.specs.Mode.{is_at_least, intention_of, is_making}
+use Rattle.std.proofs.{Common.{refl, sym, ap, ◌∙◌, subst}, lemmas.Bool.{or_cases}}
+use Rattle.sect_types.specs.{declared.expansion.action.Label.{Label}, Statements.{TextView}}
 use Rattle.sect_types.specs.declared.meaning.store.ObjectName.{ObjectName}
-use Rattle.sect_types.specs.declared.meaning.store.ObjectName.TheVariants as object
 use Rattle.sect_types.specs.declared.meaning.store.Datum.TheVariants.{Refers}
-use Rattle.sect_emit.specs.declared.plan.Grip.{Grip}
 use Rattle.sect_types.specs.Store.{ObjectView, StoreView, object_at, count}
 use Rattle.sect_types.specs.Meaning.{WorkView, Change, Unchanged, Written, Added, after_change}
+use Rattle.sect_points.specs.Paths.{PathView}
+use Rattle.sect_names.specs.{declared.lock.Effect.{Effect}, Schemes.{IsScheme}, Carrying.{right_for, CarriedBack}}
+use Rattle.sect_names.specs.{Records.{IsTypedProgram, IsNeedable}, Walks.{Leads, StandsInThread}, Needed.{end_of}}
+use Rattle.sect_names.specs.{Along.{NeededIn}, declared.lock.Lock.{Lock}}
+use Rattle.sect_emit.specs.{Pointed.{IsPointed, StepsTo, IsMade}, declared.plan.Grip.{Grip}}
 use Rattle.sect_emit.specs.Plan.{grip, key_of, held_mode, path_datum, class_mode, object_mode, is_met}
-use Rattle.sect_emit.specs.Compiled.{CompiledView, program_of}
-use Rattle.sect_emit.specs.State.{Running, ThreadState, State, IsThread}
-use Rattle.sect_world.specs.Events.{guard_at, fresh_grip, grips_of}
+use Rattle.sect_emit.specs.{Compiled.{CompiledView, program_of}, State.{Running, ThreadState, State, IsThread}}
 use Rattle.sect_emit.specs.ModeTests.{passes}
-use Rattle.sect_world.specs.Held.{holds_all, mode_of_class, may_read, may_make_by}
-use Rattle.sect_world.specs.Kept.{AreGripsKept, HoldsClassOf, HaveTheirClass}
-use Rattle.sect_world.specs.Secured.{may_by, AllSecured, Good}
-use Rattle.sect_lemmas.proofs.Booleans.{or_left, or_right}
+use Rattle.sect_names.proofs.shared.{Walking.{needed_step, leads_stands}, Needing.{needed_needable}}
 use Rattle.sect_names.proofs.shared.Ends.{end_needable}
+use Rattle.sect_emit.proofs.shared.{Pointing.{step_pointed}, Securing.{needed_secures}}
 use Rattle.sect_emit.proofs.shared.Grips.{held_split, held_more, held_one, held_only}
+use Rattle.sect_modes.specs.{declared.mode.Mode.{Mode}, declared.mode.Mode.TheVariants.{Exclusive}}
+use Rattle.sect_modes.specs.Mode.{is_at_least, intention_of, is_making}
+use Rattle.sect_world.specs.Events.{guard_at, fresh_grip, grips_of}
+use Rattle.sect_world.specs.Held.{holds_all, mode_of_class, may_read, may_make_by}
+use Rattle.sect_world.specs.{Kept.{AreGripsKept, HoldsClassOf, HaveTheirClass}, Secured.{may_by, AllSecured, Good}}
+use Rattle.sect_lemmas.proofs.Booleans.{or_left, or_right}
 use Rattle.sect_world.proofs.KeptPointed.{pointed_thread, stands_inside}
 use Rattle.sect_world.proofs.Holding.{passes_in, holds_same, holds_append, all_more, mode_of_class_more, met_more}
-use Rattle.sect_world.proofs.Holding.{may_grows}
-use Rattle.sect_world.proofs.Excluding.{readers_and_writers_exclude}
+use Rattle.sect_world.proofs.{Holding.{may_grows}, Excluding.{readers_and_writers_exclude}}
 use Rattle.sect_world.proofs.MetPlans.{key_test, may_itself, may_by_class, denotes, beginnings_are_held}
 use Rattle.sect_world.proofs.AllowedChanges.{was_there, LeavesAlone, left_alone, next_is_none, sites_stay, IsAllowed}
 use Rattle.sect_world.proofs.Denoting.{path_stays}
-use Rattle.sect_names.specs.declared.lock.Lock.{Lock}
-use Rattle.std.proofs.lemmas.Bool.{or_cases}
+use Rattle.sect_types.specs.declared.expansion.action.Action.TheVariants as action
+use Rattle.sect_types.specs.declared.expansion.action.Label.TheVariants as label
+use Rattle.sect_names.specs.declared.lock.Effect.TheVariants as effect
+use Rattle.sect_names.specs.declared.lock.Lock.TheVariants as lock
+use Rattle.sect_modes.specs.declared.key.Key.TheVariants as key
+use Rattle.sect_types.specs.declared.meaning.store.ObjectName.TheVariants as object
 
 -- with what it holds a thread keeps the classes of its objects over a change of the store
 pub classes_stay : (c : CompiledView) (u : ℕ) (s : StoreView) → u < length s.made → (change : Change) (held : List Grip)

@@ -1,17 +1,12 @@
 -- A state of a run against whole sections: what has left is in the serial store, and what is in a section can be
 -- replayed from there.
 use Rattle.std.specs.Prelude.{◌≡◌, ◌≢◌, ℕ, true, false, List, Some, None, length, slice_get}
-use Rattle.sect_types.specs.Statements.{TextView, Section}
-use Rattle.sect_types.specs.Programs.{ProgramView}
-use Rattle.sect_types.specs.declared.meaning.store.ObjectName.{ObjectName}
-use Rattle.sect_emit.specs.declared.plan.Grip.{Grip}
-use Rattle.sect_types.specs.Store.{StoreView, object_at, count}
-use Rattle.sect_types.specs.Meaning.{WorkView}
-use Rattle.sect_types.specs.Whole.{FrameView, ahead, RunView}
-use Rattle.sect_emit.specs.Compiled.{CompiledView, program_of}
+use Rattle.sect_types.specs.{Statements.{TextView, Section}, Programs.{ProgramView}}
+use Rattle.sect_types.specs.{declared.meaning.store.ObjectName.{ObjectName}, Store.{StoreView, object_at, count}}
+use Rattle.sect_types.specs.{Meaning.{WorkView}, Whole.{FrameView, ahead, RunView}}
+use Rattle.sect_emit.specs.{declared.plan.Grip.{Grip}, Compiled.{CompiledView, program_of}}
 use Rattle.sect_emit.specs.State.{Position, Outside, Entered, Running, Faulted, ThreadState, State, IsThread}
-use Rattle.sect_world.specs.Held.{may_read, may_write}
-use Rattle.sect_world.specs.Replay.{replay, NobodyWrites}
+use Rattle.sect_world.specs.{Held.{may_read, may_write}, Replay.{replay, NobodyWrites}}
 
 -- to a thread t that holds these keys in the store, the other store is as good as the serial one
 pub record Agrees (c : CompiledView) (t : ℕ) (held : List Grip) (store other serial : StoreView) : Type 0 where

@@ -1,34 +1,27 @@
 -- Every complete run is serial.
 use Rattle.std.proofs.Common.{◌≡◌, ℕ, zero, suc, ◌++◌, List, [], ◌∷◌, length, map, Option, Some, None, true, refl, sym}
 use Rattle.std.proofs.Common.{ap, ◌∙◌, subst, arith, slice_get, if◌then◌else◌}
-use Rattle.sect_types.specs.Programs.{ProgramView}
-use Rattle.sect_world.specs.declared.event.Deed.{Deed}
-use Rattle.sect_world.specs.declared.event.Deed.TheVariants.{Local, Enter, Take, Begin, Again, Act, Leave}
-use Rattle.sect_world.specs.declared.event.Event.{Event}
-use Rattle.sect_types.specs.declared.meaning.store.End.{End}
-use Rattle.sect_types.specs.Store.{StoreView}
+use Rattle.sect_types.specs.{Programs.{ProgramView}, declared.meaning.store.End.{End}, Store.{StoreView}}
 use Rattle.sect_types.specs.Whole.{FrameView, ahead, all_ahead, is_standing, has_ended, begins_section, RunView}
 use Rattle.sect_types.specs.Whole.{run_section, option_then, in_order, first_store, first_frames, begun, SerialEndView}
 use Rattle.sect_types.specs.Whole.{EndsAs}
+use Rattle.sect_world.specs.declared.event.Deed.{Deed}
+use Rattle.sect_world.specs.declared.event.Deed.TheVariants.{Local, Enter, Take, Begin, Again, Act, Leave}
+use Rattle.sect_world.specs.{declared.event.Event.{Event}, Events.{MayDo, Happens}}
+use Rattle.sect_world.specs.{Runs.{RunsTo, IsRun, leaver, order_of, ends_of, IsComplete}, Held.{HoldsEnough}}
+use Rattle.sect_world.specs.Laws.{AccessesAreHeld, EveryRunIsSerial}
+use Rattle.sect_world.specs.Excluding.{IsInSection, Excludes, ReadersAndWritersExclude}
+use Rattle.sect_world.specs.SerialFacts.{OnlySectionsDiffer, IsReplayed, SectionsAreReplayed}
 use Rattle.sect_emit.specs.Compiled.{CompiledView, program_of}
 use Rattle.sect_emit.specs.State.{Position, Outside, Entered, Running, Faulted, ThreadState, State, IsThread, outside}
 use Rattle.sect_emit.specs.State.{start, plan_at}
-use Rattle.sect_world.specs.Events.{MayDo, Happens}
-use Rattle.sect_world.specs.Runs.{RunsTo, IsRun, leaver, order_of, ends_of, IsComplete}
-use Rattle.sect_world.specs.Held.{HoldsEnough}
-use Rattle.sect_world.specs.Laws.{AccessesAreHeld, EveryRunIsSerial}
-use Rattle.sect_world.specs.Excluding.{IsInSection, Excludes, ReadersAndWritersExclude}
 use Rattle.sect_world.proofs.Tidy.{IsTidy, StatesAreTidy}
-use Rattle.sect_world.specs.SerialFacts.{OnlySectionsDiffer, IsReplayed, SectionsAreReplayed}
 use Rattle.sect_world.proofs.SerialFrames.{Replayed, IsApart, IsInside, Follows, HasFrame, Serializes}
-use Rattle.sect_lemmas.proofs.Options.{mapped}
-use Rattle.sect_lemmas.proofs.Elements.{same_elements}
-use Rattle.sect_lemmas.proofs.Options.{IsThere, some_injective}
-use Rattle.sect_types.proofs.shared.Stores.{same_store}
-use Rattle.sect_types.proofs.shared.RunningAhead.{ahead_standing, get-all_ahead}
-use Rattle.sect_world.proofs.shared.LongerRuns.{leads_more}
 use Rattle.sect_world.proofs.Following.{inside_of, local, enter, take, begin, again, act, leave}
 use Rattle.sect_world.proofs.Listing.{none_in_both}
+use Rattle.sect_lemmas.proofs.{Options.{mapped, IsThere, some_injective}, Elements.{same_elements}}
+use Rattle.sect_types.proofs.shared.{Stores.{same_store}, RunningAhead.{ahead_standing, get-all_ahead}}
+use Rattle.sect_world.proofs.shared.LongerRuns.{leads_more}
 
 -- the serial state after these threads' sections follows the state
 abbrev pub Reaches : CompiledView → List ℕ → RunView → State → Type 0

@@ -1,22 +1,17 @@
 -- What the parts of a world tell of a thread.
-use Rattle.std.proofs.Common.{◌≡◌, ℕ, zero, suc, ◌<◌, ◌≤◌, List, [], ◌∷◌, length, drop, Some, None, refl, sym, ap}
-use Rattle.std.proofs.Common.{◌∙◌, arith}
+use Rattle.std.proofs.Common.{◌≡◌, ℕ, zero, suc, ◌<◌, ◌≤◌, List, [], ◌∷◌, length, drop, Some, None, refl, sym, ap, ◌∙◌}
+use Rattle.std.proofs.{Common.{arith}, lemmas.Option.{slice_get_past, get_or_from_slice_get}}
 use Rattle.std.specs.Prelude.{ℤ, slice_get}
-use Rattle.std.proofs.lemmas.Option.{slice_get_past, get_or_from_slice_get}
 use Rattle.sect_lemmas.proofs.Places.{at_of}
 use Rattle.sect_types.specs.Store.{StoreView}
 use Rattle.sect_modes.specs.declared.key.Key.{Key}
-use Rattle.sect_table.specs.Contents as tables
 use Rattle.sect_table.specs.Contents.{Contents, held_by}
-use Rattle.sect_emit.specs.Compiled.{CompiledView, program_of}
-use Rattle.sect_emit.specs.Plan.{held_mode}
-use Rattle.sect_emit.specs.State.{ThreadState}
-use Rattle.sect_world.specs.declared.event.Event.{Event}
-use Rattle.sect_world.specs.declared.runner.Runner.{Runner}
+use Rattle.sect_emit.specs.{Compiled.{CompiledView, program_of}, Plan.{held_mode}, State.{ThreadState}}
+use Rattle.sect_world.specs.{declared.event.Event.{Event}, declared.runner.Runner.{Runner}}
 use Rattle.sect_world.specs.Sights.{first_wish, wish_in, mode_of, mode_in, end_of, end_in}
 use Rattle.sect_world.specs.Viewing.{state_of, IsWorld}
-use Rattle.sect_world.proofs.Claims.{held-grips}
-use Rattle.sect_world.proofs.Viewing.{seen, seen_at, length-threads_of}
+use Rattle.sect_world.proofs.{Claims.{held-grips}, Viewing.{seen, seen_at, length-threads_of}}
+use Rattle.sect_table.specs.Contents as tables
 
 -- what is left from a place begins with what stands there
 left_first : {A : Type 0} (xs : List A) (n : ℕ) → slice_get (drop n xs) 0 ≡ slice_get xs n

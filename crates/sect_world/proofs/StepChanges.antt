@@ -2,13 +2,10 @@
 use Rattle.std.proofs.Common.{true≢false, ◌≡◌, ◌≢◌, ℕ, ℤ, zero, suc, ◌<◌, length, Option, Some, None, Bool, true, false}
 use Rattle.std.proofs.Common.{refl, sym, ap, ◌∙◌, if◌then◌else◌}
 use Rattle.sect_types.specs.declared.expansion.action.Action.{Action}
-use Rattle.sect_types.specs.declared.expansion.action.Action.TheVariants as action
-use Rattle.sect_types.specs.Statements.{TextView, Stop, Do, Choose, Loop, Section, joined}
-use Rattle.sect_types.specs.Programs.{ProgramView}
+use Rattle.sect_types.specs.{Statements.{TextView, Stop, Do, Choose, Loop, Section, joined}, Programs.{ProgramView}}
 use Rattle.sect_types.specs.declared.meaning.store.ObjectName.{ObjectName}
 use Rattle.sect_types.specs.declared.meaning.store.ObjectName.TheVariants.{Global, Made}
 use Rattle.sect_types.specs.declared.meaning.store.Datum.TheVariants.{Number}
-use Rattle.sect_types.specs.declared.meaning.store.Fault.TheVariants as fault
 use Rattle.sect_types.specs.Store.{ObjectView, StoreView, same_name, count, object_at, with_field}
 use Rattle.sect_types.specs.Meaning.{WorkView, Went, Fell, assigned, loaded, Change, Unchanged, Written, Added}
 use Rattle.sect_types.specs.Meaning.{after_change, name_in, base_datum, value_datum, integer_of, result_of, fits}
@@ -16,9 +13,10 @@ use Rattle.sect_types.specs.Meaning.{computed, stored, done, paid, looks, found_
 use Rattle.sect_world.specs.Accesses.{change_in, Asks}
 use Rattle.sect_world.specs.Held.{Loading, next_access, if_paid, access_of, load_of, store_of}
 use Rattle.sect_lemmas.proofs.Options.{mapped}
-use Rattle.sect_types.proofs.shared.Stores.{object_at-write, object_at-add, count-write, count-add_own}
-use Rattle.sect_types.proofs.shared.Stores.{count-add_other}
+use Rattle.sect_types.proofs.shared.Stores.{object_at-write, object_at-add, count-write, count-add_own, count-add_other}
 use Rattle.sect_types.proofs.shared.Stores.{rows-write, rows-add}
+use Rattle.sect_types.specs.declared.expansion.action.Action.TheVariants as action
+use Rattle.sect_types.specs.declared.meaning.store.Fault.TheVariants as fault
 
 -- the change by thread t, which has made n objects so far, makes this object
 abbrev pub is_new : ℕ → ℕ → Change → ObjectName → Bool

@@ -2,20 +2,15 @@
 use Rattle.std.proofs.Common.{◌≡◌, ℕ, zero, suc, Bool, true, false, refl, sym, ap, ◌∙◌, subst, ◌⊎◌, inl, inr, ⊎_elim}
 use Rattle.std.proofs.Common.{true≢false, List, [], ◌∷◌, ◌++◌, Some}
 use Rattle.std.specs.Prelude.{slice_get}
-use Rattle.sect_modes.specs.declared.mode.Mode.{Mode}
-use Rattle.sect_modes.specs.declared.key.Key.{Key}
-use Rattle.sect_modes.specs.Key.{is_key_below}
-use Rattle.sect_emit.specs.declared.plan.Grip.{Grip}
-use Rattle.sect_types.specs.Whole.{has_ended}
-use Rattle.sect_emit.specs.Plan.{grip, held_mode, Ascends}
+use Rattle.sect_modes.specs.{declared.mode.Mode.{Mode}, declared.key.Key.{Key}, Key.{is_key_below}}
+use Rattle.sect_emit.specs.{declared.plan.Grip.{Grip}, Plan.{grip, held_mode, Ascends}}
 use Rattle.sect_emit.specs.Compiled.{CompiledView, IsCompiled}
 use Rattle.sect_emit.specs.State.{Position, Outside, Entered, Running, Faulted, ThreadState, State, IsThread}
-use Rattle.sect_world.specs.Blocked.{WantsFirst, IsBlocked, IsStuck}
-use Rattle.sect_world.specs.Laws.{NoStateIsStuck}
+use Rattle.sect_types.specs.Whole.{has_ended}
+use Rattle.sect_world.specs.{Blocked.{WantsFirst, IsBlocked, IsStuck}, Laws.{NoStateIsStuck}}
 use Rattle.sect_world.specs.Kept.{IsPlaced, AsksInOrder}
 use Rattle.sect_lemmas.proofs.Options.{some_injective, none_or_some}
-use Rattle.sect_emit.proofs.shared.Keys.{not_below_itself, below_along}
-use Rattle.sect_emit.proofs.shared.Plans.{mode_is_there, ascending_across}
+use Rattle.sect_emit.proofs.shared.{Keys.{not_below_itself, below_along}, Plans.{mode_is_there, ascending_across}}
 use Rattle.sect_world.proofs.KeptStates.{runs_are_well_kept}
 
 nothing_first : (g : Grip) (gs : List Grip) → g ∷ gs ≡ [] → ⊥

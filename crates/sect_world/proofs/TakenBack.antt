@@ -1,7 +1,6 @@
 -- An object that is taken back leaves the store as it was.
 use Rattle.std.proofs.Common.{◌≡◌, ◌-◌, ℕ, zero, suc, List, [], ◌∷◌, ◌++◌, length, take, refl, ap, ◌∙◌, arith}
-use Rattle.std.proofs.lemmas.List.{length-append}
-use Rattle.std.proofs.Math.Seq.{take-append_seam}
+use Rattle.std.proofs.{lemmas.List.{length-append}, Math.Seq.{take-append_seam}}
 use Rattle.sect_types.specs.Store.{ObjectView, StoreView, add}
 use Rattle.sect_lemmas.specs.Lists.{changed_at}
 use Rattle.sect_store.specs.Undoing.{without_end, without_last}

@@ -1,16 +1,10 @@
 -- Well kept states are tidy: rows, counts and held keys are as they are in the store.
-use Rattle.std.proofs.Common.{◌<◌, sym, ◌∙◌, subst, ◌≡◌, List, Some}
-use Rattle.std.proofs.lemmas.Option.{slice_get_within}
-use Rattle.sect_emit.specs.Compiled.{CompiledView}
-use Rattle.sect_emit.specs.State.{State, ThreadState, IsThread}
-use Rattle.sect_world.specs.Kept.{IsWellKept}
+use Rattle.std.proofs.{Common.{◌<◌, sym, ◌∙◌, subst, ◌≡◌, List, Some}, lemmas.Option.{slice_get_within}}
+use Rattle.sect_emit.specs.{Compiled.{CompiledView}, State.{State, ThreadState, IsThread}, Plan.{key_of, held_mode}}
+use Rattle.sect_world.specs.{Kept.{IsWellKept}, declared.event.Event.{Event}, Runs.{IsRun}}
 use Rattle.std.specs.Prelude.{ℕ, length}
-use Rattle.sect_types.specs.declared.meaning.store.ObjectName.{ObjectName}
+use Rattle.sect_types.specs.{declared.meaning.store.ObjectName.{ObjectName}, Store.{ObjectView, object_at, count}}
 use Rattle.sect_modes.specs.declared.mode.Mode.{Mode}
-use Rattle.sect_emit.specs.Plan.{key_of, held_mode}
-use Rattle.sect_types.specs.Store.{ObjectView, object_at, count}
-use Rattle.sect_world.specs.declared.event.Event.{Event}
-use Rattle.sect_world.specs.Runs.{IsRun}
 
 -- each thread has a row in the store, knows how many objects it has made, and holds keys of such objects alone as are
 -- there

@@ -1,42 +1,28 @@
 -- Sections of two threads at one time.
-use Rattle.std.proofs.Common.{◌≡◌, ◌≢◌, ℕ, List, [], ◌∷◌, ◌++◌, Bool, true, false, Some, refl, sym, ap, ◌∙◌, subst}
-use Rattle.std.proofs.Common.{inl, inr, true≢false}
+use Rattle.std.proofs.Common.{◌≡◌, ◌≢◌, ℕ, List, [], ◌∷◌, ◌++◌, Bool, true, false, Some, refl, sym, ap, ◌∙◌, subst, inl}
+use Rattle.std.proofs.Common.{inr, true≢false}
 use Rattle.std.specs.Prelude.{if◌then◌else◌, ℤ, slice_get}
-use Rattle.sect_lemmas.specs.Lists.{Has, put_at}
-use Rattle.sect_lemmas.specs.Numbers.{same_number}
+use Rattle.sect_lemmas.specs.{Lists.{Has, put_at}, Numbers.{same_number}}
 use Rattle.sect_lemmas.proofs.Membership.{Has-cases}
 use Rattle.sect_lemmas.proofs.Replaced.{each_put, same_number-refl, same_number-false, slice_get-map}
-use Rattle.sect_types.specs.Statements.{TextView, Section}
-use Rattle.sect_types.specs.Store.{StoreView}
-use Rattle.sect_types.specs.Meaning.{WorkView, Next, On, Off}
+use Rattle.sect_types.specs.{Statements.{TextView, Section}, Store.{StoreView}, Meaning.{WorkView, Next, On, Off}}
 use Rattle.sect_types.specs.Whole.{first_frames, local_step}
-use Rattle.sect_modes.specs.declared.mode.Mode.{Mode}
-use Rattle.sect_modes.specs.declared.key.Key.{Key}
-use Rattle.sect_modes.specs.Mode.{are_compatible, is_at_least}
-use Rattle.sect_emit.specs.declared.plan.Grip.{Grip}
-use Rattle.sect_emit.specs.Plan.{grip, held_mode, meets}
-use Rattle.sect_emit.specs.Pointed.{ObjectsStay}
+use Rattle.sect_modes.specs.{declared.mode.Mode.{Mode}, declared.key.Key.{Key}, Mode.{are_compatible, is_at_least}}
+use Rattle.sect_emit.specs.{declared.plan.Grip.{Grip}, Plan.{grip, held_mode, meets}, Pointed.{ObjectsStay}}
 use Rattle.sect_emit.specs.Compiled.{CompiledView, IsCompiled, program_of}
 use Rattle.sect_emit.specs.State.{Outside, Entered, Running, ThreadState, State, IsThread, outside, start, plan_at}
-use Rattle.sect_emit.proofs.shared.Modes.{at_least_along, sharing_turned}
-use Rattle.sect_emit.proofs.shared.PlanModes.{met}
-use Rattle.sect_emit.proofs.shared.Grips.{held_append}
-use Rattle.sect_conflicts.specs.Conflicts.{AlwaysAsks}
-use Rattle.sect_conflicts.specs.Laws.{IsSectionOver, PlansNeverClash}
+use Rattle.sect_emit.proofs.shared.{Modes.{at_least_along, sharing_turned}, PlanModes.{met}, Grips.{held_append}}
+use Rattle.sect_conflicts.specs.{Conflicts.{AlwaysAsks}, Laws.{IsSectionOver, PlansNeverClash}}
 use Rattle.sect_conflicts.proofs.shared.Stronger.{both_stronger}
 use Rattle.sect_world.specs.declared.event.Deed.{Deed}
 use Rattle.sect_world.specs.declared.event.Deed.TheVariants.{Local, Enter, Take, Begin, Again, Act, Leave}
 use Rattle.sect_world.specs.declared.event.Event.{Event}
 use Rattle.sect_world.specs.Events.{entering, taking, beginning, giving_back, with_frame, acting, after_act, frame_out}
-use Rattle.sect_world.specs.Events.{grips_of, step_in, changed_by, MayDo}
-use Rattle.sect_world.specs.Kept.{IsWellKept}
-use Rattle.sect_world.specs.Runs.{RunsTo, IsRun}
+use Rattle.sect_world.specs.{Events.{grips_of, step_in, changed_by, MayDo}, Kept.{IsWellKept}, Runs.{RunsTo, IsRun}}
 use Rattle.sect_world.specs.Together.{IsIn, HasEntered, taken_by, taken_after, ClashingSectionsExclude}
 use Rattle.sect_world.specs.Together.{TogetherNeverWait}
-use Rattle.sect_world.proofs.AllowedChanges.{sites_stay}
-use Rattle.sect_world.proofs.KeptPointed.{pointed_thread, its_section}
-use Rattle.sect_world.proofs.KeptStates.{runs_are_well_kept}
-use Rattle.sect_world.proofs.LongerRuns.{run_on}
+use Rattle.sect_world.proofs.{AllowedChanges.{sites_stay}, KeptPointed.{pointed_thread, its_section}}
+use Rattle.sect_world.proofs.{KeptStates.{runs_are_well_kept}, LongerRuns.{run_on}}
 
 -- a state in which thread t is replaced and the store may have changed
 abbrev pub state_with : StoreView → List ℤ → ℕ → ThreadState → State → State

@@ -1,30 +1,19 @@
 -- What a thread may do where it is: outside sections, entered, and in one.
 use Rattle.std.proofs.Common.{◌≡◌, ◌≢◌, ℕ, ◌+◌, ◌<◌, ◌≤◌, List, [], length, drop, true, false, true≢false, is_some}
-use Rattle.std.proofs.Common.{Option, Some, None, refl, sym, ◌∙◌, ap, subst}
+use Rattle.std.proofs.{Common.{Option, Some, None, refl, sym, ◌∙◌, ap, subst}, lemmas.List.{drop_all}}
 use Rattle.std.specs.Prelude.{ℤ, slice_get}
-use Rattle.std.proofs.lemmas.List.{drop_all}
-use Rattle.sect_types.specs.declared.meaning.store.End.{End}
-use Rattle.sect_types.specs.Statements.{TextView, Stop, Section}
-use Rattle.sect_types.specs.Store.{StoreView}
-use Rattle.sect_types.specs.Meaning.{begins_step}
-use Rattle.sect_types.specs.Whole.{has_ended}
+use Rattle.sect_types.specs.{declared.meaning.store.End.{End}, Statements.{TextView, Stop, Section}, Store.{StoreView}}
+use Rattle.sect_types.specs.{Meaning.{begins_step}, Whole.{has_ended}}
 use Rattle.sect_lemmas.proofs.Places.{at_of}
 use Rattle.sect_graph.specs.Rests.{rest_at}
-use Rattle.sect_modes.specs.declared.mode.Mode.{Mode}
-use Rattle.sect_modes.specs.declared.key.Key.{Key}
+use Rattle.sect_modes.specs.{declared.mode.Mode.{Mode}, declared.key.Key.{Key}}
 use Rattle.sect_table.specs.Contents.{Contents, held_by}
-use Rattle.sect_emit.specs.Plan.{meets}
-use Rattle.sect_emit.specs.Compiled.{CompiledView}
+use Rattle.sect_emit.specs.{Plan.{meets}, Compiled.{CompiledView}}
 use Rattle.sect_emit.specs.State.{Outside, Entered, ThreadState, State, IsThread, plan_at, with_thread}
-use Rattle.sect_world.specs.declared.event.Deed.TheVariants.{Again}
-use Rattle.sect_world.specs.declared.event.Event.{Event}
-use Rattle.sect_world.specs.declared.runner.Runner.{Runner}
-use Rattle.sect_world.specs.Events.{Happens, IsReady, giving_back}
-use Rattle.sect_world.specs.Kept.{IsAt}
-use Rattle.sect_world.specs.Waiting.{grips, Asks}
-use Rattle.sect_world.specs.Viewing.{text_at, state_of, IsWorld}
-use Rattle.sect_world.proofs.MoveTurns.{stands, kept, text_is, section_on}
-use Rattle.sect_world.proofs.Viewing.{drop_first}
+use Rattle.sect_world.specs.{declared.event.Deed.TheVariants.{Again}, declared.event.Event.{Event}}
+use Rattle.sect_world.specs.{declared.runner.Runner.{Runner}, Events.{Happens, IsReady, giving_back}, Kept.{IsAt}}
+use Rattle.sect_world.specs.{Waiting.{grips, Asks}, Viewing.{text_at, state_of, IsWorld}}
+use Rattle.sect_world.proofs.{MoveTurns.{stands, kept, text_is, section_on}, Viewing.{drop_first}}
 
 -- a thread that has an end has ended
 pub shown_ended : (o : Option End) → is_some o ≡ has_ended o

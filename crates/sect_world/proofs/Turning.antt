@@ -1,36 +1,25 @@
 -- An event of a thread that neither waits nor gives back is a turn.
 use Rattle.std.proofs.Common.{◌≡◌, ℕ, ◌<◌, List, [], ◌∷◌, ◌++◌, length, Some, refl, sym, ◌∙◌, ap, subst}
-use Rattle.std.specs.Prelude.{ℤ, slice_get, slice_index_or, slice_set}
 use Rattle.std.proofs.lemmas.List.{append-nil, length-set, set-get_or, get_or-set_same}
 use Rattle.std.proofs.lemmas.Option.{slice_get_within, get_or_from_slice_get}
-use Rattle.sect_types.specs.Statements.{Stop}
-use Rattle.sect_types.specs.Store.{StoreView}
+use Rattle.std.specs.Prelude.{ℤ, slice_get, slice_index_or, slice_set}
+use Rattle.sect_types.specs.{Statements.{Stop}, Store.{StoreView}}
 use Rattle.sect_lemmas.specs.Lists.{put_at}
-use Rattle.sect_lemmas.proofs.Changed.{set_put}
-use Rattle.sect_lemmas.proofs.Replaced.{each_put}
+use Rattle.sect_lemmas.proofs.{Changed.{set_put}, Replaced.{each_put}}
 use Rattle.sect_table.specs.declared.claims.Hold.{Hold}
 use Rattle.sect_table.specs.Contents.{Entry, Contents, held_by, hold_of, entry_of, with_holder, claim_of}
 use Rattle.sect_table.specs.Sound.{waits_of, IsKept as IsTableKept}
-use Rattle.sect_table.proofs.shared.Entries.{entry_key}
-use Rattle.sect_table.proofs.shared.Sounding.{waits_for_none}
-use Rattle.sect_emit.specs.declared.plan.Grip.{Grip}
-use Rattle.sect_emit.specs.Compiled.{CompiledView, program_of}
+use Rattle.sect_table.proofs.shared.{Entries.{entry_key}, Sounding.{waits_for_none}}
+use Rattle.sect_emit.specs.{declared.plan.Grip.{Grip}, Compiled.{CompiledView, program_of}}
 use Rattle.sect_emit.specs.State.{Entered, ThreadState, State, IsThread}
-use Rattle.sect_modes.specs.declared.mode.Mode.{Mode}
-use Rattle.sect_modes.specs.declared.key.Key.{Key}
-use Rattle.sect_world.specs.declared.event.Deed.{Deed}
-use Rattle.sect_world.specs.declared.event.Event.{Event}
-use Rattle.sect_world.specs.declared.runner.Runner.{Runner}
-use Rattle.sect_world.specs.declared.turned.Turned.TheVariants.{Moved}
-use Rattle.sect_world.specs.Events.{MayDo, Happens}
-use Rattle.sect_world.specs.Runs.{order_of, leaver}
-use Rattle.sect_world.specs.Blocked.{WantsFirst}
-use Rattle.sect_world.specs.Worlds.{MayFollow, kind_of}
+use Rattle.sect_modes.specs.{declared.mode.Mode.{Mode}, declared.key.Key.{Key}}
+use Rattle.sect_world.specs.{declared.event.Deed.{Deed}, declared.event.Event.{Event}, declared.runner.Runner.{Runner}}
+use Rattle.sect_world.specs.{declared.turned.Turned.TheVariants.{Moved}, Events.{MayDo, Happens}}
+use Rattle.sect_world.specs.{Runs.{order_of, leaver}, Blocked.{WantsFirst}, Worlds.{MayFollow, kind_of}}
 use Rattle.sect_world.specs.Waiting.{AllWaitersAsk}
-use Rattle.sect_world.specs.steps.Moves.{HoldsMore}
 use Rattle.sect_world.specs.Viewing.{text_at, thread_of, threads_of, state_of, shown, IsSited, IsWorld}
-use Rattle.sect_world.proofs.Agreeing.{no_waiter, others_ask, put_asks, put_keeps}
-use Rattle.sect_world.proofs.LongerRuns.{run_on, order_of-more}
+use Rattle.sect_world.specs.steps.Moves.{HoldsMore}
+use Rattle.sect_world.proofs.{Agreeing.{no_waiter, others_ask, put_asks, put_keeps}, LongerRuns.{run_on, order_of-more}}
 use Rattle.sect_world.proofs.Viewing.{seen, replaced_threads, world_fits, TurnsInto}
 
 -- what stands for a thread of a world

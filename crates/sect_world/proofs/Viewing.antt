@@ -1,31 +1,21 @@
 -- How the view of a world changes with its parts.
-use Rattle.std.proofs.Common.{get_or, ◌≡◌, ℕ, zero, suc, ◌+◌, ◌<◌, List, [], ◌∷◌, ◌++◌, length, drop, Some, refl}
-use Rattle.std.proofs.Common.{sym, ◌∙◌, ap, subst, arith}
+use Rattle.std.proofs.Common.{get_or, ◌≡◌, ℕ, zero, suc, ◌+◌, ◌<◌, List, [], ◌∷◌, ◌++◌, length, drop, Some, refl, sym}
+use Rattle.std.proofs.{Common.{◌∙◌, ap, subst, arith}, lemmas.List.{map-append}}
+use Rattle.std.proofs.lemmas.Option.{get_or_from_slice_get, slice_get_within, slice_get_read}
 use Rattle.std.specs.Prelude.{ℤ, slice_get, slice_set}
-use Rattle.std.proofs.lemmas.List.{map-append}
-use Rattle.std.proofs.lemmas.Option.{get_or_from_slice_get, slice_get_within}
-use Rattle.sect_types.specs.Statements.{TextView}
-use Rattle.sect_types.specs.Store.{StoreView}
+use Rattle.sect_types.specs.{Statements.{TextView}, Store.{StoreView}}
 use Rattle.sect_lemmas.specs.Lists.{changed_at, put_at}
 use Rattle.sect_lemmas.proofs.Options.{some_injective, none_or_some}
-use Rattle.sect_table.specs.declared.claims.Hold.{Hold}
-use Rattle.sect_table.specs.declared.claims.Grant.{Grant}
-use Rattle.sect_modes.specs.declared.mode.Mode.{Mode}
-use Rattle.sect_modes.specs.declared.key.Key.{Key}
+use Rattle.sect_table.specs.{declared.claims.Hold.{Hold}, declared.claims.Grant.{Grant}}
 use Rattle.sect_table.specs.Contents.{Contents, give, hold_of}
-use Rattle.sect_emit.specs.declared.plan.Grip.{Grip}
-use Rattle.sect_emit.specs.Plan.{grip}
-use Rattle.sect_emit.specs.Compiled.{CompiledView, program_of}
+use Rattle.sect_modes.specs.{declared.mode.Mode.{Mode}, declared.key.Key.{Key}}
+use Rattle.sect_emit.specs.{declared.plan.Grip.{Grip}, Plan.{grip}, Compiled.{CompiledView, program_of}}
 use Rattle.sect_emit.specs.State.{ThreadState, IsThread}
-use Rattle.sect_world.specs.declared.event.Event.{Event}
-use Rattle.sect_world.specs.declared.runner.Runner.{Runner}
-use Rattle.sect_world.specs.declared.turned.Turned.{Turned}
-use Rattle.sect_world.specs.Worlds.{WorldView, IsTurned}
-use Rattle.sect_world.specs.Waiting.{grips}
+use Rattle.sect_world.specs.{declared.event.Event.{Event}, declared.runner.Runner.{Runner}}
+use Rattle.sect_world.specs.{declared.turned.Turned.{Turned}, Worlds.{WorldView, IsTurned}, Waiting.{grips}}
+use Rattle.sect_world.specs.Viewing.{position_of, thread_of, threads_of, state_of, shown, IsWorld, HasRoom}
 use Rattle.sect_world.specs.steps.Fits.{Fits, takes_first, granted, all_granted, given_to}
 use Rattle.sect_world.specs.steps.Taking.{advanced, advanced_at, all_advanced}
-use Rattle.std.proofs.lemmas.Option.{slice_get_read}
-use Rattle.sect_world.specs.Viewing.{position_of, thread_of, threads_of, state_of, shown, IsWorld, HasRoom}
 
 -- numbers don't compute under a sum
 plus_one : (n : ℕ) → suc n + 1 ≡ suc (n + 1)

@@ -1,48 +1,31 @@
 -- A thread that asks for a key comes to hold it, or is blocked.
 use Rattle.std.proofs.Common.{◌≡◌, ◌⊎◌, inl, inr, ℕ, ◌+◌, ◌<◌, ◌^◌, List, [], ◌∷◌, ◌++◌, length, true, false, Some}
-use Rattle.std.proofs.Common.{None, refl, sym, ◌∙◌, ap, subst, arith}
+use Rattle.std.proofs.{Common.{None, refl, sym, ◌∙◌, ap, subst, arith}, lemmas.List.{append-nil, length-set}}
+use Rattle.std.proofs.{lemmas.Option.{slice_get_within}, lemmas.Bool.{cases_Bool}}
 use Rattle.std.specs.Prelude.{ℤ, slice_get, slice_index_or, is_some}
-use Rattle.std.proofs.lemmas.List.{append-nil, length-set}
-use Rattle.std.proofs.lemmas.Option.{slice_get_within}
 use Rattle.sect_types.specs.Store.{StoreView}
-use Rattle.sect_lemmas.proofs.Membership.{Has-right}
-use Rattle.sect_lemmas.proofs.Replaced.{length-changed_at}
-use Rattle.sect_modes.specs.declared.mode.Mode.{Mode}
-use Rattle.sect_modes.specs.declared.key.Key.{Key}
-use Rattle.sect_modes.specs.Key.{is_same_key, is_key_below}
-use Rattle.sect_table.specs.declared.claims.Answer.{Answer}
-use Rattle.sect_table.specs.declared.claims.Answer.TheVariants.{Granted, Queued}
-use Rattle.sect_table.specs.Contents.{Contents, hold_of, held_by, holds, is_waiting}
-use Rattle.sect_table.specs.Answers.{IsAnswered}
+use Rattle.sect_lemmas.proofs.{Membership.{Has-right}, Replaced.{length-changed_at}}
+use Rattle.sect_modes.specs.{declared.mode.Mode.{Mode}, declared.key.Key.{Key}, Key.{is_same_key, is_key_below}}
+use Rattle.sect_table.specs.{declared.claims.Answer.{Answer}, declared.claims.Answer.TheVariants.{Granted, Queued}}
+use Rattle.sect_table.specs.{Contents.{Contents, hold_of, held_by, holds, is_waiting}, Answers.{IsAnswered}}
 use Rattle.sect_table.specs.Sound.{IsKept as IsTableKept}
 use Rattle.sect_table.proofs.shared.Shown.{same_key}
-use Rattle.sect_emit.specs.declared.plan.Grip.{Grip}
-use Rattle.sect_emit.specs.Plan.{grip, held_mode, Ascends}
-use Rattle.sect_emit.specs.Compiled.{CompiledView, program_of}
-use Rattle.sect_emit.specs.State.{Entered, ThreadState, State, IsThread}
+use Rattle.sect_emit.specs.{declared.plan.Grip.{Grip}, Plan.{grip, held_mode, Ascends}}
+use Rattle.sect_emit.specs.{Compiled.{CompiledView, program_of}, State.{Entered, ThreadState, State, IsThread}}
 use Rattle.sect_emit.proofs.shared.Keys.{not_below_itself}
-use Rattle.sect_world.specs.declared.event.Event.{Event}
-use Rattle.sect_world.specs.declared.runner.Phase.{Phase}
-use Rattle.sect_world.specs.declared.runner.Phase.TheVariants as phase
-use Rattle.sect_world.specs.declared.runner.Runner.{Runner}
-use Rattle.sect_world.specs.declared.turned.Turned.TheVariants.{Moved, Waits}
-use Rattle.sect_world.specs.declared.turned.EventKind.TheVariants as kind
-use Rattle.sect_world.specs.Events.{Happens}
-use Rattle.sect_world.specs.Runs.{IsRun, order_of}
-use Rattle.sect_world.specs.Blocked.{IsBlocked}
-use Rattle.sect_world.specs.Kept.{IsPlaced}
-use Rattle.sect_world.specs.Worlds.{WorldView}
-use Rattle.sect_world.specs.Waiting.{Asks, AllWaitersAsk}
+use Rattle.sect_world.specs.{declared.event.Event.{Event}, declared.runner.Phase.{Phase}}
+use Rattle.sect_world.specs.{declared.runner.Runner.{Runner}, declared.turned.Turned.TheVariants.{Moved, Waits}}
+use Rattle.sect_world.specs.{Events.{Happens}, Runs.{IsRun, order_of}, Blocked.{IsBlocked}, Kept.{IsPlaced}}
+use Rattle.sect_world.specs.{Worlds.{WorldView}, Waiting.{Asks, AllWaitersAsk}}
+use Rattle.sect_world.specs.Viewing.{position_of, state_of, shown, IsWorld}
 use Rattle.sect_world.specs.steps.Fits.{granted, take_of}
 use Rattle.sect_world.specs.steps.Taking.{Wishes, IsAsked, advanced, advanced_at, grant_to, turn_by}
-use Rattle.sect_world.specs.Viewing.{position_of, state_of, shown, IsWorld}
 use Rattle.sect_world.proofs.Agreeing.{granted_happens, granted_asks, queued_fits, queued_is_blocked, waiter_asks}
-use Rattle.sect_world.proofs.Agreeing.{waiter_is_blocked}
-use Rattle.sect_world.proofs.Claims.{held-later, held-grips}
-use Rattle.sect_world.proofs.KeptStates.{runs_are_well_kept}
-use Rattle.sect_world.proofs.LongerRuns.{run_on, order_of-more}
+use Rattle.sect_world.proofs.{Agreeing.{waiter_is_blocked}, Claims.{held-later, held-grips}}
+use Rattle.sect_world.proofs.{KeptStates.{runs_are_well_kept}, LongerRuns.{run_on, order_of-more}}
 use Rattle.sect_world.proofs.Viewing.{seen, world_fits, state_granted, each_advanced, first_dropped, TurnsInto}
-use Rattle.std.proofs.lemmas.Bool.{cases_Bool}
+use Rattle.sect_world.specs.declared.runner.Phase.TheVariants as phase
+use Rattle.sect_world.specs.declared.turned.EventKind.TheVariants as kind
 
 -- a runner is seen as entered where it is
 entered_stage : (c : CompiledView) (s : Phase) → position_of c s ≡ Entered → s ≡ phase.Entered

@@ -1,15 +1,12 @@
 -- Each order of whole sections is the order of a run of the machine.
-use Rattle.std.proofs.Common.{◌≡◌, ◌+◌, ◌++◌, ◌∙◌, refl, sym, ap, subst, ℕ, suc, List, [], ◌∷◌, map, length}
-use Rattle.std.proofs.Common.{Option, Some, None}
+use Rattle.std.proofs.Common.{◌≡◌, ◌+◌, ◌++◌, ◌∙◌, refl, sym, ap, subst, ℕ, suc, List, [], ◌∷◌, map, length, Option}
+use Rattle.std.proofs.{Common.{Some, None}, lemmas.List.{append-nil, append_assoc, length-append}}
 use Rattle.std.specs.Prelude.{ℤ, slice_get}
-use Rattle.std.proofs.lemmas.List.{append-nil, append_assoc, length-append}
 use Rattle.sect_lemmas.specs.Lists.{put_at}
 use Rattle.sect_lemmas.proofs.Options.{some_injective, none_or_some}
 use Rattle.sect_types.specs.Store.{StoreView}
-use Rattle.sect_types.specs.Whole.{FrameView, RunView, ahead, all_ahead, begun, in_order, run_section}
-use Rattle.sect_types.specs.Whole.{option_then}
-use Rattle.sect_emit.specs.Compiled.{CompiledView, IsCompiled, program_of}
-use Rattle.sect_emit.specs.State.{ThreadState, outside}
+use Rattle.sect_types.specs.Whole.{FrameView, RunView, ahead, all_ahead, begun, in_order, run_section, option_then}
+use Rattle.sect_emit.specs.{Compiled.{CompiledView, IsCompiled, program_of}, State.{ThreadState, outside}}
 use Rattle.sect_world.specs.Laws.{EveryOrderIsRun}
 use Rattle.sect_world.proofs.LoneSteps.{Reached, resting, whole_section, local_on, put_back, map_put, mapped_at}
 

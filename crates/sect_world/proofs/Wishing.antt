@@ -1,20 +1,16 @@
 -- A plan is met where its fixed part is, and what each lock asks for.
 use Rattle.std.proofs.Common.{◌≡◌, Bool, true, false, List, [], ◌∷◌, ◌++◌, Option, Some, None, refl, sym, ap, ◌∙◌}
-use Rattle.std.proofs.Common.{arith, ◌&&◌, ℕ, ◌+◌, ◌<◌, length, drop, get_or}
+use Rattle.std.proofs.{Common.{arith, ◌&&◌, ℕ, ◌+◌, ◌<◌, length, drop, get_or}, lemmas.List.{append-nil}}
 use Rattle.std.specs.Prelude.{if◌then◌else◌}
-use Rattle.std.proofs.lemmas.List.{append-nil}
 use Rattle.sect_lemmas.proofs.Elements.{drop_next}
-use Rattle.sect_types.specs.declared.meaning.store.Datum.{Datum}
-use Rattle.sect_types.specs.Store.{StoreView}
-use Rattle.sect_modes.specs.declared.mode.Mode.{Mode}
-use Rattle.sect_modes.specs.Mode.{is_at_least, join_of}
-use Rattle.sect_modes.specs.Key.{is_same_key, is_key_below}
+use Rattle.sect_types.specs.{declared.meaning.store.Datum.{Datum}, Store.{StoreView}}
+use Rattle.sect_modes.specs.{declared.mode.Mode.{Mode}, Mode.{is_at_least, join_of}, Key.{is_same_key, is_key_below}}
 use Rattle.sect_names.specs.declared.lock.Lock.{Lock}
-use Rattle.sect_names.specs.declared.lock.Lock.TheVariants as lock
 use Rattle.sect_emit.specs.declared.plan.Grip.{Grip}
 use Rattle.sect_emit.specs.Plan.{grip, gathered, with_grip, held_mode, is_met, meets, plan_of, object_wish}
 use Rattle.sect_emit.specs.Plan.{object_wishes, object_mode, path_datum}
 use Rattle.sect_emit.proofs.shared.Keys.{same_key}
+use Rattle.sect_names.specs.declared.lock.Lock.TheVariants as lock
 
 -- the objects of a lock come before those of the others
 pub wishes_of_first : (s : StoreView) (locals : List Datum) (l : Lock) (ls : List Lock)

@@ -1,9 +1,7 @@
 -- The access of a step is all that it has to do with objects.
 use Rattle.std.specs.Prelude.{◌≡◌, ⊤, ℕ, Option, Some}
-use Rattle.sect_types.specs.Statements.{TextView}
-use Rattle.sect_types.specs.Programs.{ProgramView}
-use Rattle.sect_types.specs.declared.meaning.store.ObjectName.{ObjectName}
-use Rattle.sect_types.specs.Store.{ObjectView, StoreView, object_at}
+use Rattle.sect_types.specs.{Statements.{TextView}, Programs.{ProgramView}}
+use Rattle.sect_types.specs.{declared.meaning.store.ObjectName.{ObjectName}, Store.{ObjectView, StoreView, object_at}}
 use Rattle.sect_types.specs.Meaning.{WorkView, Change, Unchanged, Written, Added, found_at, Next, On, Off, next, looks}
 use Rattle.sect_world.specs.Held.{Access, Loading, Storing, Making, next_access}
 

@@ -1,15 +1,10 @@
 -- Threads that are blocked, and states that are stuck.
 use Rattle.std.specs.Prelude.{◌≡◌, ◌⊎◌, ◌≢◌, ℕ, false, true, List, ◌∷◌, Some}
-use Rattle.sect_modes.specs.declared.mode.Mode.{Mode}
-use Rattle.sect_modes.specs.declared.key.Key.{Key}
-use Rattle.sect_modes.specs.Mode.{are_compatible}
-use Rattle.sect_emit.specs.declared.plan.Grip.{Grip}
-use Rattle.sect_world.specs.declared.event.Event.{Event}
-use Rattle.sect_types.specs.Whole.{has_ended}
-use Rattle.sect_emit.specs.Plan.{grip, held_mode}
-use Rattle.sect_emit.specs.Compiled.{CompiledView}
+use Rattle.sect_modes.specs.{declared.mode.Mode.{Mode}, declared.key.Key.{Key}, Mode.{are_compatible}}
+use Rattle.sect_emit.specs.{declared.plan.Grip.{Grip}, Plan.{grip, held_mode}, Compiled.{CompiledView}}
 use Rattle.sect_emit.specs.State.{State, ThreadState, IsThread}
-use Rattle.sect_world.specs.Events.{Happens}
+use Rattle.sect_world.specs.{declared.event.Event.{Event}, Events.{Happens}}
+use Rattle.sect_types.specs.Whole.{has_ended}
 
 -- this is the first key that the thread wants, in this mode
 abbrev pub WantsFirst : ThreadState → Key → Mode → Type 0

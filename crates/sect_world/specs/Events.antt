@@ -1,29 +1,22 @@
 -- What may happen in a state, and what it leads to.
 use Rattle.std.specs.Prelude.{◌≡◌, ℕ, zero, suc, Bool, true, false, ◌&&◌, List, [], ◌∷◌, ◌++◌, Option, Some, None}
-use Rattle.std.specs.Prelude.{slice_index_or}
-use Rattle.std.specs.List.{list_all}
-use Rattle.sect_types.specs.Statements.{TextView, Stop, Section}
-use Rattle.sect_types.specs.Programs.{sites_of}
-use Rattle.sect_names.specs.Schemes.{guard_of}
-use Rattle.sect_modes.specs.declared.mode.Mode.{Mode}
-use Rattle.sect_modes.specs.declared.mode.Mode.TheVariants.{Exclusive}
-use Rattle.sect_modes.specs.declared.key.Key.{Key}
-use Rattle.sect_modes.specs.Mode.{are_compatible}
-use Rattle.sect_types.specs.declared.meaning.store.ObjectName.TheVariants as object
-use Rattle.sect_types.specs.declared.meaning.store.Fault.{Fault}
-use Rattle.sect_emit.specs.declared.plan.Grip.{Grip}
-use Rattle.sect_world.specs.declared.event.Deed.{Deed}
-use Rattle.sect_world.specs.declared.event.Deed.TheVariants.{Local, Enter, Take, Begin, Again, Act, Leave}
-use Rattle.sect_world.specs.declared.event.Event.{Event}
-use Rattle.sect_types.specs.Store.{StoreView}
-use Rattle.sect_lemmas.specs.Lists.{put_at}
+use Rattle.std.specs.{Prelude.{slice_index_or}, List.{list_all}}
+use Rattle.sect_types.specs.{Statements.{TextView, Stop, Section}, Programs.{sites_of}}
+use Rattle.sect_types.specs.{declared.meaning.store.Fault.{Fault}, Store.{StoreView}}
 use Rattle.sect_types.specs.Meaning.{WorkView, Change, Unchanged, Written, Added, after_change, found_at, Next, On, Off}
-use Rattle.sect_types.specs.Meaning.{next, looks, begins_step}
-use Rattle.sect_types.specs.Whole.{FrameView, settled, failed, local_step}
-use Rattle.sect_emit.specs.Plan.{grip, key_of, held_mode, meets}
+use Rattle.sect_types.specs.{Meaning.{next, looks, begins_step}, Whole.{FrameView, settled, failed, local_step}}
+use Rattle.sect_names.specs.Schemes.{guard_of}
+use Rattle.sect_modes.specs.{declared.mode.Mode.{Mode}, declared.mode.Mode.TheVariants.{Exclusive}}
+use Rattle.sect_modes.specs.{declared.key.Key.{Key}, Mode.{are_compatible}}
+use Rattle.sect_emit.specs.{declared.plan.Grip.{Grip}, Plan.{grip, key_of, held_mode, meets}}
 use Rattle.sect_emit.specs.Compiled.{CompiledView, program_of}
 use Rattle.sect_emit.specs.State.{Position, Outside, Entered, Running, Faulted, ThreadState, State, IsThread, plan_at}
 use Rattle.sect_emit.specs.State.{with_thread}
+use Rattle.sect_world.specs.declared.event.Deed.{Deed}
+use Rattle.sect_world.specs.declared.event.Deed.TheVariants.{Local, Enter, Take, Begin, Again, Act, Leave}
+use Rattle.sect_world.specs.declared.event.Event.{Event}
+use Rattle.sect_lemmas.specs.Lists.{put_at}
+use Rattle.sect_types.specs.declared.meaning.store.ObjectName.TheVariants as object
 
 -- each element but the n-th passes the test
 abbrev pub all_but : {X : Type 0} → ℕ → (X → Bool) → List X → Bool

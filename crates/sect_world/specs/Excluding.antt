@@ -1,11 +1,9 @@
 -- Readers and writers exclude each other.
 use Rattle.std.specs.Prelude.{◌≡◌, ◌≢◌, ⊤, ℕ, true, List}
 use Rattle.sect_types.specs.declared.meaning.store.ObjectName.{ObjectName}
-use Rattle.sect_world.specs.declared.event.Event.{Event}
+use Rattle.sect_world.specs.{declared.event.Event.{Event}, Runs.{IsRun}, Held.{may_read, may_write}}
 use Rattle.sect_emit.specs.Compiled.{CompiledView}
 use Rattle.sect_emit.specs.State.{Position, Outside, Entered, Running, Faulted, ThreadState, State, IsThread}
-use Rattle.sect_world.specs.Runs.{IsRun}
-use Rattle.sect_world.specs.Held.{may_read, may_write}
 
 -- it has begun a section and hasn't left it
 abbrev pub IsInSection : Position → Type 0

@@ -1,22 +1,17 @@
 -- What a thread holds strongly enough for an access.
 use Rattle.std.specs.Prelude.{◌≡◌, ℕ, zero, suc, Bool, true, false, ◌||◌, List, Option, Some, None, slice_get}
 use Rattle.sect_types.specs.declared.expansion.action.Action.{Action}
-use Rattle.sect_types.specs.declared.expansion.action.Action.TheVariants as action
 use Rattle.sect_types.specs.Statements.{TextView, Stop, Do, Choose, Loop, Section}
-use Rattle.sect_modes.specs.declared.mode.Mode.{Mode}
-use Rattle.sect_modes.specs.declared.key.Key.TheVariants as key
-use Rattle.sect_modes.specs.Mode.{is_reading, is_making}
-use Rattle.sect_types.specs.declared.meaning.store.ObjectName.{ObjectName}
-use Rattle.sect_types.specs.declared.meaning.store.ObjectName.TheVariants as object
-use Rattle.sect_types.specs.declared.meaning.store.Datum.{Datum}
-use Rattle.sect_emit.specs.declared.plan.Grip.{Grip}
-use Rattle.sect_types.specs.Store.{ObjectView, StoreView, object_at}
-use Rattle.sect_types.specs.Meaning.{WorkView, base_datum, name_in}
-use Rattle.sect_emit.specs.Plan.{key_of, held_mode}
-use Rattle.sect_emit.specs.ModeTests.{passes, is_reading_object, is_writing}
-use Rattle.sect_emit.specs.Compiled.{CompiledView}
+use Rattle.sect_types.specs.{declared.meaning.store.ObjectName.{ObjectName}, declared.meaning.store.Datum.{Datum}}
+use Rattle.sect_types.specs.{Store.{ObjectView, StoreView, object_at}, Meaning.{WorkView, base_datum, name_in}}
+use Rattle.sect_modes.specs.{declared.mode.Mode.{Mode}, Mode.{is_reading, is_making}}
+use Rattle.sect_emit.specs.{declared.plan.Grip.{Grip}, Plan.{key_of, held_mode}}
+use Rattle.sect_emit.specs.{ModeTests.{passes, is_reading_object, is_writing}, Compiled.{CompiledView}}
 use Rattle.sect_emit.specs.State.{Running, ThreadState, State, IsThread}
 use Rattle.sect_world.specs.Events.{guard_at}
+use Rattle.sect_types.specs.declared.expansion.action.Action.TheVariants as action
+use Rattle.sect_modes.specs.declared.key.Key.TheVariants as key
+use Rattle.sect_types.specs.declared.meaning.store.ObjectName.TheVariants as object
 
 -- all objects are held in X
 abbrev pub holds_all : List Grip → Bool

@@ -1,22 +1,14 @@
 -- Facts of runs: what threads hold, and which paths keep what they denote.
 use Rattle.std.specs.Prelude.{◌≡◌, ◌≢◌, ℕ, true, List}
-use Rattle.sect_types.specs.Statements.{TextView}
-use Rattle.sect_types.specs.declared.expansion.action.Field.{Field}
-use Rattle.sect_points.specs.Paths.{PathView}
-use Rattle.sect_names.specs.declared.lock.Effect.{Effect}
-use Rattle.sect_names.specs.declared.lock.Lock.TheVariants as lock
-use Rattle.sect_names.specs.Needed.{end_of}
-use Rattle.sect_names.specs.Along.{NeededIn, GoesBy}
+use Rattle.sect_types.specs.{Statements.{TextView}, declared.expansion.action.Field.{Field}}
 use Rattle.sect_types.specs.declared.meaning.store.ObjectName.{ObjectName}
 use Rattle.sect_types.specs.declared.meaning.store.Datum.TheVariants.{Refers}
-use Rattle.sect_world.specs.declared.event.Event.{Event}
-use Rattle.sect_emit.specs.Plan.{path_datum}
-use Rattle.sect_emit.specs.Compiled.{CompiledView}
-use Rattle.sect_emit.specs.State.{Running, ThreadState, State, IsThread}
-use Rattle.sect_world.specs.Events.{Happens}
-use Rattle.sect_world.specs.Runs.{IsRun}
-use Rattle.sect_world.specs.Held.{may_read}
+use Rattle.sect_points.specs.Paths.{PathView}
+use Rattle.sect_names.specs.{declared.lock.Effect.{Effect}, Needed.{end_of}, Along.{NeededIn, GoesBy}}
+use Rattle.sect_world.specs.{declared.event.Event.{Event}, Events.{Happens}, Runs.{IsRun}, Held.{may_read}}
 use Rattle.sect_world.specs.Kept.{HaveTheirClass}
+use Rattle.sect_emit.specs.{Plan.{path_datum}, Compiled.{CompiledView}, State.{Running, ThreadState, State, IsThread}}
+use Rattle.sect_names.specs.declared.lock.Lock.TheVariants as lock
 
 -- in each state of a run who holds an object's key holds `all` in X or the object's class in at least the intention,
 -- and who holds a class holds `all` in at least the intention

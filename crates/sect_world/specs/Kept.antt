@@ -3,26 +3,20 @@ use Rattle.std.specs.Prelude.{◌≡◌, ◌≢◌, ◌⊎◌, ⊤, ℕ, Bool, t
 use Rattle.std.specs.Prelude.{slice_get, slice_index_or}
 use Rattle.sect_lemmas.specs.Lists.{Has}
 use Rattle.sect_types.specs.declared.expansion.action.Action.{Action}
-use Rattle.sect_types.specs.Statements.{TextView, Stop, Do, Choose, Loop, Section}
-use Rattle.sect_types.specs.Sections.{sections_of}
-use Rattle.sect_types.specs.Sound.{IsSound}
-use Rattle.sect_types.specs.Programs.{ProgramView, environment_at}
-use Rattle.sect_points.specs.Statements.{thread_action, thread_actions}
-use Rattle.sect_modes.specs.declared.mode.Mode.{Mode}
-use Rattle.sect_modes.specs.declared.key.Key.{Key}
-use Rattle.sect_modes.specs.declared.key.Key.TheVariants as key
-use Rattle.sect_modes.specs.Mode.{are_compatible, is_at_least, intention_of}
+use Rattle.sect_types.specs.{Statements.{TextView, Stop, Do, Choose, Loop, Section}, Sections.{sections_of}}
+use Rattle.sect_types.specs.{Sound.{IsSound}, Programs.{ProgramView, environment_at}}
 use Rattle.sect_types.specs.declared.meaning.store.ObjectName.{ObjectName}
-use Rattle.sect_emit.specs.declared.plan.Grip.{Grip}
-use Rattle.sect_types.specs.Store.{ObjectView, StoreView, object_at, count}
-use Rattle.sect_types.specs.Meaning.{WorkView}
-use Rattle.sect_emit.specs.Plan.{key_of, held_mode, Ascends}
-use Rattle.sect_names.specs.Records.{SiteOf}
-use Rattle.sect_emit.specs.Pointed.{IsPointedStore, ArePointed}
-use Rattle.sect_emit.specs.Compiled.{CompiledView, program_of}
+use Rattle.sect_types.specs.{Store.{ObjectView, StoreView, object_at, count}, Meaning.{WorkView}}
+use Rattle.sect_points.specs.Statements.{thread_action, thread_actions}
+use Rattle.sect_modes.specs.{declared.mode.Mode.{Mode}, declared.key.Key.{Key}}
+use Rattle.sect_modes.specs.Mode.{are_compatible, is_at_least, intention_of}
+use Rattle.sect_emit.specs.{declared.plan.Grip.{Grip}, Plan.{key_of, held_mode, Ascends}}
+use Rattle.sect_emit.specs.{Pointed.{IsPointedStore, ArePointed}, Compiled.{CompiledView, program_of}}
 use Rattle.sect_emit.specs.ModeTests.{is_reading_object}
-use Rattle.sect_world.specs.Held.{holds_all, mode_of_class}
 use Rattle.sect_emit.specs.State.{Position, Outside, Entered, Running, Faulted, ThreadState, State, IsThread}
+use Rattle.sect_names.specs.Records.{SiteOf}
+use Rattle.sect_world.specs.Held.{holds_all, mode_of_class}
+use Rattle.sect_modes.specs.declared.key.Key.TheVariants as key
 
 -- a thread outside holds and wants nothing; one that has entered wants what lies above all that it holds, in key order;
 -- one in a section wants nothing

@@ -1,13 +1,9 @@
 -- What holds of every run of a compiled program.
 use Rattle.std.specs.Prelude.{◌≡◌, ℕ, List, false}
-use Rattle.sect_world.specs.declared.event.Event.{Event}
+use Rattle.sect_world.specs.{declared.event.Event.{Event}, Runs.{IsRun, IsComplete, order_of}, Held.{HoldsEnough}}
+use Rattle.sect_world.specs.{Kept.{IsWellKept}, Blocked.{IsStuck, CanGoOn}}
 use Rattle.sect_types.specs.Whole.{SerialEndView, RunsWhole, has_ended}
-use Rattle.sect_emit.specs.Compiled.{CompiledView, program_of}
-use Rattle.sect_emit.specs.State.{State, ThreadState, IsThread}
-use Rattle.sect_world.specs.Runs.{IsRun, IsComplete, order_of}
-use Rattle.sect_world.specs.Held.{HoldsEnough}
-use Rattle.sect_world.specs.Kept.{IsWellKept}
-use Rattle.sect_world.specs.Blocked.{IsStuck, CanGoOn}
+use Rattle.sect_emit.specs.{Compiled.{CompiledView, program_of}, State.{State, ThreadState, IsThread}}
 
 -- in each state of a run each thread holds strongly enough what its next step in a section loads from, stores to or
 -- makes

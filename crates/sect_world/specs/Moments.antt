@@ -1,9 +1,7 @@
 -- A world that is put aside between two turns. `World::suspend` and `Moment::resume` cite it.
 use Rattle.std.specs.Prelude.{◌≡◌, [], length, vec_capacity}
 use Rattle.sect_emit.specs.Compiled.{CompiledView}
-use Rattle.sect_world.specs.Worlds.{WorldView}
-use Rattle.sect_world.specs.declared.world.Moment.{Moment}
-use Rattle.sect_world.specs.Viewing.{IsWorld, HasRoom, shown}
+use Rattle.sect_world.specs.{Worlds.{WorldView}, declared.world.Moment.{Moment}, Viewing.{IsWorld, HasRoom, shown}}
 
 -- the world of a moment of a run of this compiled program
 abbrev pub world_at : CompiledView → Moment → WorldView

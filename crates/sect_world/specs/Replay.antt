@@ -1,13 +1,10 @@
 -- A section as far as it has come, done again from another store.
 use Rattle.std.specs.Prelude.{◌≡◌, ℕ, zero, suc, false}
-use Rattle.sect_types.specs.Programs.{ProgramView}
-use Rattle.sect_types.specs.declared.meaning.store.ObjectName.{ObjectName}
-use Rattle.sect_types.specs.Store.{StoreView}
+use Rattle.sect_types.specs.{Programs.{ProgramView}, declared.meaning.store.ObjectName.{ObjectName}, Store.{StoreView}}
 use Rattle.sect_types.specs.Meaning.{WorkView, after_change, found_at, Next, On, Off, next, looks}
 use Rattle.sect_emit.specs.Compiled.{CompiledView}
 use Rattle.sect_emit.specs.State.{Position, Outside, Entered, Running, Faulted, ThreadState, State, IsThread}
-use Rattle.sect_world.specs.Held.{may_write}
-use Rattle.sect_world.specs.Excluding.{IsInSection}
+use Rattle.sect_world.specs.{Held.{may_write}, Excluding.{IsInSection}}
 
 -- how far a section has come: where its thread is, what it works with, and the store
 pub record Phase : Type 0 where

@@ -1,13 +1,10 @@
 -- Runs of the machine.
 use Rattle.std.specs.Prelude.{◌≡◌, ℕ, List, [], ◌∷◌, ◌++◌, Option, Some, map}
-use Rattle.sect_types.specs.declared.meaning.store.End.{End}
+use Rattle.sect_types.specs.{declared.meaning.store.End.{End}, Whole.{SerialEndView}}
 use Rattle.sect_world.specs.declared.event.Deed.{Deed}
 use Rattle.sect_world.specs.declared.event.Deed.TheVariants.{Local, Enter, Take, Begin, Again, Act, Leave}
-use Rattle.sect_world.specs.declared.event.Event.{Event}
-use Rattle.sect_types.specs.Whole.{SerialEndView}
-use Rattle.sect_emit.specs.Compiled.{CompiledView}
-use Rattle.sect_emit.specs.State.{State, ThreadState, start}
-use Rattle.sect_world.specs.Events.{Happens}
+use Rattle.sect_world.specs.{declared.event.Event.{Event}, Events.{Happens}}
+use Rattle.sect_emit.specs.{Compiled.{CompiledView}, State.{State, ThreadState, start}}
 
 -- the events, each enabled when it comes, lead from one state to the other
 abbrev pub RunsTo : CompiledView → State → List Event → State → Type 0

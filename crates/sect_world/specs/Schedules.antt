@@ -1,18 +1,12 @@
 -- What running a schedule comes to. `run_schedule` cites it.
-use Rattle.std.specs.Prelude.{◌≡◌, ◌<◌, ◌≤◌, ⊤, ℕ, List, [], ◌∷◌, ◌++◌, map, length}
-use Rattle.std.specs.List.{flat_map}
+use Rattle.std.specs.{Prelude.{◌≡◌, ◌<◌, ◌≤◌, ⊤, ℕ, List, [], ◌∷◌, ◌++◌, map, length}, List.{flat_map}}
 use Rattle.sect_lemmas.specs.Lists.{Has}
 use Rattle.sect_types.specs.Whole.{SerialEndView, RunsWhole}
-use Rattle.sect_emit.specs.Compiled.{CompiledView, program_of}
-use Rattle.sect_emit.specs.State.{State, start}
-use Rattle.sect_world.specs.declared.event.Event.{Event}
-use Rattle.sect_world.specs.declared.schedule.Progress.{Progress}
-use Rattle.sect_world.specs.declared.turned.Turned.{Turned}
-use Rattle.sect_world.specs.declared.turned.WorldFault.{WorldFault}
-use Rattle.sect_world.specs.declared.turned.WorldFault.TheVariants.{NoSuchThread, Memory}
-use Rattle.sect_world.specs.Blocked.{IsStuck}
-use Rattle.sect_world.specs.Runs.{IsRun, IsComplete, order_of}
-use Rattle.sect_world.specs.Worlds.{Does, AllEnded, outcome_at}
+use Rattle.sect_emit.specs.{Compiled.{CompiledView, program_of}, State.{State, start}}
+use Rattle.sect_world.specs.{declared.event.Event.{Event}, declared.schedule.Progress.{Progress}}
+use Rattle.sect_world.specs.{declared.turned.Turned.{Turned}, declared.turned.WorldFault.{WorldFault}}
+use Rattle.sect_world.specs.{declared.turned.WorldFault.TheVariants.{NoSuchThread, Memory}, Blocked.{IsStuck}}
+use Rattle.sect_world.specs.{Runs.{IsRun, IsComplete, order_of}, Worlds.{Does, AllEnded, outcome_at}}
 
 -- these threads have a turn each, one after another, which make these events and lead from one state to the other
 abbrev pub TakeTurns : CompiledView → State → List ℕ → List (List Event) → State → Type 0

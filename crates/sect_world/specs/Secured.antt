@@ -1,23 +1,16 @@
 -- What a thread in a section has secured of the rest of the section.
 use Rattle.std.specs.Prelude.{◌≡◌, ℕ, Bool, true, ◌||◌, List}
-use Rattle.sect_types.specs.Statements.{TextView}
-use Rattle.sect_names.specs.declared.lock.Effect.{Effect}
-use Rattle.sect_names.specs.declared.lock.Effect.TheVariants as effect
-use Rattle.sect_names.specs.declared.lock.Lock.{Lock}
-use Rattle.sect_names.specs.declared.lock.Lock.TheVariants as lock
-use Rattle.sect_names.specs.Needed.{end_of}
-use Rattle.sect_names.specs.Along.{NeededIn}
-use Rattle.sect_modes.specs.declared.key.Key.TheVariants as key
-use Rattle.sect_types.specs.declared.meaning.store.ObjectName.{ObjectName}
-use Rattle.sect_types.specs.declared.meaning.store.Datum.{Datum}
-use Rattle.sect_types.specs.declared.meaning.store.Datum.TheVariants.{Refers}
-use Rattle.sect_emit.specs.declared.plan.Grip.{Grip}
+use Rattle.sect_types.specs.{Statements.{TextView}, declared.meaning.store.ObjectName.{ObjectName}}
+use Rattle.sect_types.specs.{declared.meaning.store.Datum.{Datum}, declared.meaning.store.Datum.TheVariants.{Refers}}
 use Rattle.sect_types.specs.Store.{StoreView}
-use Rattle.sect_emit.specs.Plan.{class_mode, held_mode, is_met, path_datum}
-use Rattle.sect_emit.specs.Compiled.{CompiledView}
-use Rattle.sect_emit.specs.State.{Running, ThreadState, State, IsThread}
-use Rattle.sect_world.specs.Held.{holds_all, may_read, may_write}
-use Rattle.sect_world.specs.Kept.{HaveTheirClass, IsWellKept}
+use Rattle.sect_names.specs.{declared.lock.Effect.{Effect}, declared.lock.Lock.{Lock}, Needed.{end_of}}
+use Rattle.sect_names.specs.Along.{NeededIn}
+use Rattle.sect_emit.specs.{declared.plan.Grip.{Grip}, Plan.{class_mode, held_mode, is_met, path_datum}}
+use Rattle.sect_emit.specs.{Compiled.{CompiledView}, State.{Running, ThreadState, State, IsThread}}
+use Rattle.sect_world.specs.{Held.{holds_all, may_read, may_write}, Kept.{HaveTheirClass, IsWellKept}}
+use Rattle.sect_names.specs.declared.lock.Effect.TheVariants as effect
+use Rattle.sect_names.specs.declared.lock.Lock.TheVariants as lock
+use Rattle.sect_modes.specs.declared.key.Key.TheVariants as key
 
 -- who holds these keys may access the object with this effect
 abbrev pub may_by : Effect → CompiledView → StoreView → List Grip → ObjectName → Bool

@@ -1,17 +1,11 @@
 -- What holds of every run of a compiled program, also where it isn't complete: how its state stands to whole sections.
 use Rattle.std.specs.Prelude.{◌≡◌, ℕ, true, List, Some, None, slice_get}
-use Rattle.sect_types.specs.Statements.{TextView, Section}
-use Rattle.sect_types.specs.declared.meaning.store.ObjectName.{ObjectName}
-use Rattle.sect_world.specs.declared.event.Event.{Event}
-use Rattle.sect_types.specs.Store.{StoreView, object_at}
-use Rattle.sect_types.specs.Meaning.{WorkView}
+use Rattle.sect_types.specs.{Statements.{TextView, Section}, declared.meaning.store.ObjectName.{ObjectName}}
+use Rattle.sect_types.specs.{Store.{StoreView, object_at}, Meaning.{WorkView}}
 use Rattle.sect_types.specs.Whole.{FrameView, ahead, RunView, in_order, begun}
-use Rattle.sect_emit.specs.Compiled.{CompiledView, program_of}
-use Rattle.sect_emit.specs.State.{Running, ThreadState, State, IsThread}
-use Rattle.sect_world.specs.Runs.{IsRun, order_of}
-use Rattle.sect_world.specs.Held.{may_read}
-use Rattle.sect_world.specs.Excluding.{IsInSection}
-use Rattle.sect_world.specs.Replay.{replay, NobodyWrites}
+use Rattle.sect_world.specs.{declared.event.Event.{Event}, Runs.{IsRun, order_of}, Held.{may_read}}
+use Rattle.sect_world.specs.{Excluding.{IsInSection}, Replay.{replay, NobodyWrites}}
+use Rattle.sect_emit.specs.{Compiled.{CompiledView, program_of}, State.{Running, ThreadState, State, IsThread}}
 
 -- what whole sections of the threads that have left, in that order, have come to
 abbrev pub IsSerial : CompiledView → ℕ → List Event → RunView → Type 0

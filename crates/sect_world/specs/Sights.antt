@@ -1,11 +1,8 @@
 -- What is told of a thread of a state. The methods of `World` cite it.
 use Rattle.std.specs.Prelude.{ℕ, Option, Some, None, slice_get}
 use Rattle.sect_types.specs.declared.meaning.store.End.{End}
-use Rattle.sect_modes.specs.declared.mode.Mode.{Mode}
-use Rattle.sect_modes.specs.declared.key.Key.{Key}
-use Rattle.sect_emit.specs.declared.plan.Grip.{Grip}
-use Rattle.sect_emit.specs.Plan.{held_mode}
-use Rattle.sect_emit.specs.State.{ThreadState, State}
+use Rattle.sect_modes.specs.{declared.mode.Mode.{Mode}, declared.key.Key.{Key}}
+use Rattle.sect_emit.specs.{declared.plan.Grip.{Grip}, Plan.{held_mode}, State.{ThreadState, State}}
 
 abbrev pub wish_in : Option ThreadState → Option Grip
 wish_in None = None

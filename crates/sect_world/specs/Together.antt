@@ -1,21 +1,14 @@
 -- Sections of two threads at one time. The laws on them cite it.
 use Rattle.std.specs.Prelude.{◌≡◌, ◌≢◌, ◌⊎◌, ℕ, true, List, [], ◌∷◌, ◌++◌, if◌then◌else◌}
-use Rattle.sect_lemmas.specs.Lists.{Has}
-use Rattle.sect_lemmas.specs.Numbers.{same_number}
+use Rattle.sect_lemmas.specs.{Lists.{Has}, Numbers.{same_number}}
 use Rattle.sect_types.specs.Statements.{TextView, Section}
-use Rattle.sect_modes.specs.declared.mode.Mode.{Mode}
-use Rattle.sect_modes.specs.declared.key.Key.{Key}
-use Rattle.sect_modes.specs.Mode.{are_compatible}
-use Rattle.sect_emit.specs.declared.plan.Grip.{Grip}
-use Rattle.sect_emit.specs.Plan.{grip}
-use Rattle.sect_emit.specs.Compiled.{CompiledView}
+use Rattle.sect_modes.specs.{declared.mode.Mode.{Mode}, declared.key.Key.{Key}, Mode.{are_compatible}}
+use Rattle.sect_emit.specs.{declared.plan.Grip.{Grip}, Plan.{grip}, Compiled.{CompiledView}}
 use Rattle.sect_emit.specs.State.{Position, Outside, Entered, Running, Faulted, ThreadState, State, IsThread}
 use Rattle.sect_conflicts.specs.Conflicts.{AlwaysClash, MayGoTogether}
 use Rattle.sect_world.specs.declared.event.Deed.{Deed}
 use Rattle.sect_world.specs.declared.event.Deed.TheVariants.{Local, Enter, Take, Begin, Again, Act, Leave}
-use Rattle.sect_world.specs.declared.event.Event.{Event}
-use Rattle.sect_world.specs.Blocked.{WantsFirst}
-use Rattle.sect_world.specs.Runs.{IsRun}
+use Rattle.sect_world.specs.{declared.event.Event.{Event}, Blocked.{WantsFirst}, Runs.{IsRun}}
 
 -- section i is in progress: the thread has begun it and hasn't left it
 abbrev pub IsIn : ℕ → Position → Type 0

@@ -1,27 +1,17 @@
 -- What the parts of a world stand for. `World` and `Moment` cite it.
 use Rattle.std.specs.Prelude.{◌≡◌, ⊤, ℕ, ◌<◌, ◌≤◌, ℤ, List, [], ◌∷◌, Option, Some, None, length, drop, slice_get}
 use Rattle.std.specs.Prelude.{slice_index_or}
-use Rattle.sect_types.specs.Statements.{TextView, Stop}
-use Rattle.sect_types.specs.Sections.{SectionView, sections_of}
-use Rattle.sect_types.specs.Store.{StoreView}
-use Rattle.sect_types.specs.Whole.{FrameView, settled, first_work}
+use Rattle.sect_types.specs.{Statements.{TextView, Stop}, Sections.{SectionView, sections_of}, Store.{StoreView}}
+use Rattle.sect_types.specs.{Whole.{FrameView, settled, first_work}, declared.meaning.store.End.{End}}
+use Rattle.sect_types.specs.{declared.meaning.store.Fault.{Fault}, Meaning.{WorkView}}
 use Rattle.sect_graph.specs.Rests.{rest_at}
-use Rattle.sect_table.specs.declared.claims.Hold.{Hold}
-use Rattle.sect_table.specs.Contents.{Contents}
-use Rattle.sect_table.specs.Sound.{IsKept as IsTableKept}
+use Rattle.sect_table.specs.{declared.claims.Hold.{Hold}, Contents.{Contents}, Sound.{IsKept as IsTableKept}}
 use Rattle.sect_emit.specs.Compiled.{CompiledView, IsCompiled, program_of}
 use Rattle.sect_emit.specs.State.{Position, Outside, Entered, Running, Faulted, ThreadState, State, outside}
-use Rattle.sect_world.specs.declared.event.Event.{Event}
-use Rattle.sect_world.specs.declared.runner.Phase.{Phase}
+use Rattle.sect_world.specs.{declared.event.Event.{Event}, declared.runner.Phase.{Phase}}
+use Rattle.sect_world.specs.{declared.runner.Runner.{Runner}, Runs.{IsRun, order_of}, Events.{frame_out, emptied}}
+use Rattle.sect_world.specs.{Worlds.{WorldView}, Waiting.{grips, AllWaitersAsk}}
 use Rattle.sect_world.specs.declared.runner.Phase.TheVariants as phase
-use Rattle.sect_world.specs.declared.runner.Runner.{Runner}
-use Rattle.sect_world.specs.Runs.{IsRun, order_of}
-use Rattle.sect_types.specs.declared.meaning.store.End.{End}
-use Rattle.sect_types.specs.declared.meaning.store.Fault.{Fault}
-use Rattle.sect_types.specs.Meaning.{WorkView}
-use Rattle.sect_world.specs.Events.{frame_out, emptied}
-use Rattle.sect_world.specs.Worlds.{WorldView}
-use Rattle.sect_world.specs.Waiting.{grips, AllWaitersAsk}
 
 abbrev pub body_in : Option SectionView → TextView
 body_in None = Stop

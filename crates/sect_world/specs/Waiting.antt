@@ -1,14 +1,9 @@
 -- Who waits for a key, by the lock table and by the machine.
 use Rattle.std.specs.Prelude.{◌≡◌, ℕ, List, map}
 use Rattle.sect_lemmas.specs.Lists.{Has}
-use Rattle.sect_modes.specs.declared.mode.Mode.{Mode}
-use Rattle.sect_modes.specs.declared.key.Key.{Key}
-use Rattle.sect_table.specs.declared.claims.Claim.{Claim}
-use Rattle.sect_table.specs.declared.claims.Hold.{Hold}
-use Rattle.sect_table.specs.Contents.{Entry, entry_of}
-use Rattle.sect_emit.specs.declared.plan.Grip.{Grip}
-use Rattle.sect_emit.specs.Plan.{grip}
-use Rattle.sect_emit.specs.State.{Entered, ThreadState, State, IsThread}
+use Rattle.sect_modes.specs.{declared.mode.Mode.{Mode}, declared.key.Key.{Key}}
+use Rattle.sect_table.specs.{declared.claims.Claim.{Claim}, declared.claims.Hold.{Hold}, Contents.{Entry, entry_of}}
+use Rattle.sect_emit.specs.{declared.plan.Grip.{Grip}, Plan.{grip}, State.{Entered, ThreadState, State, IsThread}}
 use Rattle.sect_world.specs.Blocked.{WantsFirst}
 
 -- what the table says that a thread holds, as the machine has it

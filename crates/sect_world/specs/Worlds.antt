@@ -2,19 +2,15 @@
 use Rattle.std.specs.Prelude.{◌≡◌, ◌≢◌, ◌≤◌, ◌<◌, ⊤, ℕ, true, List, [], ◌∷◌, ◌++◌, map, drop}
 use Rattle.sect_types.specs.Whole.{has_ended}
 use Rattle.sect_store.specs.Outcomes.{OutcomeView}
-use Rattle.sect_emit.specs.Compiled.{CompiledView, program_of}
-use Rattle.sect_emit.specs.State.{ThreadState, State, IsThread, start}
-use Rattle.sect_world.specs.declared.event.Deed.{Deed}
-use Rattle.sect_world.specs.declared.event.Deed.TheVariants as deed
-use Rattle.sect_world.specs.declared.event.Event.{Event}
-use Rattle.sect_world.specs.declared.turned.EventKind.{EventKind}
-use Rattle.sect_world.specs.declared.turned.EventKind.TheVariants as kind
-use Rattle.sect_world.specs.declared.turned.Turned.{Turned}
+use Rattle.sect_emit.specs.{Compiled.{CompiledView, program_of}, State.{ThreadState, State, IsThread, start}}
+use Rattle.sect_world.specs.{declared.event.Deed.{Deed}, declared.event.Event.{Event}}
+use Rattle.sect_world.specs.{declared.turned.EventKind.{EventKind}, declared.turned.Turned.{Turned}}
 use Rattle.sect_world.specs.declared.turned.Turned.TheVariants.{Moved, Waits, Ended}
 use Rattle.sect_world.specs.declared.turned.WorldFault.{WorldFault}
-use Rattle.sect_world.specs.declared.turned.WorldFault.TheVariants.{NoSuchThread, Memory}
-use Rattle.sect_world.specs.Runs.{RunsTo, ends_of}
+use Rattle.sect_world.specs.{declared.turned.WorldFault.TheVariants.{NoSuchThread, Memory}, Runs.{RunsTo, ends_of}}
 use Rattle.sect_world.specs.Blocked.{IsBlocked}
+use Rattle.sect_world.specs.declared.event.Deed.TheVariants as deed
+use Rattle.sect_world.specs.declared.turned.EventKind.TheVariants as kind
 
 -- the compiled program, the fuel of each thread, the events, the threads of the `leave` events in order, the state, and
 -- the threads that the last turn has let in

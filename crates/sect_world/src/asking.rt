@@ -1,13 +1,11 @@
 //! A thread asks for a key.
 
-ghost use Rattle.std.specs.Prelude.{◌≡◌, ◌<◌, ◌++◌, ◌∷◌, [], length, false, Some, slice_get, OnErr, IfOk};
-ghost use Rattle.std.specs.Prelude.{vec_len, vec_capacity};
-ghost use Rattle.sect_table.specs.Contents.{holds};
-ghost use Rattle.sect_table.specs.Sound.{IsKept as IsTableKept};
+ghost use Rattle.std.specs.Prelude.{◌≡◌, ◌<◌, ◌++◌, ◌∷◌, [], length, false, Some, slice_get, OnErr, IfOk, vec_len};
+ghost use Rattle.std.specs.Prelude.{vec_capacity};
+ghost use Rattle.sect_table.specs.{Contents.{holds}, Sound.{IsKept as IsTableKept}};
 ghost use Rattle.sect_emit.specs.declared.plan.Grip.{Grip as Wish};
 ghost use Rattle.sect_world.specs.declared.runner.Runner.{Runner as Asker};
-ghost use Rattle.sect_world.specs.steps.Fits.{take_of};
-ghost use Rattle.sect_world.specs.steps.Taking.{Wishes, IsAsked, HasRoomAt, advanced_at, turn_by};
+ghost use Rattle.sect_world.specs.steps.{Fits.{take_of}, Taking.{Wishes, IsAsked, HasRoomAt, advanced_at, turn_by}};
 
 use crate::event::{Deed, Event};
 use crate::runner::Runner;

@@ -1,16 +1,13 @@
 //! A thread gives back what it holds, and others come to hold it.
 
-ghost use Rattle.std.specs.Prelude.{◌≡◌, ◌<◌, ◌≤◌, ◌+◌, ◌++◌, ◌∷◌, [], length, false, vec_len, vec_capacity};
-ghost use Rattle.std.specs.Prelude.{OnOk, OnErr};
+ghost use Rattle.std.specs.Prelude.{◌≡◌, ◌<◌, ◌≤◌, ◌+◌, ◌++◌, ◌∷◌, [], length, false, vec_len, vec_capacity, OnOk};
+ghost use Rattle.std.specs.Prelude.{OnErr};
 ghost use Rattle.sect_graph.specs.Rests.{rest_at};
-ghost use Rattle.sect_table.specs.Contents.{is_waiting, released};
-ghost use Rattle.sect_table.specs.Sound.{IsKept as IsTableKept};
+ghost use Rattle.sect_table.specs.{Contents.{is_waiting, released}, Sound.{IsKept as IsTableKept}};
 ghost use Rattle.sect_emit.specs.Compiled.{program_of};
-ghost use Rattle.sect_world.specs.declared.runner.Phase.TheVariants.{Outside};
-ghost use Rattle.sect_world.specs.Events.{frame_out};
-ghost use Rattle.sect_world.specs.steps.Fits.{takes};
-ghost use Rattle.sect_world.specs.steps.Taking.{CanAdvance, all_advanced, takers};
+ghost use Rattle.sect_world.specs.{declared.runner.Phase.TheVariants.{Outside}, Events.{frame_out}};
 ghost use Rattle.sect_world.specs.Viewing.{EndsSo, text_at, frame_of};
+ghost use Rattle.sect_world.specs.steps.{Fits.{takes}, Taking.{CanAdvance, all_advanced, takers}};
 
 use crate::asking::take;
 use crate::event::Event;

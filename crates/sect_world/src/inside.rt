@@ -1,23 +1,16 @@
 //! Moves of a thread in a section.
 
 ghost use Rattle.std.specs.Prelude.{◌≡◌, ◌<◌, ℕ, List, [], length, slice_get, Some, true, Option, IfOk, OnOk, OnErr};
-ghost use Rattle.sect_types.specs.Statements.{TextView};
-ghost use Rattle.sect_types.specs.Sections.{sections_of};
-ghost use Rattle.sect_types.specs.Store.{ObjectView, add};
+ghost use Rattle.sect_types.specs.{Statements.{TextView}, Sections.{sections_of}, Store.{ObjectView, add}};
 ghost use Rattle.sect_types.specs.Meaning.{next, found_at, looks, begins_step, one, fresh, Went, Added};
 ghost use Rattle.sect_types.specs.declared.expansion.action.Action.TheVariants.{New};
 ghost use Rattle.sect_types.specs.declared.meaning.store.ObjectName.TheVariants.{Made};
-ghost use Rattle.sect_graph.specs.declared.flow.Node.{Node};
-ghost use Rattle.sect_graph.specs.Rests.{Begins, rest_at};
+ghost use Rattle.sect_graph.specs.{declared.flow.Node.{Node}, Rests.{Begins, rest_at}};
 ghost use Rattle.sect_modes.specs.declared.mode.Mode.TheVariants.{Exclusive};
-ghost use Rattle.sect_table.specs.declared.claims.Answer.TheVariants.{Granted};
-ghost use Rattle.sect_table.specs.Contents.{entry_of, held_by};
-ghost use Rattle.sect_table.specs.Answers.{IsAnswered};
-ghost use Rattle.sect_table.specs.Sound.{IsKept};
-ghost use Rattle.sect_emit.specs.Plan.{key_of as key_by};
-ghost use Rattle.sect_emit.specs.Compiled.{program_of};
-ghost use Rattle.sect_world.specs.Events.{step_in, changed_by, acting};
-ghost use Rattle.sect_world.specs.Kept.{IsTextOf};
+ghost use Rattle.sect_table.specs.{declared.claims.Answer.TheVariants.{Granted}, Contents.{entry_of, held_by}};
+ghost use Rattle.sect_table.specs.{Answers.{IsAnswered}, Sound.{IsKept}};
+ghost use Rattle.sect_emit.specs.{Plan.{key_of as key_by}, Compiled.{program_of}};
+ghost use Rattle.sect_world.specs.{Events.{step_in, changed_by, acting}, Kept.{IsTextOf}};
 ghost use Rattle.sect_world.specs.Viewing.{body_at, thread_of, IsSited};
 ghost use Rattle.sect_world.specs.steps.Moves.{Goes, IsStep, GivesKey, HoldsMore, grips_by, object_by};
 

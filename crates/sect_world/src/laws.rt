@@ -1,19 +1,12 @@
 //! Laws of the machine. The functions have empty bodies; the clauses say the laws.
 
 ghost use Rattle.std.specs.Prelude.{ℕ, List};
-ghost use Rattle.sect_emit.specs.Compiled.{CompiledView, IsCompiled, AreSetsLeast};
-ghost use Rattle.sect_emit.specs.State.{State};
-ghost use Rattle.sect_world.specs.declared.event.Event.{Event};
-ghost use Rattle.sect_world.specs.Events.{Happens};
-ghost use Rattle.sect_world.specs.Runs.{IsRun};
-ghost use Rattle.sect_world.specs.Held.{HoldsEnough};
-ghost use Rattle.sect_world.specs.Accesses.{ChangesAreAccesses, StepsLookWhereTheyLoad};
-ghost use Rattle.sect_world.specs.Kept.{IsWellKept};
+ghost use Rattle.sect_emit.specs.{Compiled.{CompiledView, IsCompiled, AreSetsLeast}, State.{State}};
+ghost use Rattle.sect_world.specs.{declared.event.Event.{Event}, Events.{Happens}, Runs.{IsRun}, Held.{HoldsEnough}};
+ghost use Rattle.sect_world.specs.{Accesses.{ChangesAreAccesses, StepsLookWhereTheyLoad}, Kept.{IsWellKept}};
 ghost use Rattle.sect_world.specs.Laws.{StatesAreWellKept, NoStateIsStuck, SomethingHappens, AccessesAreHeld};
-ghost use Rattle.sect_world.specs.Laws.{EveryRunIsSerial, EveryOrderIsRun};
-ghost use Rattle.sect_world.specs.Excluding.{ReadersAndWritersExclude};
-ghost use Rattle.sect_world.specs.HeldPaths.{HoldersHoldTheClass, BeginningsAreHeld, NeededPathsStay};
-ghost use Rattle.sect_world.specs.Secured.{Good};
+ghost use Rattle.sect_world.specs.{Laws.{EveryRunIsSerial, EveryOrderIsRun}, Excluding.{ReadersAndWritersExclude}};
+ghost use Rattle.sect_world.specs.{HeldPaths.{HoldersHoldTheClass, BeginningsAreHeld, NeededPathsStay}, Secured.{Good}};
 ghost use Rattle.sect_world.specs.Together.{ClashingSectionsExclude, TogetherNeverWait, TogetherNeverWaitForHeld};
 ghost use Rattle.sect_world.specs.SerialFacts.{OnlySectionsDiffer, SectionsAreReplayed};
 

@@ -1,10 +1,8 @@
 //! One statement or test, by the node of a control-flow graph.
 
 ghost use Rattle.std.specs.Prelude.{◌≡◌, ◌<◌, ℕ, length, slice_get, Some, true, IfOk, OnErr};
-ghost use Rattle.sect_types.specs.Statements.{TextView};
-ghost use Rattle.sect_types.specs.Meaning.{next, found_at, looks, begins_step};
-ghost use Rattle.sect_graph.specs.declared.flow.Node.{Node};
-ghost use Rattle.sect_graph.specs.Rests.{Begins};
+ghost use Rattle.sect_types.specs.{Statements.{TextView}, Meaning.{next, found_at, looks, begins_step}};
+ghost use Rattle.sect_graph.specs.{declared.flow.Node.{Node}, Rests.{Begins}};
 ghost use Rattle.sect_world.specs.steps.Moves.{Goes, IsStep, chosen};
 
 use sect_graph::{Flow, Successors};

@@ -2,20 +2,12 @@
 
 ghost use Rattle.std.specs.Prelude.{◌≡◌, ◌<◌, ℕ, List, [], ◌∷◌, true, false, None, drop, length, slice_get, Some, IfOk};
 ghost use Rattle.std.specs.Prelude.{OnOk, OnErr};
-ghost use Rattle.sect_types.specs.Statements.{TextView, Section};
-ghost use Rattle.sect_types.specs.Programs.{environment_at};
-ghost use Rattle.sect_types.specs.Sections.{sections_of};
-ghost use Rattle.sect_types.specs.Sound.{IsSound};
-ghost use Rattle.sect_types.specs.Meaning.{begins_step};
-ghost use Rattle.sect_types.specs.Whole.{local_step};
-ghost use Rattle.sect_graph.specs.declared.flow.Node.{Node};
-ghost use Rattle.sect_graph.specs.Rests.{rest_at};
+ghost use Rattle.sect_types.specs.{Statements.{TextView, Section}, Programs.{environment_at}, Sections.{sections_of}};
+ghost use Rattle.sect_types.specs.{Sound.{IsSound}, Meaning.{begins_step}, Whole.{local_step}};
+ghost use Rattle.sect_graph.specs.{declared.flow.Node.{Node}, Rests.{rest_at}};
 ghost use Rattle.sect_table.specs.Contents.{held_by};
-ghost use Rattle.sect_emit.specs.Plan.{meets as meets_by, object_wishes};
-ghost use Rattle.sect_emit.specs.Compiled.{program_of};
-ghost use Rattle.sect_emit.specs.State.{plan_at};
-ghost use Rattle.sect_world.specs.declared.runner.Phase.TheVariants.{Entered, Running};
-ghost use Rattle.sect_world.specs.Waiting.{grips};
+ghost use Rattle.sect_emit.specs.{Plan.{meets as meets_by, object_wishes}, Compiled.{program_of}, State.{plan_at}};
+ghost use Rattle.sect_world.specs.{declared.runner.Phase.TheVariants.{Entered, Running}, Waiting.{grips}};
 ghost use Rattle.sect_world.specs.Viewing.{text_at, frame_of};
 ghost use Rattle.sect_world.specs.steps.Moves.{StepsLocally};
 

@@ -2,8 +2,7 @@
 
 ghost use Rattle.std.specs.Prelude.{◌≡◌, ◌∷◌, [], ◌++◌, List, IfOk, OnOk};
 ghost use Rattle.sect_emit.specs.declared.plan.Grip.{Grip};
-ghost use Rattle.sect_emit.specs.Plan.{key_of as key_by, gathered, object_wishes};
-ghost use Rattle.sect_emit.specs.Plan.{plan_of as plan_by};
+ghost use Rattle.sect_emit.specs.Plan.{key_of as key_by, gathered, object_wishes, plan_of as plan_by};
 ghost use Rattle.sect_world.specs.steps.Wishing.{wishes_in};
 
 use crate::lookup::path_datum;

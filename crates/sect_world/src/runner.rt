@@ -1,8 +1,7 @@
 //! A thread of a program as it runs.
 
-ghost use Rattle.std.specs.Prelude.{◌≡◌, ◌<◌, ◌≤◌, ◌+◌, ◌++◌, [], map, length, slice_index_or, IfOk};
-ghost use Rattle.std.specs.Prelude.{vec_len, vec_capacity};
-ghost use Rattle.std.specs.List.{list_all};
+ghost use Rattle.std.specs.Prelude.{◌≡◌, ◌<◌, ◌≤◌, ◌+◌, ◌++◌, [], map, length, slice_index_or, IfOk, vec_len};
+ghost use Rattle.std.specs.{Prelude.{vec_capacity}, List.{list_all}};
 ghost use Rattle.sect_types.specs.Whole.{first_work as first_work_of, has_ended};
 ghost use Rattle.sect_emit.specs.Compiled.{program_of};
 ghost use Rattle.sect_world.specs.declared.runner.Runner.{Runner as ARunner};

@@ -3,8 +3,7 @@
 ghost use Rattle.std.specs.Prelude.{◌≡◌, ◌<◌, ℕ, length, IfOk, OnOk, IfErr};
 ghost use Rattle.sect_lemmas.specs.Lists.{Has};
 ghost use Rattle.sect_emit.specs.Compiled.{program_of};
-ghost use Rattle.sect_world.specs.Schedules.{IsProgress, IsUnrun};
-ghost use Rattle.sect_world.specs.Worlds.{IsRefused};
+ghost use Rattle.sect_world.specs.{Schedules.{IsProgress, IsUnrun}, Worlds.{IsRefused}};
 ghost use Rattle.sect_world.specs.steps.Counting.{IsCounted};
 
 use crate::turned::WorldFault;

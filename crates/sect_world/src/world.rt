@@ -1,26 +1,19 @@
 //! A moment of a run, with the events that led to it.
 
 ghost use Rattle.std.specs.Prelude.{◌≡◌, ◌≤◌, ◌↔◌, true, IsTrue, length, ◌<◌, IfOk, OnOk, IfErr, OnErr, false, []};
-ghost use Rattle.sect_types.specs.Statements.{TextView, Section};
-ghost use Rattle.sect_types.specs.Sections.{sections_of};
-ghost use Rattle.sect_types.specs.Meaning.{begins_step};
-ghost use Rattle.sect_graph.specs.Rests.{rest_at};
+ghost use Rattle.sect_types.specs.{Statements.{TextView, Section}, Sections.{sections_of}, Meaning.{begins_step}};
 ghost use Rattle.sect_types.specs.Whole.{SerialEndView, RunsWhole, has_ended};
-ghost use Rattle.sect_modes.specs.declared.key.Key.{Key as AKey};
-ghost use Rattle.sect_modes.specs.declared.mode.Mode.{Mode as AMode};
-ghost use Rattle.sect_emit.specs.Compiled.{IsCompiled, program_of};
-ghost use Rattle.sect_emit.specs.Plan.{meets};
+ghost use Rattle.sect_graph.specs.Rests.{rest_at};
+ghost use Rattle.sect_modes.specs.{declared.key.Key.{Key as AKey}, declared.mode.Mode.{Mode as AMode}};
+ghost use Rattle.sect_emit.specs.{Compiled.{IsCompiled, program_of}, Plan.{meets}};
 ghost use Rattle.sect_emit.specs.State.{State, Outside, Entered, Running, ThreadState, IsThread, plan_at};
-ghost use Rattle.sect_world.specs.Events.{Happens, IsFree, IsReady, IsOver};
-ghost use Rattle.sect_world.specs.Runs.{IsRun, IsComplete, order_of};
-ghost use Rattle.sect_world.specs.Blocked.{IsStuck};
-ghost use Rattle.sect_world.specs.declared.event.Deed.TheVariants.{Again};
+ghost use Rattle.sect_world.specs.{Events.{Happens, IsFree, IsReady, IsOver}, Runs.{IsRun, IsComplete, order_of}};
+ghost use Rattle.sect_world.specs.{Blocked.{IsStuck}, declared.event.Deed.TheVariants.{Again}};
 ghost use Rattle.sect_world.specs.Moments.{IsMoment, world_at};
 ghost use Rattle.sect_world.specs.Worlds.{IsTurned, IsRefused, IsRunOf, AllEnded, first_world, outcome_at};
-ghost use Rattle.sect_world.specs.Waiting.{Asks};
-ghost use Rattle.sect_world.specs.Sights.{first_wish as wish_of, mode_of, end_of as ended_as};
-ghost use Rattle.sect_world.specs.steps.Moves.{IsNext};
+ghost use Rattle.sect_world.specs.{Waiting.{Asks}, Sights.{first_wish as wish_of, mode_of, end_of as ended_as}};
 ghost use Rattle.sect_world.specs.Viewing.{body_at, position_of, IsSited};
+ghost use Rattle.sect_world.specs.steps.Moves.{IsNext};
 
 use crate::asking::{ask, first_wish, turned_by};
 use crate::event::{Deed, Event};

@@ -1,12 +1,8 @@
 -- Lines of nodes whose list is the one before.
-use Rattle.std.specs.Prelude.{◌≡◌, ℕ, List, [], ◌∷◌, ◌++◌, length, codes, ⊤}
-use Rattle.std.specs.Fmt.{decimal}
-use Rattle.sect_cert.specs.Parts.{parts}
-use Rattle.sect_cert.specs.Lines.{line_text}
-use Rattle.sect_cert.specs.Texts.{IsLine}
-use Rattle.sect_cert.specs.declared.lock.CertLock.{CertLock}
-use Rattle.sect_cert.specs.declared.line.CertLine.TheVariants as line
+use Rattle.std.specs.{Prelude.{◌≡◌, ℕ, List, [], ◌∷◌, ◌++◌, length, codes, ⊤}, Fmt.{decimal}}
+use Rattle.sect_cert.specs.{Parts.{parts}, Lines.{line_text}, Texts.{IsLine}, declared.lock.CertLock.{CertLock}}
 use Rattle.sect_cert.specs.declared.stage.CertStage.{CertStage}
+use Rattle.sect_cert.specs.declared.line.CertLine.TheVariants as line
 use Rattle.sect_cert.specs.declared.stage.CertStage.TheVariants as stage
 
 -- a line of the node of this number goes on behind its colon as the line before

@@ -1,11 +1,8 @@
 -- The parts of a certificate.
 use Rattle.std.specs.Prelude.{ℕ, ◌-◌, Bool, true, nat_lt, List, length, slice_get, Option, Some, None}
-use Rattle.sect_cert.specs.declared.lock.CertBase.{CertBase}
-use Rattle.sect_cert.specs.declared.lock.CertPath.{CertPath}
-use Rattle.sect_cert.specs.declared.lock.CertLock.{CertLock}
-use Rattle.sect_cert.specs.declared.certificate.CertStep.{CertStep}
-use Rattle.sect_cert.specs.declared.certificate.CertChain.{CertChain}
-use Rattle.sect_cert.specs.declared.certificate.CertSection.{CertSection}
+use Rattle.sect_cert.specs.{declared.lock.CertBase.{CertBase}, declared.lock.CertPath.{CertPath}}
+use Rattle.sect_cert.specs.{declared.lock.CertLock.{CertLock}, declared.certificate.CertStep.{CertStep}}
+use Rattle.sect_cert.specs.{declared.certificate.CertChain.{CertChain}, declared.certificate.CertSection.{CertSection}}
 use Rattle.sect_cert.specs.declared.certificate.Cert.{Cert}
 
 abbrev pub path_with : CertBase → List (List ℕ) → CertPath

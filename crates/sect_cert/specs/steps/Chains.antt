@@ -1,16 +1,10 @@
 -- The steps of a chain, read word by word.
 use Rattle.std.specs.Prelude.{◌≡◌, ℕ, if◌then◌else◌, List, [], ◌∷◌, ◌++◌, Option, Some, None, option_and_then, codes}
-use Rattle.std.specs.Prelude.{◌-◌, length, slice_get, Result, Ok, Err}
-use Rattle.std.specs.Option.{option_map}
-use Rattle.std.specs.Str.{bytes_eq}
-use Rattle.sect_cert.specs.steps.Numbers.{number_of}
-use Rattle.sect_cert.specs.steps.Certificates.{step_with}
-use Rattle.sect_cert.specs.steps.Subjects.{mode_of, class_lock, subject_of}
-use Rattle.sect_cert.specs.declared.fault.LineFault.{LineFault}
-use Rattle.sect_cert.specs.steps.Readers.{Refuses}
-use Rattle.sect_cert.specs.declared.lock.CertLock.{CertLock}
-use Rattle.sect_cert.specs.declared.subject.CertMode.{CertMode}
-use Rattle.sect_cert.specs.declared.certificate.CertStep.{CertStep}
+use Rattle.std.specs.{Prelude.{◌-◌, length, slice_get, Result, Ok, Err}, Option.{option_map}, Str.{bytes_eq}}
+use Rattle.sect_cert.specs.steps.{Numbers.{number_of}, Certificates.{step_with}}
+use Rattle.sect_cert.specs.steps.{Subjects.{mode_of, class_lock, subject_of}, Readers.{Refuses}}
+use Rattle.sect_cert.specs.{declared.fault.LineFault.{LineFault}, declared.lock.CertLock.{CertLock}}
+use Rattle.sect_cert.specs.{declared.subject.CertMode.{CertMode}, declared.certificate.CertStep.{CertStep}}
 use Rattle.sect_cert.specs.declared.chain.ChainWord.{ChainWord}
 use Rattle.sect_cert.specs.declared.chain.ChainWord.TheVariants as due
 

@@ -1,14 +1,11 @@
 -- The end of a reading, and what reading line by line answers.
 use Rattle.std.specs.Prelude.{◌≡◌, ◌≢◌, List, [], ℕ, Bool, true, false, Result, Ok, Err, ⊤, ◌⊎◌}
-use Rattle.sect_cert.specs.declared.fault.LineFault.{LineFault}
-use Rattle.sect_cert.specs.declared.fault.LineFault.TheVariants as lines
-use Rattle.sect_cert.specs.declared.fault.CertFault.{CertFault}
-use Rattle.sect_cert.specs.declared.fault.CertFault.TheVariants as fault
-use Rattle.sect_cert.specs.declared.certificate.Cert.{Cert}
-use Rattle.sect_cert.specs.Parts.{parts}
-use Rattle.sect_cert.specs.Texts.{HasText, certificate_text}
+use Rattle.sect_cert.specs.{declared.fault.LineFault.{LineFault}, declared.fault.CertFault.{CertFault}}
+use Rattle.sect_cert.specs.{declared.certificate.Cert.{Cert}, Parts.{parts}, Texts.{HasText, certificate_text}}
 use Rattle.sect_cert.specs.Verdicts.{HasForm, HasNoForm, IsEndAt, IsFaultAt, IsMoreAt}
 use Rattle.sect_cert.specs.declared.stage.CertStage.{CertStage}
+use Rattle.sect_cert.specs.declared.fault.LineFault.TheVariants as lines
+use Rattle.sect_cert.specs.declared.fault.CertFault.TheVariants as fault
 use Rattle.sect_cert.specs.declared.stage.CertStage.TheVariants as stage
 
 abbrev pub is_finished_of : CertStage → Bool

@@ -1,7 +1,5 @@
 -- Paths that were read, by their words.
-use Rattle.std.specs.Prelude.{◌≡◌, ℕ, List, Some}
-use Rattle.std.specs.List.{AllByRecursion}
-use Rattle.std.specs.Global.{Vec}
+use Rattle.std.specs.{Prelude.{◌≡◌, ℕ, List, Some}, List.{AllByRecursion}, Global.{Vec}}
 use Rattle.sect_cert.specs.steps.Subjects.{path_of}
 use Rattle.sect_cert.specs.declared.lock.CertPath.{CertPath}
 

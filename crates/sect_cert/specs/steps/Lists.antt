@@ -1,14 +1,11 @@
 -- A list of locks, read word by word.
 use Rattle.std.specs.Prelude.{◌≡◌, ℕ, Bool, true, false, if◌then◌else◌, List, [], ◌∷◌, ◌++◌, Option, Some, None}
-use Rattle.std.specs.Prelude.{option_and_then, codes, Result, Ok, Err, ⊤}
-use Rattle.std.specs.Option.{option_map}
-use Rattle.std.specs.Str.{bytes_eq}
+use Rattle.std.specs.{Prelude.{option_and_then, codes, Result, Ok, Err, ⊤}, Option.{option_map}, Str.{bytes_eq}}
 use Rattle.sect_cert.specs.steps.Numbers.{ends_with, without_end, number_of}
 use Rattle.sect_cert.specs.steps.Subjects.{mode_of, class_lock, subject_of}
-use Rattle.sect_cert.specs.declared.fault.LineFault.{LineFault}
-use Rattle.sect_cert.specs.declared.fault.LineFault.TheVariants as fault
-use Rattle.sect_cert.specs.declared.lock.CertLock.{CertLock}
+use Rattle.sect_cert.specs.{declared.fault.LineFault.{LineFault}, declared.lock.CertLock.{CertLock}}
 use Rattle.sect_cert.specs.declared.list.ListWord.{ListWord}
+use Rattle.sect_cert.specs.declared.fault.LineFault.TheVariants as fault
 use Rattle.sect_cert.specs.declared.list.ListWord.TheVariants as due
 
 abbrev pub place_behind : Bool → ListWord

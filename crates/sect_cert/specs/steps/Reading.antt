@@ -1,11 +1,8 @@
 -- A line, read from its words.
 use Rattle.std.specs.Prelude.{ℕ, if◌then◌else◌, List, [], ◌∷◌, Option, Some, None, option_and_then, codes}
-use Rattle.std.specs.Option.{option_map}
-use Rattle.std.specs.Str.{bytes_eq}
-use Rattle.sect_cert.specs.steps.Numbers.{ends_with, without_end, number_of}
-use Rattle.sect_cert.specs.steps.Certificates.{chain_with}
-use Rattle.sect_cert.specs.steps.Lists.{list_of}
-use Rattle.sect_cert.specs.steps.Chains.{steps_of}
+use Rattle.std.specs.{Option.{option_map}, Str.{bytes_eq}}
+use Rattle.sect_cert.specs.steps.{Numbers.{ends_with, without_end, number_of}, Certificates.{chain_with}}
+use Rattle.sect_cert.specs.steps.{Lists.{list_of}, Chains.{steps_of}}
 use Rattle.sect_cert.specs.declared.line.CertLine.{CertLine}
 use Rattle.sect_cert.specs.declared.line.CertLine.TheVariants as line
 

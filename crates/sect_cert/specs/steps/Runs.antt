@@ -1,6 +1,5 @@
 -- Lists whose elements are kept once and named by number.
-use Rattle.std.specs.Prelude.{ℕ, ◌<◌, List, [], ◌∷◌, ◌++◌, Option, Some, None, slice_get}
-use Rattle.std.specs.List.{AllByRecursion}
+use Rattle.std.specs.{Prelude.{ℕ, ◌<◌, List, [], ◌∷◌, ◌++◌, Option, Some, None, slice_get}, List.{AllByRecursion}}
 
 abbrev pub listed : {X : Type 0} → Option X → List X
 listed None = []

@@ -1,20 +1,13 @@
 -- The lines of a certificate, taken one after another.
 use Rattle.std.specs.Prelude.{◌≡◌, ℕ, ◌==◌, nat_lt, Bool, true, false, if◌then◌else◌, List, [], ◌∷◌, ◌++◌, length}
-use Rattle.std.specs.Prelude.{Option, Some, None, Result, Ok, Err, ⊤}
-use Rattle.std.specs.Str.{bytes_eq}
-use Rattle.sect_cert.specs.Parts.{parts}
-use Rattle.sect_cert.specs.Zeros.{plain, is_exact}
-use Rattle.sect_cert.specs.steps.Certificates.{section_with, cert_with, is_rising}
-use Rattle.sect_cert.specs.Texts.{header_text}
-use Rattle.sect_cert.specs.steps.Reading.{line_of}
-use Rattle.sect_cert.specs.declared.fault.LineFault.{LineFault}
+use Rattle.std.specs.{Prelude.{Option, Some, None, Result, Ok, Err, ⊤}, Str.{bytes_eq}}
+use Rattle.sect_cert.specs.{Parts.{parts}, Zeros.{plain, is_exact}, Texts.{header_text}}
+use Rattle.sect_cert.specs.{declared.fault.LineFault.{LineFault}, declared.lock.CertLock.{CertLock}}
+use Rattle.sect_cert.specs.{declared.certificate.CertSection.{CertSection}, declared.line.CertLine.{CertLine}}
+use Rattle.sect_cert.specs.{declared.stage.Open.{Open}, declared.stage.CertStage.{CertStage}}
+use Rattle.sect_cert.specs.steps.{Certificates.{section_with, cert_with, is_rising}, Reading.{line_of}}
 use Rattle.sect_cert.specs.declared.fault.LineFault.TheVariants as fault
-use Rattle.sect_cert.specs.declared.lock.CertLock.{CertLock}
-use Rattle.sect_cert.specs.declared.certificate.CertSection.{CertSection}
-use Rattle.sect_cert.specs.declared.line.CertLine.{CertLine}
 use Rattle.sect_cert.specs.declared.line.CertLine.TheVariants as line
-use Rattle.sect_cert.specs.declared.stage.Open.{Open}
-use Rattle.sect_cert.specs.declared.stage.CertStage.{CertStage}
 use Rattle.sect_cert.specs.declared.stage.CertStage.TheVariants as stage
 
 -- what comes of a line

@@ -1,7 +1,6 @@
 -- Steps by their nodes and their locks.
 use Rattle.std.specs.Prelude.{ℕ, List, [], ◌∷◌}
-use Rattle.sect_cert.specs.declared.lock.CertLock.{CertLock}
-use Rattle.sect_cert.specs.declared.certificate.CertStep.{CertStep}
+use Rattle.sect_cert.specs.{declared.lock.CertLock.{CertLock}, declared.certificate.CertStep.{CertStep}}
 
 -- the steps at these nodes with these locks
 abbrev pub stepped : List ℕ → List CertLock → List CertStep

@@ -1,18 +1,12 @@
 -- The mode of a lock, and what it locks, as they are read.
 use Rattle.std.specs.Prelude.{ℕ, if◌then◌else◌, List, [], ◌∷◌, Option, Some, None, option_and_then, codes}
-use Rattle.std.specs.Option.{option_map}
-use Rattle.std.specs.Str.{bytes_eq}
-use Rattle.std.specs.List.{list_all}
+use Rattle.std.specs.{Option.{option_map}, Str.{bytes_eq}, List.{list_all}}
 use Rattle.sect_front.specs.Words.{is_name}
-use Rattle.sect_cert.specs.Parts.{parts}
-use Rattle.sect_cert.specs.steps.Certificates.{path_with}
-use Rattle.sect_cert.specs.steps.Numbers.{number_of}
-use Rattle.sect_cert.specs.declared.lock.CertBase.{CertBase}
+use Rattle.sect_cert.specs.{Parts.{parts}, declared.lock.CertBase.{CertBase}, declared.lock.CertPath.{CertPath}}
+use Rattle.sect_cert.specs.{declared.lock.CertLock.{CertLock}, declared.subject.CertMode.{CertMode}}
+use Rattle.sect_cert.specs.steps.{Certificates.{path_with}, Numbers.{number_of}}
 use Rattle.sect_cert.specs.declared.lock.CertBase.TheVariants as base
-use Rattle.sect_cert.specs.declared.lock.CertPath.{CertPath}
-use Rattle.sect_cert.specs.declared.lock.CertLock.{CertLock}
 use Rattle.sect_cert.specs.declared.lock.CertLock.TheVariants as lock
-use Rattle.sect_cert.specs.declared.subject.CertMode.{CertMode}
 use Rattle.sect_cert.specs.declared.subject.CertMode.TheVariants as mode
 
 -- the mode that a word is

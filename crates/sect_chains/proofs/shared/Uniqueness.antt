@@ -1,9 +1,7 @@
 -- Locks have one list of first chains.
 use Rattle.std.proofs.Common.{◌≡◌, ℕ, List, [], ◌∷◌, inl, inr, refl, sym, ap, ◌∙◌, subst, arith}
 use Rattle.sect_graph.specs.declared.flow.Node.{Node}
-use Rattle.sect_names.specs.declared.link.Link.{Link}
-use Rattle.sect_names.specs.declared.lock.Lock.{Lock}
-use Rattle.sect_names.specs.Schemes.{SchemeView}
+use Rattle.sect_names.specs.{declared.link.Link.{Link}, declared.lock.Lock.{Lock}, Schemes.{SchemeView}}
 use Rattle.sect_names.proofs.shared.Uniqueness.{lock_once}
 use Rattle.sect_chains.specs.Chains.{StepBefore, StepsBefore, IsFirstChain, AreChains}
 

@@ -1,8 +1,6 @@
 -- Steps that are kept, one after another.
-use Rattle.std.specs.Prelude.{ℕ, Bool, not, ◌&&◌, List, [], ◌∷◌, ◌++◌, Option, if◌then◌else◌, slice_set}
-use Rattle.std.specs.Prelude.{slice_index_or}
-use Rattle.sect_infer.specs.Numbers.{has_number, with_number}
-use Rattle.sect_infer.specs.Numberings.{is_under}
+use Rattle.std.specs.Prelude.{ℕ, Bool, not, ◌&&◌, List, [], ◌∷◌, ◌++◌, Option, if◌then◌else◌, slice_set, slice_index_or}
+use Rattle.sect_infer.specs.{Numbers.{has_number, with_number}, Numberings.{is_under}}
 use Rattle.sect_chains.specs.declared.keep.KeptLink.{KeptLink}
 
 -- the numbers of the locks that were found at each node, and the steps that are kept

@@ -1,15 +1,10 @@
 -- The order in which steps are kept: each stands behind those that lead on from an earlier step.
 use Rattle.std.specs.Prelude.{◌≡◌, ◌<◌, ◌⊎◌, ⊤, ℕ, List, Option, Some, None, slice_get}
 use Rattle.sect_graph.specs.declared.flow.Node.{Node}
-use Rattle.sect_names.specs.declared.link.Link.{Link}
-use Rattle.sect_names.specs.declared.lock.Lock.{Lock}
-use Rattle.sect_names.specs.Schemes.{SchemeView}
-use Rattle.sect_names.specs.Locks.{Covers}
+use Rattle.sect_names.specs.{declared.link.Link.{Link}, declared.lock.Lock.{Lock}, Schemes.{SchemeView}, Locks.{Covers}}
 use Rattle.sect_names.specs.Chains.{IsGeneratedAt, LinksTo}
-use Rattle.sect_chains.specs.declared.work.Trail.{Trail}
-use Rattle.sect_chains.specs.Chains.{StepBefore}
-use Rattle.sect_chains.specs.steps.Trails.{HasTrail}
-use Rattle.sect_chains.specs.steps.Working.{links_of, nexts_of, IsCoveredAt, IsWork}
+use Rattle.sect_chains.specs.{declared.work.Trail.{Trail}, Chains.{StepBefore}}
+use Rattle.sect_chains.specs.steps.{Trails.{HasTrail}, Working.{links_of, nexts_of, IsCoveredAt, IsWork}}
 
 -- the one step came before the other: it links to none or to an earlier step, or it links to the same and stands before
 -- the other

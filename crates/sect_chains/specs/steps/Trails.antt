@@ -2,12 +2,8 @@
 use Rattle.std.specs.Prelude.{◌≡◌, ◌<◌, ℕ, List, [], ◌∷◌, length, slice_get, Option, Some, None}
 use Rattle.sect_lemmas.specs.Lists.{Has}
 use Rattle.sect_graph.specs.declared.flow.Node.{Node}
-use Rattle.sect_names.specs.declared.link.Link.{Link}
-use Rattle.sect_names.specs.declared.lock.Lock.{Lock}
-use Rattle.sect_names.specs.Schemes.{SchemeView}
-use Rattle.sect_names.specs.Locks.{Covers}
-use Rattle.sect_names.specs.Laws.{RespectsCover}
-use Rattle.sect_names.specs.Chains.{link, IsGeneratedAt, LinksTo, AreLinked}
+use Rattle.sect_names.specs.{declared.link.Link.{Link}, declared.lock.Lock.{Lock}, Schemes.{SchemeView}, Locks.{Covers}}
+use Rattle.sect_names.specs.{Laws.{RespectsCover}, Chains.{link, IsGeneratedAt, LinksTo, AreLinked}}
 
 -- steps lead on from this one to where a lock is generated
 abbrev pub HasTrail : SchemeView → ℕ → List Lock → List Node → Link → Type 0

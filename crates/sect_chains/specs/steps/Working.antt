@@ -3,19 +3,12 @@ use Rattle.std.specs.Prelude.{◌≡◌, ◌<◌, ◌+◌, ℕ, List, [], ◌++�
 use Rattle.std.specs.Prelude.{slice_index_or}
 use Rattle.sect_lemmas.specs.Lists.{Has}
 use Rattle.sect_graph.specs.declared.flow.Node.{Node}
-use Rattle.sect_names.specs.declared.link.Link.{Link}
-use Rattle.sect_names.specs.declared.lock.Lock.{Lock}
-use Rattle.sect_names.specs.Schemes.{SchemeView}
-use Rattle.sect_names.specs.Locks.{Covers}
-use Rattle.sect_names.specs.Carrying.{Generated}
-use Rattle.sect_names.specs.Chains.{link, IsGeneratedAt, LinksTo}
+use Rattle.sect_names.specs.{declared.link.Link.{Link}, declared.lock.Lock.{Lock}, Schemes.{SchemeView}, Locks.{Covers}}
+use Rattle.sect_names.specs.{Carrying.{Generated}, Chains.{link, IsGeneratedAt, LinksTo}}
 use Rattle.sect_infer.specs.Numbers.{AreApart}
-use Rattle.sect_infer.specs.Numberings.{NumberingView, HasLock, AreNumbers, IsNumbering, Extends}
-use Rattle.sect_infer.specs.Numberings.{lock_at}
-use Rattle.sect_chains.specs.declared.keep.KeptLink.{KeptLink}
-use Rattle.sect_chains.specs.declared.work.Trail.{Trail}
-use Rattle.sect_chains.specs.steps.Keeping.{KeptView, kept}
-use Rattle.sect_chains.specs.steps.Trails.{HasTrail, LeadOn}
+use Rattle.sect_infer.specs.Numberings.{NumberingView, HasLock, AreNumbers, IsNumbering, Extends, lock_at}
+use Rattle.sect_chains.specs.{declared.keep.KeptLink.{KeptLink}, declared.work.Trail.{Trail}}
+use Rattle.sect_chains.specs.steps.{Keeping.{KeptView, kept}, Trails.{HasTrail, LeadOn}}
 
 -- what a step stands for
 abbrev pub link_of : List Lock → KeptLink → Link

@@ -2,13 +2,10 @@
 use Rattle.std.proofs.Common.{◌≡◌, ℕ, List, Ok, sym, ◌∙◌, subst}
 use Rattle.sect_front.proofs.shared.Only.{only}
 use Rattle.sect_types.specs.Programs.{ProgramView}
-use Rattle.sect_names.specs.Schemes.{SchemeView}
-use Rattle.sect_names.specs.Sources.{IsTypedText, IsAccepted}
-use Rattle.sect_names.proofs.shared.Refusing.{one_program}
-use Rattle.sect_names.proofs.shared.OneScheme.{one_scheme}
+use Rattle.sect_names.specs.{Schemes.{SchemeView}, Sources.{IsTypedText, IsAccepted}}
+use Rattle.sect_names.proofs.shared.{Refusing.{one_program}, OneScheme.{one_scheme}}
 use Rattle.sect_cert.specs.declared.certificate.Cert.{Cert}
-use Rattle.sect_check.specs.Valid.{IsValid}
-use Rattle.sect_check.specs.Verdicts.{IsRead}
+use Rattle.sect_check.specs.{Valid.{IsValid}, Verdicts.{IsRead}}
 use Rattle.sect_check.proofs.Either.{valid_either}
 
 -- a text has one program

@@ -1,36 +1,29 @@
 -- A variable, a field and a path of a program are what their names stand for.
 use Rattle.std.proofs.Common.{◌≡◌, ℕ, zero, suc, List, [], ◌∷◌, ◌++◌, map, Option, Some, None, sym, ap, ◌∙◌, subst}
-use Rattle.std.proofs.Common.{append_assoc}
-use Rattle.std.specs.Prelude.{slice_get, slice_index_or, option_and_then}
-use Rattle.std.specs.Option.{option_map}
-use Rattle.std.proofs.lemmas.List.{append-nil, map-append}
+use Rattle.std.proofs.{Common.{append_assoc}, lemmas.List.{append-nil, map-append}}
 use Rattle.std.proofs.lemmas.Option.{slice_get-map, get_or_from_slice_get}
-use Rattle.sect_front.specs.declared.tree.Record.{Record}
-use Rattle.sect_front.specs.declared.tree.GlobalObject.{GlobalObject}
+use Rattle.std.specs.{Prelude.{slice_get, slice_index_or, option_and_then}, Option.{option_map}}
+use Rattle.sect_front.specs.{declared.tree.Record.{Record}, declared.tree.GlobalObject.{GlobalObject}}
 use Rattle.sect_front.specs.declared.tree.Declaration.{Declaration}
 use Rattle.sect_types.specs.First.{IsTyped}
 use Rattle.sect_types.specs.Sight.{place, names_of_records, names_of_globals, names_of_declared, all_fields}
-use Rattle.sect_types.specs.Environments.{type_of, types_of, record_number}
-use Rattle.sect_types.specs.Programs.{ProgramView, IsOfTree}
-use Rattle.sect_types.specs.Sound.{type_in}
-use Rattle.sect_types.specs.declared.expansion.action.Field.{Field}
+use Rattle.sect_types.specs.{Environments.{type_of, types_of, record_number}, Programs.{ProgramView, IsOfTree}}
+use Rattle.sect_types.specs.{Sound.{type_in}, declared.expansion.action.Field.{Field}}
 use Rattle.sect_types.specs.declared.declarations.types.ValueType.{ValueType}
 use Rattle.sect_types.specs.declared.declarations.types.ValueType.TheVariants.{Refers}
+use Rattle.sect_types.specs.declared.declarations.local_name.LocalName.{LocalName}
+use Rattle.sect_types.specs.LocalNames.{all_local_names, place_of_local}
 use Rattle.sect_lemmas.proofs.Replaced.{slice_get-map as mapped_at}
 use Rattle.sect_types.proofs.shared.Repeating.{globals_apart, fields_apart, own_place}
 use Rattle.sect_points.specs.declared.holders.Variable.{Variable}
 use Rattle.sect_points.specs.declared.holders.Variable.TheVariants.{Global, Local}
 use Rattle.sect_points.specs.Paths.{PathView, var, dot, base_of, fields_of}
-use Rattle.sect_names.specs.Locks.{IsOwn, VariableTo, FieldTo, PathTo}
-use Rattle.sect_types.specs.declared.declarations.local_name.LocalName.{LocalName}
-use Rattle.sect_types.specs.LocalNames.{all_local_names, place_of_local}
-use Rattle.sect_names.specs.Printing.{global_name, local_at, field_name}
+use Rattle.sect_names.specs.{Locks.{IsOwn, VariableTo, FieldTo, PathTo}, Printing.{global_name, local_at, field_name}}
 use Rattle.sect_check.specs.Names.{local_named, global_named, or_variable, variable_named, field_named, referred}
 use Rattle.sect_check.specs.Names.{record_of_variable, record_of_field, path_from, path_named, base_named}
 use Rattle.sect_check.specs.Names.{words_of_local, words_of_variable}
 use Rattle.sect_check.proofs.Rows.{row_there, row_of}
-use Rattle.sect_check.proofs.LocalLaws.{local_has_name, own_place_of_local, no_local_of_global}
-use Rattle.sect_check.proofs.Standing.{numbered}
+use Rattle.sect_check.proofs.{LocalLaws.{local_has_name, own_place_of_local, no_local_of_global}, Standing.{numbered}}
 
 -- a type that stands in a row
 typed_in_row : (rows : List (List ValueType)) (i n : ℕ) (v : ValueType) → type_in (slice_get rows i) n ≡ Some v

@@ -1,12 +1,8 @@
 -- Lists of which an element repeats the one before.
 use Rattle.std.proofs.Common.{◌≡◌, ℕ, zero, suc, ◌+◌, ◌-◌, ◌<◌, List, [], ◌∷◌, ◌++◌, Some, length, take, get_or, refl}
-use Rattle.std.proofs.Common.{sym, ◌∙◌, ap, subst, arith}
-use Rattle.std.specs.Prelude.{slice_get}
-use Rattle.std.specs.Option.{unwrap_or}
-use Rattle.std.specs.List.{AllZip}
-use Rattle.std.proofs.lemmas.List.{length-take-le}
-use Rattle.std.proofs.lemmas.Option.{get_or_from_slice_get, unwrap_or-slice_get}
-use Rattle.std.proofs.lemmas.Slice.Zip.{AllZip-long}
+use Rattle.std.proofs.{Common.{sym, ◌∙◌, ap, subst, arith}, lemmas.List.{length-take-le}}
+use Rattle.std.proofs.{lemmas.Option.{get_or_from_slice_get, unwrap_or-slice_get}, lemmas.Slice.Zip.{AllZip-long}}
+use Rattle.std.specs.{Prelude.{slice_get}, Option.{unwrap_or}, List.{AllZip}}
 use Rattle.sect_lemmas.proofs.Places.{at_of, zip_more, zipped_at}
 
 -- what is equal at two places is so by either default

@@ -3,22 +3,17 @@ use Rattle.std.specs.Prelude.{◌≡◌, ◌<◌, ℕ, ⊤, List, Result, Ok, Er
 use Rattle.sect_lemmas.specs.Lists.{Has}
 use Rattle.sect_types.specs.Sections.{SectionView}
 use Rattle.sect_graph.specs.declared.flow.Node.{Node}
-use Rattle.sect_names.specs.declared.lock.Lock.{Lock}
-use Rattle.sect_names.specs.Schemes.{SchemeView}
-use Rattle.sect_names.specs.Needed.{end_of}
-use Rattle.sect_names.specs.Order.{AreInOrder}
+use Rattle.sect_names.specs.{declared.lock.Lock.{Lock}, Schemes.{SchemeView}, Needed.{end_of}, Order.{AreInOrder}}
 use Rattle.sect_cert.specs.declared.certificate.Cert.{Cert}
-use Rattle.sect_check.specs.declared.claims.Claims.{Claims}
-use Rattle.sect_check.specs.declared.claims.ChainClaim.{ChainClaim}
-use Rattle.sect_check.specs.declared.fault.SectionFault.{SectionFault}
-use Rattle.sect_check.specs.declared.fault.SectionFault.TheVariants as section
-use Rattle.sect_check.specs.declared.fault.CheckFault.{CheckFault}
-use Rattle.sect_check.specs.declared.fault.CheckFault.TheVariants as fault
+use Rattle.sect_check.specs.{declared.claims.Claims.{Claims}, declared.claims.ChainClaim.{ChainClaim}}
+use Rattle.sect_check.specs.{declared.fault.SectionFault.{SectionFault}, declared.fault.CheckFault.{CheckFault}}
 use Rattle.sect_check.specs.Meaning.{IsSectionAt}
-use Rattle.sect_check.specs.Valid.{list_at, AreCovered, CoversGenerated, CoversCarried, AreApart}
-use Rattle.sect_check.specs.Valid.{IsClaimed, HasChain, HasItsChain, IsValidSection, IsValid}
+use Rattle.sect_check.specs.Valid.{list_at, AreCovered, CoversGenerated, CoversCarried, AreApart, IsClaimed, HasChain}
+use Rattle.sect_check.specs.Valid.{HasItsChain, IsValidSection, IsValid}
 use Rattle.sect_check.specs.Faults.{IsFirst, IsFirstPair, AreListsRight, IsBroken, LacksChain, BreaksChain, IsFaultOf}
 use Rattle.sect_check.specs.Verdicts.{IsOfSection, IsCertFault}
+use Rattle.sect_check.specs.declared.fault.SectionFault.TheVariants as section
+use Rattle.sect_check.specs.declared.fault.CheckFault.TheVariants as fault
 
 -- the lists of the nodes are right, or this is their first fault
 abbrev pub JudgesLists : {A : Type 0} → SchemeView → ℕ → List Lock → List Node → Claims → Result A SectionFault → Type 0

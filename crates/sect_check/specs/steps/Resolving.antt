@@ -5,8 +5,7 @@ use Rattle.sect_types.specs.Sections.{SectionView}
 use Rattle.sect_graph.specs.declared.flow.Node.{Node}
 use Rattle.sect_names.specs.Schemes.{SchemeView}
 use Rattle.sect_cert.specs.declared.certificate.CertSection.{CertSection}
-use Rattle.sect_check.specs.declared.claims.Claims.{Claims}
-use Rattle.sect_check.specs.declared.unresolved.Unresolved.{Unresolved}
+use Rattle.sect_check.specs.{declared.claims.Claims.{Claims}, declared.unresolved.Unresolved.{Unresolved}}
 use Rattle.sect_check.specs.declared.unresolved.Unresolved.TheVariants.{Memory, Wrong}
 use Rattle.sect_check.specs.Meaning.{IsSectionAt, DenotesSection}
 

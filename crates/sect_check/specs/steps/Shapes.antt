@@ -1,14 +1,10 @@
 -- What holds of claims before they are judged, and of the graphs of sections.
 use Rattle.std.specs.Prelude.{◌≡◌, ◌≤◌, ◌<◌, ◌+◌, ℕ, List, [], Some, slice_get, slice_index_or, length}
 use Rattle.sect_lemmas.specs.Lists.{Has}
-use Rattle.sect_graph.specs.declared.flow.Node.{Node}
-use Rattle.sect_graph.specs.Paths.{LeadsTo}
-use Rattle.sect_names.specs.declared.link.Link.{Link}
-use Rattle.sect_names.specs.declared.lock.Lock.{Lock}
-use Rattle.sect_names.specs.Schemes.{SchemeView}
+use Rattle.sect_graph.specs.{declared.flow.Node.{Node}, Paths.{LeadsTo}}
+use Rattle.sect_names.specs.{declared.link.Link.{Link}, declared.lock.Lock.{Lock}, Schemes.{SchemeView}}
 use Rattle.sect_names.specs.Locks.{IsLockOf}
-use Rattle.sect_check.specs.declared.claims.ChainClaim.{ChainClaim}
-use Rattle.sect_check.specs.declared.claims.Claims.{Claims}
+use Rattle.sect_check.specs.{declared.claims.ChainClaim.{ChainClaim}, declared.claims.Claims.{Claims}}
 
 -- the numbers of the chains rise
 abbrev pub DoRise : List ChainClaim → Type 0

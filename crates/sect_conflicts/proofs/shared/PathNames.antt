@@ -3,13 +3,10 @@ use Rattle.std.proofs.Common.{◌≡◌, ℕ, zero, suc, List, [], ◌∷◌, So
 use Rattle.std.specs.Prelude.{slice_get, slice_index_or}
 use Rattle.sect_lemmas.specs.Lists.{Has}
 use Rattle.sect_points.specs.Paths.{PathView}
-use Rattle.sect_names.specs.declared.lock.Effect.{Effect}
-use Rattle.sect_names.specs.declared.lock.Lock.TheVariants as lock
-use Rattle.sect_names.specs.Locks.{IsPathOf}
+use Rattle.sect_names.specs.{declared.lock.Effect.{Effect}, Locks.{IsPathOf}}
 use Rattle.sect_emit.specs.Compiled.{CompiledView, IsCompiled, program_of}
 use Rattle.sect_emit.proofs.shared.Sets.{set_named}
-use Rattle.sect_conflicts.specs.declared.conflict.PathPair.{PathPair}
-use Rattle.sect_conflicts.specs.declared.conflict.SectionPair.{SectionPair}
+use Rattle.sect_conflicts.specs.{declared.conflict.PathPair.{PathPair}, declared.conflict.SectionPair.{SectionPair}}
 use Rattle.sect_conflicts.specs.declared.conflict.Conflict.{Conflict}
 use Rattle.sect_conflicts.specs.declared.conflict.Conflict.TheVariants.{Always, Sometimes, Never}
 use Rattle.sect_conflicts.specs.Comparing.{AreConflicts}
@@ -17,6 +14,7 @@ use Rattle.sect_conflicts.specs.Conflicts.{IsConflict, MayBeOne, MayGoTogether, 
 use Rattle.sect_conflicts.specs.Naming.{IsConflictNamed, AreConflictsNamed}
 use Rattle.sect_conflicts.proofs.PathPairs.{between_locked}
 use Rattle.sect_conflicts.proofs.shared.Selecting.{selected}
+use Rattle.sect_names.specs.declared.lock.Lock.TheVariants as lock
 
 -- a list that has something stands at its place
 stands_there : {X : Type 0} (xs : List (List X)) (i : ℕ) (x : X) → Has (slice_index_or xs i []) x

@@ -1,11 +1,9 @@
 -- Elements that are chosen from a list.
-use Rattle.std.proofs.Common.{◌≡◌, ◌⊎◌, ℕ, ◌+◌, ◌<◌, List, [], ◌∷◌, ◌++◌, length, take, get_or, refl, sym, ap, ◌∙◌, subst}
-use Rattle.std.proofs.Common.{inl, inr, arith}
-use Rattle.std.proofs.lemmas.List.{append_assoc, append-nil, get_or_default}
+use Rattle.std.proofs.Common.{◌≡◌, ◌⊎◌, ℕ, ◌+◌, ◌<◌, List, [], ◌∷◌, ◌++◌, length, take, get_or, refl, sym, ap, ◌∙◌}
+use Rattle.std.proofs.{Common.{subst, inl, inr, arith}, lemmas.List.{append_assoc, append-nil, get_or_default}}
 use Rattle.sect_lemmas.proofs.Making.{last_of}
 use Rattle.sect_lemmas.specs.Lists.{Has}
-use Rattle.sect_conflicts.specs.Conflicts.{Selects}
-use Rattle.sect_conflicts.specs.Selecting.{Adds}
+use Rattle.sect_conflicts.specs.{Conflicts.{Selects}, Selecting.{Adds}}
 
 module _ {X : Type 0} (P : X → Type 0) where
   -- what is chosen stands in the list and has the property

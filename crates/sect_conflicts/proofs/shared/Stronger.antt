@@ -1,10 +1,8 @@
 -- A stronger mode is compatible with no more.
-use Rattle.std.proofs.Common.{◌≡◌, Bool, true, false, refl, sym, ◌∙◌}
+use Rattle.std.proofs.{Common.{◌≡◌, Bool, true, false, refl, sym, ◌∙◌}, lemmas.Bool.{false≢true}}
 use Rattle.std.specs.Prelude.{not}
-use Rattle.sect_modes.specs.declared.mode.Mode.{Mode}
-use Rattle.sect_modes.specs.Mode.{are_compatible, is_at_least}
+use Rattle.sect_modes.specs.{declared.mode.Mode.{Mode}, Mode.{are_compatible, is_at_least}}
 use Rattle.sect_emit.proofs.shared.Modes.{all_modes, each_mode, if_then, holds, sharing_turned}
-use Rattle.std.proofs.lemmas.Bool.{false≢true}
 
 pub negated : (a : Bool) → a ≡ false → not a ≡ true
 negated false e = refl

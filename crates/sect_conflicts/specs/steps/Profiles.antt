@@ -1,19 +1,12 @@
 -- What sections are compared by.
-use Rattle.std.specs.Prelude.{◌≡◌, ◌<◌, ◌↔◌, ⊤, ℕ, List, Some, length, slice_get}
-use Rattle.std.specs.List.{AllZip}
+use Rattle.std.specs.{Prelude.{◌≡◌, ◌<◌, ◌↔◌, ⊤, ℕ, List, Some, length, slice_get}, List.{AllZip}}
 use Rattle.sect_types.specs.Sections.{SectionView, sections_of}
-use Rattle.sect_points.specs.declared.sites.SiteSet.{SiteSet}
-use Rattle.sect_points.specs.Sites.{HasSite}
-use Rattle.sect_points.specs.Sets.{InSets}
-use Rattle.sect_points.specs.Paths.{PathHas}
-use Rattle.sect_names.specs.declared.lock.Lock.{Lock}
-use Rattle.sect_names.specs.declared.lock.Lock.TheVariants as lock
-use Rattle.sect_names.specs.Schemes.{SchemeView}
-use Rattle.sect_emit.specs.Plan.{Ascends}
-use Rattle.sect_emit.specs.Compiled.{CompiledView, program_of}
-use Rattle.sect_conflicts.specs.declared.profile.Profile.{Profile}
-use Rattle.sect_conflicts.specs.Conflicts.{set_at}
+use Rattle.sect_points.specs.{declared.sites.SiteSet.{SiteSet}, Sites.{HasSite}, Sets.{InSets}, Paths.{PathHas}}
+use Rattle.sect_names.specs.{declared.lock.Lock.{Lock}, Schemes.{SchemeView}}
+use Rattle.sect_emit.specs.{Plan.{Ascends}, Compiled.{CompiledView, program_of}}
+use Rattle.sect_conflicts.specs.{declared.profile.Profile.{Profile}, Conflicts.{set_at}}
 use Rattle.sect_conflicts.specs.steps.Steady.{steady_at}
+use Rattle.sect_names.specs.declared.lock.Lock.TheVariants as lock
 
 -- if the lock is on a path, these are the sites whose objects it may denote
 abbrev pub AreSitesOfLock : SchemeView → Lock → SiteSet → Type 0

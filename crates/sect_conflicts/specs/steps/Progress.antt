@@ -2,8 +2,7 @@
 use Rattle.std.specs.Prelude.{◌≡◌, ℕ, List}
 use Rattle.sect_lemmas.specs.Lists.{Has}
 use Rattle.sect_emit.specs.Compiled.{CompiledView}
-use Rattle.sect_conflicts.specs.declared.conflict.SectionPair.{SectionPair}
-use Rattle.sect_conflicts.specs.Conflicts.{IsConflict}
+use Rattle.sect_conflicts.specs.{declared.conflict.SectionPair.{SectionPair}, Conflicts.{IsConflict}}
 use Rattle.sect_conflicts.specs.Comparing.{AreCompared, IsPairBefore, ArePairsInOrder}
 
 -- the pairs before that of i and j stand there, and no others

@@ -1,19 +1,14 @@
 -- What a lock set asks for in every state, as it is found: its fixed part, and the globals that it names.
 use Rattle.std.specs.Prelude.{◌≡◌, ℕ, false, List, [], ◌∷◌, ◌++◌, slice_index_or}
 use Rattle.sect_lemmas.specs.Lists.{Has}
-use Rattle.sect_points.specs.declared.holders.Variable.TheVariants as variable
 use Rattle.sect_points.specs.Paths.{PathView, var, dot}
+use Rattle.sect_modes.specs.{Mode.{are_compatible}, Key.{is_key_below}}
+use Rattle.sect_names.specs.{declared.lock.Effect.{Effect}, declared.lock.Lock.{Lock}}
+use Rattle.sect_emit.specs.{declared.plan.Grip.{Grip}, Plan.{grip, object_mode, gathered}, Compiled.{CompiledView}}
+use Rattle.sect_conflicts.specs.{declared.conflict.KeyClash.{KeyClash}, Conflicts.{set_at}}
+use Rattle.sect_points.specs.declared.holders.Variable.TheVariants as variable
 use Rattle.sect_modes.specs.declared.key.Key.TheVariants as key
-use Rattle.sect_modes.specs.Mode.{are_compatible}
-use Rattle.sect_modes.specs.Key.{is_key_below}
-use Rattle.sect_names.specs.declared.lock.Effect.{Effect}
-use Rattle.sect_names.specs.declared.lock.Lock.{Lock}
 use Rattle.sect_names.specs.declared.lock.Lock.TheVariants as lock
-use Rattle.sect_emit.specs.declared.plan.Grip.{Grip}
-use Rattle.sect_emit.specs.Plan.{grip, object_mode, gathered}
-use Rattle.sect_emit.specs.Compiled.{CompiledView}
-use Rattle.sect_conflicts.specs.declared.conflict.KeyClash.{KeyClash}
-use Rattle.sect_conflicts.specs.Conflicts.{set_at}
 
 -- the global that a path without fields names, as a lock on it asks for it
 abbrev pub global_wish : PathView → Effect → List Grip

@@ -1,12 +1,9 @@
 -- A section that is drawn. `put_cluster` and what it calls cite it.
 use Rattle.std.specs.Prelude.{◌≡◌, ◌<◌, ◌+◌, ℕ, List, Option, Some, length, slice_get}
-use Rattle.sect_types.specs.Programs.{ProgramView}
-use Rattle.sect_types.specs.Sections.{sections_of}
+use Rattle.sect_types.specs.{Programs.{ProgramView}, Sections.{sections_of}}
 use Rattle.sect_graph.specs.Layout.{flow_nodes}
-use Rattle.sect_names.specs.Printing.{IsNamed, AreNamed}
-use Rattle.sect_names.specs.declared.lock.Lock.{Lock}
-use Rattle.sect_emit.specs.Compiled.{program_of}
-use Rattle.sect_emit.specs.Explaining.{section_at}
+use Rattle.sect_names.specs.{Printing.{IsNamed, AreNamed}, declared.lock.Lock.{Lock}}
+use Rattle.sect_emit.specs.{Compiled.{program_of}, Explaining.{section_at}}
 use Rattle.sect_draw.specs.declared.graphing.Drawing.{Drawing}
 
 -- what these locks name is there

@@ -1,6 +1,5 @@
 -- Rows of texts. `table` cites it.
-use Rattle.std.specs.Prelude.{◌≡◌, ◌<◌, ℕ, List, String, Vec, length, map, slice_index_or}
-use Rattle.std.specs.String.{string_bytes}
+use Rattle.std.specs.{Prelude.{◌≡◌, ◌<◌, ℕ, List, String, Vec, length, map, slice_index_or}, String.{string_bytes}}
 use Rattle.std.specs.declared.alloc.Global.{Global}
 use Rattle.sect_lemmas.specs.Lists.{Has}
 use Rattle.sect_draw.specs.Table.{widest}

@@ -2,18 +2,12 @@
 use Rattle.std.specs.Prelude.{◌≡◌, ◌≢◌, ◌<◌, ℕ, List, [], ◌∷◌, ◌++◌, Some, drop, length}
 use Rattle.sect_lemmas.specs.Lists.{Has}
 use Rattle.sect_types.specs.Programs.{ProgramView}
-use Rattle.sect_emit.specs.Compiled.{program_of}
-use Rattle.sect_emit.specs.State.{ThreadState, State, IsThread, Entered}
+use Rattle.sect_emit.specs.{Compiled.{program_of}, State.{ThreadState, State, IsThread, Entered}}
 use Rattle.sect_emit.specs.declared.plan.Grip.{Grip}
-use Rattle.sect_world.specs.Sights.{first_wish}
-use Rattle.sect_world.specs.Worlds.{WorldView, Does, threads_of}
-use Rattle.sect_world.specs.declared.event.Deed.TheVariants.{Enter}
-use Rattle.sect_world.specs.declared.event.Event.{Event}
-use Rattle.sect_world.specs.declared.turned.EventKind.{EventKind}
-use Rattle.sect_world.specs.declared.turned.Turned.TheVariants.{Moved, Waits}
-use Rattle.sect_draw.specs.Waits.{waiting_after}
-use Rattle.sect_draw.specs.Chart.{TurnView}
-use Rattle.sect_draw.specs.declared.cells.Turn.{Turn}
+use Rattle.sect_world.specs.{Sights.{first_wish}, Worlds.{WorldView, Does, threads_of}}
+use Rattle.sect_world.specs.{declared.event.Deed.TheVariants.{Enter}, declared.event.Event.{Event}}
+use Rattle.sect_world.specs.{declared.turned.EventKind.{EventKind}, declared.turned.Turned.TheVariants.{Moved, Waits}}
+use Rattle.sect_draw.specs.{Waits.{waiting_after}, Chart.{TurnView}, declared.cells.Turn.{Turn}}
 
 -- the turn that led to the world, as a reader is told of it
 abbrev pub shown : Turn → TurnView

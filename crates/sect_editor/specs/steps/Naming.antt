@@ -1,7 +1,6 @@
 -- Names and spans that lie in a text.
 use Rattle.std.specs.Prelude.{ℕ, List, All, Option, IfSome}
-use Rattle.sect_front.specs.FaultPlaces.{IsWithin}
-use Rattle.sect_front.specs.declared.span.Span.{Span}
+use Rattle.sect_front.specs.{FaultPlaces.{IsWithin}, declared.span.Span.{Span}}
 use Rattle.sect_places.specs.declared.name_use.NameSpan.{NameSpan}
 
 -- of so many bytes

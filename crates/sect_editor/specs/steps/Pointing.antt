@@ -1,7 +1,6 @@
 -- A place of a compiled program's text.
 use Rattle.std.specs.Prelude.{◌≡◌, length}
-use Rattle.sect_editor.specs.Hovering.{section_count}
-use Rattle.sect_editor.specs.declared.hover.Pointed.{Pointed}
+use Rattle.sect_editor.specs.{Hovering.{section_count}, declared.hover.Pointed.{Pointed}}
 
 -- there are places of each section and of its nodes
 pub record IsPointed (p : Pointed) : Type 0 where

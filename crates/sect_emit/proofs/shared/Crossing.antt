@@ -1,10 +1,10 @@
 -- A compiled program may be read by several threads at a time.
 use denote.Struct.Declared.{shape}
 use denote.Param.Send.{AllSync, IsSync, sendable}
-use Rattle.std.proofs.alloc.Global.TheSendSync as heap
-use Rattle.std.proofs.vec.Vec.TheSendSync as vec
 use Rattle.sect_names.proofs.shared.Crossing.{scheme_sync}
 use Rattle.sect_infer.proofs.shared.Crossing.{locks_sync}
+use Rattle.std.proofs.alloc.Global.TheSendSync as heap
+use Rattle.std.proofs.vec.Vec.TheSendSync as vec
 use Rattle.sect_emit.proofs.plan.Grip.TheSendSync as grip
 use Rattle.sect_emit.specs.contracts.compiled.Compiled as compiled
 use Rattle.sect_emit.specs.contracts.compiled.Compiled.TheInside as inside

@@ -3,27 +3,19 @@ use Rattle.std.proofs.Common.{◌≡◌, ◌⊎◌, inl, inr, ℕ, List, [], ◌
 use Rattle.std.proofs.Common.{subst, if◌then◌else◌}
 use Rattle.sect_lemmas.specs.Lists.{Has}
 use Rattle.sect_points.specs.Paths.{PathView}
-use Rattle.sect_names.specs.declared.lock.Effect.{Effect}
-use Rattle.sect_names.specs.declared.lock.Right.{Right}
-use Rattle.sect_names.specs.declared.lock.Lock.{Lock}
-use Rattle.sect_names.specs.declared.lock.Lock.TheVariants as lock
+use Rattle.sect_names.specs.{declared.lock.Effect.{Effect}, declared.lock.Right.{Right}, declared.lock.Lock.{Lock}}
 use Rattle.sect_names.specs.Schemes.{SchemeView}
-use Rattle.sect_modes.specs.declared.mode.Mode.{Mode}
-use Rattle.sect_modes.specs.declared.mode.Mode.TheVariants.{Exclusive}
-use Rattle.sect_modes.specs.declared.key.Key.{Key}
-use Rattle.sect_modes.specs.declared.key.Key.TheVariants as key
-use Rattle.sect_modes.specs.Mode.{is_at_least}
-use Rattle.sect_modes.specs.Key.{is_same_key}
-use Rattle.sect_types.specs.declared.meaning.store.ObjectName.{ObjectName}
-use Rattle.sect_types.specs.declared.meaning.store.Datum.{Datum}
-use Rattle.sect_types.specs.declared.meaning.store.Datum.TheVariants.{Refers}
+use Rattle.sect_modes.specs.{declared.mode.Mode.{Mode}, declared.mode.Mode.TheVariants.{Exclusive}}
+use Rattle.sect_modes.specs.{declared.key.Key.{Key}, Mode.{is_at_least}, Key.{is_same_key}}
+use Rattle.sect_types.specs.{declared.meaning.store.ObjectName.{ObjectName}, declared.meaning.store.Datum.{Datum}}
+use Rattle.sect_types.specs.{declared.meaning.store.Datum.TheVariants.{Refers}, Store.{StoreView}}
 use Rattle.sect_emit.specs.declared.plan.Grip.{Grip}
-use Rattle.sect_types.specs.Store.{StoreView}
 use Rattle.sect_emit.specs.Plan.{grip, key_of, class_mode, object_mode, AreWishesFor, IsFixedPart, path_datum, plan_of}
 use Rattle.sect_emit.specs.Plan.{held_mode, is_met, meets}
-use Rattle.sect_emit.proofs.shared.Keys.{same_key, key_itself}
-use Rattle.sect_emit.proofs.shared.Modes.{at_least_along}
+use Rattle.sect_emit.proofs.shared.{Keys.{same_key, key_itself}, Modes.{at_least_along}}
 use Rattle.sect_emit.proofs.shared.PlanModes.{met, plan_gives_object, plan_gives_fixed}
+use Rattle.sect_names.specs.declared.lock.Lock.TheVariants as lock
+use Rattle.sect_modes.specs.declared.key.Key.TheVariants as key
 
 -- all that is held stays held where more comes to it
 pub held_append : (k : Key) (xs ys : List Grip) (m : Mode) → held_mode k xs ≡ Some m → held_mode k (xs ++ ys) ≡ Some m

@@ -1,18 +1,16 @@
 -- The tables of the modes, and what they say of locks.
 use Rattle.std.proofs.Common.{◌≡◌, Bool, true, false, refl, sym, ◌∙◌, Option, Some, None}
+use Rattle.std.proofs.lemmas.Bool.{and_parts, false≢true}
 use Rattle.std.specs.Prelude.{◌&&◌, not}
 use Rattle.sect_modes.specs.declared.mode.Mode.{Mode}
 use Rattle.sect_modes.specs.declared.mode.Mode.TheVariants.{IntentionShared, IntentionExclusive, Shared}
 use Rattle.sect_modes.specs.declared.mode.Mode.TheVariants.{SharedIntentionExclusive, Exclusive}
 use Rattle.sect_modes.specs.Mode.{are_compatible, is_at_least, is_reading, is_making, join_of}
-use Rattle.sect_names.specs.declared.lock.Effect.{Effect}
-use Rattle.sect_names.specs.declared.lock.Effect.TheVariants as effect
-use Rattle.sect_emit.specs.Plan.{object_mode, is_met, class_mode}
-use Rattle.sect_emit.specs.ModeTests.{is_writing}
-use Rattle.sect_names.specs.declared.lock.Right.{Right}
-use Rattle.sect_names.specs.declared.lock.Right.TheVariants as right
+use Rattle.sect_names.specs.{declared.lock.Effect.{Effect}, declared.lock.Right.{Right}}
 use Rattle.sect_names.specs.Locks.{Allows, Grants, Includes}
-use Rattle.std.proofs.lemmas.Bool.{and_parts, false≢true}
+use Rattle.sect_emit.specs.{Plan.{object_mode, is_met, class_mode}, ModeTests.{is_writing}}
+use Rattle.sect_names.specs.declared.lock.Effect.TheVariants as effect
+use Rattle.sect_names.specs.declared.lock.Right.TheVariants as right
 
 -- the test holds of all five
 abbrev pub all_modes : (Mode → Bool) → Bool

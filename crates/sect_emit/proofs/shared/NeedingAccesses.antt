@@ -1,37 +1,25 @@
 -- Each access of a section generates its lock.
 use Rattle.std.proofs.Common.{◌≡◌, ◌<◌, ℕ, length, get_or, Option, Some, None, refl, sym, ap, ◌∙◌, subst, arith}
 use Rattle.std.proofs.lemmas.Option.{slice_get_within, slice_get-get_or}
-use Rattle.sect_types.specs.Programs.{sites_of}
-use Rattle.sect_types.specs.declared.expansion.action.Base.{Base}
-use Rattle.sect_types.specs.declared.expansion.action.Action.{Action}
+use Rattle.sect_types.specs.{Programs.{sites_of}, declared.expansion.action.Base.{Base}}
+use Rattle.sect_types.specs.{declared.expansion.action.Action.{Action}, declared.meaning.store.ObjectName.{ObjectName}}
+use Rattle.sect_types.specs.{declared.meaning.store.Datum.TheVariants.{Refers}, Store.{StoreView}}
+use Rattle.sect_types.specs.Meaning.{WorkView, base_datum}
+use Rattle.sect_points.specs.{declared.holders.Variable.TheVariants.{Global}, Paths.{var}, PathClasses.{variable_of}}
+use Rattle.sect_points.specs.Statements.{thread_action}
+use Rattle.sect_names.specs.{declared.lock.Effect.{Effect}, Schemes.{SchemeView, IsScheme, guard_of}}
+use Rattle.sect_names.specs.{Carrying.{Accesses, Makes}, Laws.{IsProgramStep}, Locks.{VariableTo}}
+use Rattle.sect_names.specs.{Records.{IsTypedProgram, SiteOf}, Along.{read_for}}
+use Rattle.sect_emit.specs.{Pointed.{IsPointed}, NeededAccesses.{IsObjectOf, MakesLocked, NeedsItsAccess}}
+use Rattle.sect_names.proofs.shared.{Placing.{statement_sound, statement_sited}, Typing.{base_to}}
+use Rattle.sect_names.proofs.shared.{Beginning.{read_variable}, Owning.{own_base}}
+use Rattle.sect_emit.proofs.Pointing.{base_variable}
+use Rattle.sect_emit.proofs.shared.Pointing.{denoted}
 use Rattle.sect_types.specs.declared.expansion.action.Action.TheVariants as action
 use Rattle.sect_types.specs.declared.expansion.action.Label.TheVariants as label
-use Rattle.sect_points.specs.declared.holders.Variable.TheVariants.{Global}
-use Rattle.sect_points.specs.Paths.{var}
-use Rattle.sect_points.specs.PathClasses.{variable_of}
-use Rattle.sect_points.specs.Statements.{thread_action}
-use Rattle.sect_names.specs.declared.lock.Effect.{Effect}
 use Rattle.sect_names.specs.declared.lock.Effect.TheVariants as effect
 use Rattle.sect_names.specs.declared.lock.Right.TheVariants as right
 use Rattle.sect_names.specs.declared.lock.Lock.TheVariants as lock
-use Rattle.sect_names.specs.Schemes.{SchemeView, IsScheme, guard_of}
-use Rattle.sect_names.specs.Carrying.{Accesses, Makes}
-use Rattle.sect_names.specs.Laws.{IsProgramStep}
-use Rattle.sect_types.specs.declared.meaning.store.ObjectName.{ObjectName}
-use Rattle.sect_types.specs.declared.meaning.store.Datum.TheVariants.{Refers}
-use Rattle.sect_types.specs.Store.{StoreView}
-use Rattle.sect_types.specs.Meaning.{WorkView, base_datum}
-use Rattle.sect_names.specs.Locks.{VariableTo}
-use Rattle.sect_names.specs.Records.{IsTypedProgram, SiteOf}
-use Rattle.sect_names.specs.Along.{read_for}
-use Rattle.sect_emit.specs.Pointed.{IsPointed}
-use Rattle.sect_emit.specs.NeededAccesses.{IsObjectOf, MakesLocked, NeedsItsAccess}
-use Rattle.sect_names.proofs.shared.Placing.{statement_sound, statement_sited}
-use Rattle.sect_names.proofs.shared.Typing.{base_to}
-use Rattle.sect_names.proofs.shared.Beginning.{read_variable}
-use Rattle.sect_names.proofs.shared.Owning.{own_base}
-use Rattle.sect_emit.proofs.Pointing.{base_variable}
-use Rattle.sect_emit.proofs.shared.Pointing.{denoted}
 
 module _ (s : SchemeView) (scheme : IsScheme s) (typed : IsTypedProgram s.program) (t : ℕ) (store : StoreView)
     (w : WorkView) (pointed : IsPointed s t store w) where

@@ -1,37 +1,28 @@
 -- The modes of a plan.
-use Rattle.std.proofs.Common.{◌≡◌, ℕ, Bool, true, false, refl, sym, ap, ◌∙◌, subst, inl, inr, true≢false, List, []}
-use Rattle.std.proofs.Common.{◌∷◌, Option, Some, None}
-use Rattle.sect_lemmas.proofs.Membership.{Has-cases, Has-left, Has-right}
+use Rattle.std.proofs.Common.{◌≡◌, ℕ, Bool, true, false, refl, sym, ap, ◌∙◌, subst, inl, inr, true≢false, List, [], ◌∷◌}
+use Rattle.std.proofs.{Common.{Option, Some, None}, lemmas.Bool.{and_parts, false≢true}}
+use Rattle.sect_lemmas.proofs.{Membership.{Has-cases, Has-left, Has-right}, Options.{some_injective}}
 use Rattle.sect_lemmas.specs.Lists.{Has}
-use Rattle.sect_points.specs.Paths.{PathView}
-use Rattle.sect_points.specs.Partitions.{HasClass}
-use Rattle.sect_names.specs.declared.lock.Lock.{Lock}
-use Rattle.sect_names.specs.declared.lock.Lock.TheVariants as lock
-use Rattle.sect_names.specs.declared.lock.Effect.{Effect}
-use Rattle.sect_names.specs.Schemes.{SchemeView, IsScheme}
-use Rattle.sect_modes.specs.declared.mode.Mode.{Mode}
-use Rattle.sect_modes.specs.declared.key.Key.{Key}
-use Rattle.sect_modes.specs.declared.key.Key.TheVariants as key
-use Rattle.sect_modes.specs.Mode.{is_at_least, intention_of}
-use Rattle.sect_types.specs.declared.meaning.store.ObjectName.{ObjectName}
-use Rattle.sect_types.specs.declared.meaning.store.ObjectName.TheVariants as object
-use Rattle.sect_types.specs.declared.meaning.store.Datum.{Datum}
-use Rattle.sect_types.specs.declared.meaning.store.Datum.TheVariants.{Refers}
+use Rattle.sect_points.specs.{Paths.{PathView}, Partitions.{HasClass}}
+use Rattle.sect_names.specs.{declared.lock.Lock.{Lock}, declared.lock.Effect.{Effect}, Schemes.{SchemeView, IsScheme}}
+use Rattle.sect_modes.specs.{declared.mode.Mode.{Mode}, declared.key.Key.{Key}, Mode.{is_at_least, intention_of}}
+use Rattle.sect_modes.specs.declared.mode.Mode.TheVariants.{Exclusive}
+use Rattle.sect_types.specs.{declared.meaning.store.ObjectName.{ObjectName}, declared.meaning.store.Datum.{Datum}}
+use Rattle.sect_types.specs.{declared.meaning.store.Datum.TheVariants.{Refers}, Store.{StoreView}}
 use Rattle.sect_emit.specs.declared.plan.Grip.{Grip}
-use Rattle.sect_types.specs.Store.{StoreView}
 use Rattle.sect_emit.specs.PlanLaws.{IsWish, Gives, IsKeptByJoins, HoldsTheWhole, BeginsWithAll}
 use Rattle.sect_emit.specs.Plan.{grip, key_of, gathered, intended, object_mode, AreWishesFor, IsFixedPart, path_datum}
 use Rattle.sect_emit.specs.Plan.{object_wish, object_wishes, plan_of, held_mode, is_met, meets, Ascends, class_mode}
 use Rattle.sect_emit.specs.ModeTests.{is_reading_object}
-use Rattle.sect_lemmas.proofs.Options.{some_injective}
 use Rattle.sect_emit.proofs.Modes.{intention_join, intended_is, join_reading_object, object_mode_reads}
+use Rattle.sect_emit.proofs.Plans.{fixed_wish_there, fixed_wish_all}
 use Rattle.sect_emit.proofs.shared.Plans.{gathered-all, gathered_key, ascending_mode, fixed_wish_from, fixed_part_keys}
 use Rattle.sect_emit.proofs.shared.Plans.{gathered_meets, object_part_keys, object_wish_from, plan_ascends}
-use Rattle.sect_emit.proofs.Plans.{fixed_wish_there, fixed_wish_all}
 use Rattle.sect_emit.proofs.shared.Keys.{nothing_below_all}
-use Rattle.sect_modes.specs.declared.mode.Mode.TheVariants.{Exclusive}
-use Rattle.std.proofs.lemmas.Bool.{and_parts, false≢true}
 use Rattle.sect_points.proofs.shared.ClassLaws.{path_classes}
+use Rattle.sect_names.specs.declared.lock.Lock.TheVariants as lock
+use Rattle.sect_modes.specs.declared.key.Key.TheVariants as key
+use Rattle.sect_types.specs.declared.meaning.store.ObjectName.TheVariants as object
 
 -- a plan that is met is held, key by key
 pub met : (held plan : List Grip) → meets held plan ≡ true → (g : Grip) → Has plan g

@@ -1,32 +1,25 @@
 -- What a plan has.
 use Rattle.std.proofs.Common.{◌≡◌, ℕ, Bool, true, false, refl, sym, ap, ◌∙◌, subst, ◌⊎◌, inl, inr, List, [], ◌∷◌, ◌++◌}
 use Rattle.std.proofs.Common.{Some}
-use Rattle.sect_lemmas.proofs.Membership.{Has-cases, Has-left, Has-right}
+use Rattle.sect_lemmas.proofs.{Membership.{Has-cases, Has-left, Has-right}, Options.{none_or_some, some_injective}}
 use Rattle.std.specs.Prelude.{if◌then◌else◌}
 use Rattle.sect_lemmas.specs.Lists.{Has}
 use Rattle.sect_points.specs.Paths.{PathView}
-use Rattle.sect_names.specs.declared.lock.Lock.{Lock}
-use Rattle.sect_names.specs.declared.lock.Lock.TheVariants as lock
-use Rattle.sect_names.specs.declared.lock.Effect.{Effect}
-use Rattle.sect_names.specs.Schemes.{SchemeView}
-use Rattle.sect_modes.specs.declared.mode.Mode.{Mode}
-use Rattle.sect_modes.specs.declared.key.Key.{Key}
-use Rattle.sect_modes.specs.declared.key.Key.TheVariants as key
-use Rattle.sect_modes.specs.Mode.{is_at_least, join_of, intention_of}
-use Rattle.sect_modes.specs.Key.{is_same_key, is_key_below}
-use Rattle.sect_types.specs.declared.meaning.store.ObjectName.{ObjectName}
-use Rattle.sect_types.specs.declared.meaning.store.ObjectName.TheVariants as object
-use Rattle.sect_types.specs.declared.meaning.store.Datum.{Datum}
-use Rattle.sect_types.specs.declared.meaning.store.Datum.TheVariants.{Number, Null, Refers}
+use Rattle.sect_names.specs.{declared.lock.Lock.{Lock}, declared.lock.Effect.{Effect}, Schemes.{SchemeView}}
+use Rattle.sect_modes.specs.{declared.mode.Mode.{Mode}, declared.key.Key.{Key}}
+use Rattle.sect_modes.specs.{Mode.{is_at_least, join_of, intention_of}, Key.{is_same_key, is_key_below}}
+use Rattle.sect_types.specs.{declared.meaning.store.ObjectName.{ObjectName}, declared.meaning.store.Datum.{Datum}}
+use Rattle.sect_types.specs.{declared.meaning.store.Datum.TheVariants.{Number, Null, Refers}, Store.{StoreView}}
 use Rattle.sect_emit.specs.declared.plan.Grip.{Grip}
-use Rattle.sect_types.specs.Store.{StoreView}
 use Rattle.sect_emit.specs.Plan.{grip, key_of, with_grip, gathered, class_mode, intended, object_mode, AreWishesFor}
 use Rattle.sect_emit.specs.Plan.{AreFixedWishes, IsFixedPart, path_datum, object_wish, object_wishes, plan_of}
 use Rattle.sect_emit.specs.Plan.{held_mode, Ascends}
-use Rattle.sect_lemmas.proofs.Options.{none_or_some, some_injective}
 use Rattle.sect_emit.proofs.shared.Keys.{same_key, key_itself, not_below_itself, below_along}
 use Rattle.sect_emit.proofs.shared.Modes.{at_least_itself, at_least_along, join_left, join_right}
 use Rattle.sect_emit.proofs.Keys.{other_above}
+use Rattle.sect_names.specs.declared.lock.Lock.TheVariants as lock
+use Rattle.sect_modes.specs.declared.key.Key.TheVariants as key
+use Rattle.sect_types.specs.declared.meaning.store.ObjectName.TheVariants as object
 
 -- what holds of all that is gathered, where a join keeps it
 pub with_grip-all : (P : Key → Mode → Type 0) → ((k : Key) (m n : Mode) → P k m → P k n → P k (join_of m n))

@@ -1,55 +1,42 @@
 -- A step keeps references within the points-to sets, and what a path denotes lies in its set.
-use Rattle.std.proofs.Common.{true≢false, ◌≡◌, ◌⊎◌, ℕ, zero, suc, ◌+◌, ◌<◌, List, [], ◌∷◌, ◌++◌, length, get_or}
-use Rattle.std.proofs.Common.{Option, Some, None, Bool, true, false, refl, sym, ap, ◌∙◌, subst, inl, inr, arith}
-use Rattle.std.proofs.Common.{length-append}
-use Rattle.std.specs.Prelude.{slice_get, slice_index_or, ℤ, pos, if◌then◌else◌}
+use Rattle.std.proofs.Common.{true≢false, ◌≡◌, ◌⊎◌, ℕ, zero, suc, ◌+◌, ◌<◌, List, [], ◌∷◌, ◌++◌, length, get_or, Option}
+use Rattle.std.proofs.Common.{Some, None, Bool, true, false, refl, sym, ap, ◌∙◌, subst, inl, inr, arith, length-append}
 use Rattle.std.proofs.lemmas.Option.{slice_get_within, slice_get-get_or, same_Some}
+use Rattle.std.specs.Prelude.{slice_get, slice_index_or, ℤ, pos, if◌then◌else◌}
 use Rattle.sect_types.specs.Programs.{ProgramView, all_made, environment_at}
 use Rattle.sect_types.specs.Sound.{reference_to, type_at, HasType, IsSoundAction}
-use Rattle.sect_types.specs.declared.declarations.types.ValueType.{ValueType}
-use Rattle.sect_types.specs.declared.declarations.types.ValueType.TheVariants as type
-use Rattle.sect_types.specs.declared.expansion.action.Base.{Base}
-use Rattle.sect_types.specs.declared.expansion.action.Base.TheVariants as base
-use Rattle.sect_types.specs.declared.expansion.action.Value.{Value}
-use Rattle.sect_types.specs.declared.expansion.action.Value.TheVariants as value
-use Rattle.sect_types.specs.declared.expansion.action.Action.{Action}
-use Rattle.sect_types.specs.declared.expansion.action.Action.TheVariants as action
-use Rattle.sect_types.specs.declared.expansion.action.Label.{Label}
-use Rattle.sect_types.specs.declared.expansion.action.Label.TheVariants as label
-use Rattle.sect_points.specs.declared.holders.Holder.TheVariants.{Local, Slot}
-use Rattle.sect_points.specs.declared.holders.Variable.TheVariants as variable
-use Rattle.sect_points.specs.Flow.{Family, ValueHas, BaseHas, Moved, Within}
-use Rattle.sect_points.specs.Paths.{PathView, var, dot, PathHas}
-use Rattle.sect_points.specs.Sets.{InSets}
-use Rattle.sect_points.specs.Statements.{thread_action}
-use Rattle.sect_names.specs.Schemes.{SchemeView, IsScheme}
-use Rattle.sect_names.specs.Laws.{IsProgramStep}
-use Rattle.sect_types.specs.declared.meaning.store.ObjectName.{ObjectName}
-use Rattle.sect_types.specs.declared.meaning.store.ObjectName.TheVariants as object
+use Rattle.sect_types.specs.{declared.declarations.types.ValueType.{ValueType}, declared.expansion.action.Base.{Base}}
+use Rattle.sect_types.specs.{declared.expansion.action.Value.{Value}, declared.expansion.action.Action.{Action}}
+use Rattle.sect_types.specs.{declared.expansion.action.Label.{Label}, declared.meaning.store.ObjectName.{ObjectName}}
 use Rattle.sect_types.specs.declared.meaning.store.Datum.{Datum}
 use Rattle.sect_types.specs.declared.meaning.store.Datum.TheVariants.{Number, Null, Refers}
-use Rattle.sect_types.specs.declared.meaning.store.Fault.TheVariants as fault
 use Rattle.sect_types.specs.Store.{ObjectView, StoreView, object_at, row, count, with_field, write, add, same_name}
-use Rattle.sect_lemmas.specs.Lists.{put_at}
-use Rattle.sect_lemmas.specs.Numbers.{same_number}
 use Rattle.sect_types.specs.Meaning.{WorkView, local_datum, datum_or_null, base_datum, value_datum, integer_of}
 use Rattle.sect_types.specs.Meaning.{result_of, fits, name_in, fresh, Change, Unchanged, Written, after_change, Came}
 use Rattle.sect_types.specs.Meaning.{Went, Fell, assigned, loaded, stored, done, paid, looked, found_at}
-use Rattle.sect_emit.specs.Plan.{field_datum, field_of, path_datum}
-use Rattle.sect_names.specs.Locks.{PathTo, IsOwn}
+use Rattle.sect_points.specs.declared.holders.Holder.TheVariants.{Local, Slot}
+use Rattle.sect_points.specs.{Flow.{Family, ValueHas, BaseHas, Moved, Within}, Paths.{PathView, var, dot, PathHas}}
+use Rattle.sect_points.specs.{Sets.{InSets}, Statements.{thread_action}}
+use Rattle.sect_names.specs.{Schemes.{SchemeView, IsScheme}, Laws.{IsProgramStep}, Locks.{PathTo, IsOwn}}
 use Rattle.sect_names.specs.Records.{IsTypedProgram}
+use Rattle.sect_lemmas.specs.{Lists.{put_at}, Numbers.{same_number}}
+use Rattle.sect_emit.specs.Plan.{field_datum, field_of, path_datum}
 use Rattle.sect_emit.specs.Pointed.{ExistsAt, RefersTo, IsPointedStore, ArePointed, IsPointed, ObjectsStay, StepsTo}
 use Rattle.sect_emit.specs.Pointed.{IsDenoted}
-use Rattle.sect_names.proofs.shared.Placing.{statement_sound}
-use Rattle.sect_names.proofs.shared.Recording.{paths_fit}
-use Rattle.sect_names.proofs.shared.Typing.{reference_of}
+use Rattle.sect_names.proofs.shared.{Placing.{statement_sound}, Recording.{paths_fit}, Typing.{reference_of}}
 use Rattle.sect_lemmas.proofs.Options.{mapped}
 use Rattle.sect_lemmas.proofs.Replaced.{get-changed_at, same_number-true, same_number-refl, length-changed_at}
-use Rattle.sect_types.proofs.shared.Stores.{object_at-write, same_name-true, same_name-eq, object_at-add}
-use Rattle.sect_types.proofs.shared.Stores.{count-add_own}
-use Rattle.sect_types.proofs.shared.Stores.{count-write, rows-write}
 use Rattle.sect_lemmas.proofs.Elements.{is_past}
-use Rattle.sect_types.proofs.shared.Data.{fresh_refers}
+use Rattle.sect_types.proofs.shared.Stores.{object_at-write, same_name-true, same_name-eq, object_at-add, count-add_own}
+use Rattle.sect_types.proofs.shared.{Stores.{count-write, rows-write}, Data.{fresh_refers}}
+use Rattle.sect_types.specs.declared.declarations.types.ValueType.TheVariants as type
+use Rattle.sect_types.specs.declared.expansion.action.Base.TheVariants as base
+use Rattle.sect_types.specs.declared.expansion.action.Value.TheVariants as value
+use Rattle.sect_types.specs.declared.expansion.action.Action.TheVariants as action
+use Rattle.sect_types.specs.declared.expansion.action.Label.TheVariants as label
+use Rattle.sect_points.specs.declared.holders.Variable.TheVariants as variable
+use Rattle.sect_types.specs.declared.meaning.store.ObjectName.TheVariants as object
+use Rattle.sect_types.specs.declared.meaning.store.Fault.TheVariants as fault
 
 -- the datum is a reference
 abbrev pub IsReference : Datum → Type 0

@@ -1,39 +1,25 @@
 -- What is needed before a step secures what is needed after it.
 use Rattle.std.proofs.Common.{◌≡◌, ◌⊎◌, ℕ, zero, suc, List, Bool, true, false, refl, sym, ap, ◌∙◌, subst, inl, inr}
-use Rattle.std.proofs.Common.{true≢false}
+use Rattle.std.proofs.{Common.{true≢false}, lemmas.Bool.{cases_lt}}
 use Rattle.std.specs.Prelude.{if◌then◌else◌}
-use Rattle.std.proofs.lemmas.Bool.{cases_lt}
 use Rattle.sect_lemmas.specs.Lists.{Has}
-use Rattle.sect_types.specs.Programs.{ProgramView}
-use Rattle.sect_types.specs.Statements.{TextView, Stop, Do, Choose, Loop, Section, joined}
-use Rattle.sect_types.specs.declared.expansion.action.Condition.{Condition}
-use Rattle.sect_types.specs.declared.expansion.action.Label.{Label}
-use Rattle.sect_types.specs.declared.expansion.action.Label.TheVariants as label
-use Rattle.sect_points.specs.Paths.{PathView}
-use Rattle.sect_names.specs.declared.lock.Effect.{Effect}
-use Rattle.sect_names.specs.declared.lock.Lock.{Lock}
-use Rattle.sect_names.specs.declared.lock.Lock.TheVariants as lock
-use Rattle.sect_names.specs.Schemes.{SchemeView, IsScheme}
-use Rattle.sect_names.specs.Locks.{depth}
-use Rattle.sect_names.specs.Carrying.{CarriedBack, right_for}
-use Rattle.sect_names.specs.Laws.{IsProgramStep}
+use Rattle.sect_types.specs.{Programs.{ProgramView}, Statements.{TextView, Stop, Do, Choose, Loop, Section, joined}}
+use Rattle.sect_types.specs.{declared.expansion.action.Condition.{Condition}, declared.expansion.action.Label.{Label}}
 use Rattle.sect_types.specs.declared.meaning.store.ObjectName.{ObjectName}
-use Rattle.sect_types.specs.declared.meaning.store.Datum.TheVariants.{Refers}
-use Rattle.sect_types.specs.Store.{StoreView}
-use Rattle.sect_types.specs.Meaning.{WorkView, Change, Unchanged, after_change, Came, Went, Fell, one, looked}
-use Rattle.sect_types.specs.Meaning.{found_at, is_true, Next, On, Off, going, taken}
-use Rattle.sect_emit.specs.Plan.{path_datum}
-use Rattle.sect_names.specs.Records.{IsTypedProgram, IsNeedable}
-use Rattle.sect_names.specs.Walks.{Leads, StandsInThread}
-use Rattle.sect_names.specs.Along.{NeededIn}
-use Rattle.sect_emit.specs.Pointed.{IsPointed, StepsTo, IsMade, IsSecuredBy}
-use Rattle.sect_emit.specs.GoesOn.{GoesOnTo}
-use Rattle.sect_names.proofs.shared.Placing.{step_sound}
-use Rattle.sect_names.proofs.shared.Needing.{keeps_record, needed_needable}
+use Rattle.sect_types.specs.{declared.meaning.store.Datum.TheVariants.{Refers}, Store.{StoreView}}
+use Rattle.sect_types.specs.Meaning.{WorkView, Change, Unchanged, after_change, Came, Went, Fell, one, looked, found_at}
+use Rattle.sect_types.specs.Meaning.{is_true, Next, On, Off, going, taken}
+use Rattle.sect_points.specs.Paths.{PathView}
+use Rattle.sect_names.specs.{declared.lock.Effect.{Effect}, declared.lock.Lock.{Lock}, Schemes.{SchemeView, IsScheme}}
+use Rattle.sect_names.specs.{Locks.{depth}, Carrying.{CarriedBack, right_for}, Laws.{IsProgramStep}}
+use Rattle.sect_names.specs.{Records.{IsTypedProgram, IsNeedable}, Walks.{Leads, StandsInThread}, Along.{NeededIn}}
+use Rattle.sect_emit.specs.{Plan.{path_datum}, Pointed.{IsPointed, StepsTo, IsMade, IsSecuredBy}, GoesOn.{GoesOnTo}}
+use Rattle.sect_names.proofs.shared.{Placing.{step_sound}, Needing.{keeps_record, needed_needable}}
+use Rattle.sect_names.proofs.shared.{Walking.{leads_stands, needed_step}, Owning.{own_before}}
 use Rattle.sect_emit.proofs.shared.Pointing.{denoted}
 use Rattle.sect_emit.proofs.Valuing.{step_value}
-use Rattle.sect_names.proofs.shared.Walking.{leads_stands, needed_step}
-use Rattle.sect_names.proofs.shared.Owning.{own_before}
+use Rattle.sect_types.specs.declared.expansion.action.Label.TheVariants as label
+use Rattle.sect_names.specs.declared.lock.Lock.TheVariants as lock
 
 module _ (s : SchemeView) (scheme : IsScheme s) (typed : IsTypedProgram s.program) (t : ℕ) (store : StoreView)
     (w : WorkView) (pointed : IsPointed s t store w) where

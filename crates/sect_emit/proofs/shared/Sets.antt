@@ -1,11 +1,9 @@
 -- The locks of a compiled program's sections have names.
-use Rattle.std.proofs.Common.{◌≡◌, ℕ, List, Some, arith, slice_get}
-use Rattle.std.proofs.lemmas.Option.{slice_get_within}
+use Rattle.std.proofs.{Common.{◌≡◌, ℕ, List, Some, arith, slice_get}, lemmas.Option.{slice_get_within}}
 use Rattle.sect_types.specs.Sections.{sections_of}
 use Rattle.sect_lemmas.proofs.Places.{at_of}
-use Rattle.sect_names.specs.Printing.{AreNamed}
+use Rattle.sect_names.specs.{Printing.{AreNamed}, declared.lock.Lock.{Lock}}
 use Rattle.sect_names.proofs.shared.Named.{named_lock}
-use Rattle.sect_names.specs.declared.lock.Lock.{Lock}
 use Rattle.sect_emit.specs.Compiled.{CompiledView, IsCompiled}
 
 -- what the locks of a section's set name is there

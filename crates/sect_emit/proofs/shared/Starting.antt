@@ -1,18 +1,16 @@
 -- At the start no local and no field refers to anything, and the globals are there.
 use Rattle.std.proofs.Common.{◌≡◌, ℕ, ◌<◌, List, [], length, None, Some, sym, ap, ◌∙◌, arith}
-use Rattle.std.specs.Prelude.{slice_get, slice_index_or}
 use Rattle.std.proofs.lemmas.List.{length-replicate}
+use Rattle.std.specs.Prelude.{slice_get, slice_index_or}
 use Rattle.sect_types.specs.declared.declarations.types.ValueType.{ValueType}
-use Rattle.sect_names.specs.Schemes.{SchemeView}
 use Rattle.sect_types.specs.declared.meaning.store.ObjectName.{ObjectName}
-use Rattle.sect_types.specs.declared.meaning.store.ObjectName.TheVariants as object
 use Rattle.sect_types.specs.declared.meaning.store.Datum.TheVariants.{Refers}
-use Rattle.sect_types.specs.Store.{ObjectView, StoreView, object_at, row}
-use Rattle.sect_types.specs.Meaning.{datum_or_null}
+use Rattle.sect_types.specs.{Store.{ObjectView, StoreView, object_at, row}, Meaning.{datum_or_null}}
 use Rattle.sect_types.specs.Whole.{first_store, first_work}
-use Rattle.sect_types.proofs.shared.Data.{fresh_refers}
-use Rattle.sect_types.proofs.shared.Starts.{global_there, global_is, no_row}
+use Rattle.sect_names.specs.Schemes.{SchemeView}
+use Rattle.sect_types.proofs.shared.{Data.{fresh_refers}, Starts.{global_there, global_is, no_row}}
 use Rattle.sect_emit.specs.Pointed.{IsPointedStore, IsPointed}
+use Rattle.sect_types.specs.declared.meaning.store.ObjectName.TheVariants as object
 
 module _ (s : SchemeView) where
   abbrev begun : StoreView

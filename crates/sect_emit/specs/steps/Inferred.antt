@@ -1,10 +1,8 @@
 -- What is kept of each section of a compiled program.
 use Rattle.std.specs.Prelude.{◌≡◌, ℕ, List, Some, length, map, slice_get}
-use Rattle.sect_names.specs.declared.lock.Lock.{Lock}
-use Rattle.sect_names.specs.Schemes.{SchemeView}
+use Rattle.sect_names.specs.{declared.lock.Lock.{Lock}, Schemes.{SchemeView}}
 use Rattle.sect_infer.specs.Sets.{LocksView, AreAllInferred}
-use Rattle.sect_emit.specs.declared.plan.Grip.{Grip}
-use Rattle.sect_emit.specs.Plan.{IsFixedPart}
+use Rattle.sect_emit.specs.{declared.plan.Grip.{Grip}, Plan.{IsFixedPart}}
 
 -- the sets of the sections
 abbrev pub entries_of : List LocksView → List (List Lock)

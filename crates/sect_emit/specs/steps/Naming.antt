@@ -1,18 +1,15 @@
 -- What a statement or a test names is there. The private functions that print it cite this.
-use Rattle.std.specs.Prelude.{◌<◌, ⊤, ℕ, [], List, length, slice_index_or}
-use Rattle.std.specs.List.{AllByRecursion}
-use Rattle.sect_types.specs.Programs.{ProgramView}
-use Rattle.sect_types.specs.declared.expansion.action.Value.{Value}
-use Rattle.sect_types.specs.declared.expansion.action.Value.TheVariants as value
-use Rattle.sect_types.specs.declared.expansion.action.Base.{Base}
-use Rattle.sect_types.specs.declared.expansion.action.Base.TheVariants as base
-use Rattle.sect_types.specs.declared.expansion.action.Condition.{Condition}
+use Rattle.std.specs.{Prelude.{◌<◌, ⊤, ℕ, [], List, length, slice_index_or}, List.{AllByRecursion}}
+use Rattle.sect_types.specs.{Programs.{ProgramView}, declared.expansion.action.Value.{Value}}
+use Rattle.sect_types.specs.{declared.expansion.action.Base.{Base}, declared.expansion.action.Condition.{Condition}}
 use Rattle.sect_types.specs.declared.expansion.action.Action.{Action}
 use Rattle.sect_types.specs.declared.expansion.action.Action.TheVariants.{Assign, Compute, New, Load, Store, Print}
 use Rattle.sect_types.specs.declared.expansion.action.Label.{Label}
 use Rattle.sect_types.specs.declared.expansion.action.Label.TheVariants.{Act, Test, Section}
 use Rattle.sect_graph.specs.declared.flow.Node.{Node}
 use Rattle.sect_names.specs.Locks.{IsField}
+use Rattle.sect_types.specs.declared.expansion.action.Value.TheVariants as value
+use Rattle.sect_types.specs.declared.expansion.action.Base.TheVariants as base
 
 abbrev pub IsLocalOf : ProgramView → ℕ → ℕ → Type 0
 IsLocalOf p u x = x < length (slice_index_or p.locals u [])

@@ -1,11 +1,8 @@
 -- Keys that are added to those of a plan.
 use Rattle.std.specs.Prelude.{◌≡◌, ⊤, List, [], ◌∷◌}
-use Rattle.sect_names.specs.declared.lock.Lock.{Lock}
+use Rattle.sect_names.specs.{declared.lock.Lock.{Lock}, Locks.{IsClassed}, Schemes.{SchemeView}}
+use Rattle.sect_emit.specs.{declared.plan.Grip.{Grip}, Plan.{with_grip, AreWishesFor}}
 use Rattle.sect_names.specs.declared.lock.Lock.TheVariants as lock
-use Rattle.sect_names.specs.Locks.{IsClassed}
-use Rattle.sect_names.specs.Schemes.{SchemeView}
-use Rattle.sect_emit.specs.declared.plan.Grip.{Grip}
-use Rattle.sect_emit.specs.Plan.{with_grip, AreWishesFor}
 
 -- the list with keys more, the last of them first
 abbrev pub with_grips : List Grip → List Grip → List Grip

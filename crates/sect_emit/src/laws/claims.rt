@@ -1,24 +1,15 @@
 //! Laws of what is claimed of sections. The functions have empty bodies but for the laws that they stand on.
 
 ghost use Rattle.std.specs.Prelude.{ℕ, List};
-ghost use Rattle.sect_types.specs.First.{IsTyped};
-ghost use Rattle.sect_types.specs.Programs.{IsOfTree};
-ghost use Rattle.sect_types.specs.Sections.{SectionView};
-ghost use Rattle.sect_types.specs.Sound.{AreSound};
+ghost use Rattle.sect_types.specs.{First.{IsTyped}, Programs.{IsOfTree}, Sections.{SectionView}, Sound.{AreSound}};
 ghost use Rattle.sect_graph.specs.declared.flow.Node.{Node};
-ghost use Rattle.sect_names.specs.declared.link.Link.{Link};
-ghost use Rattle.sect_names.specs.Needed.{end_of};
-ghost use Rattle.sect_names.specs.Schemes.{SchemeView, IsScheme};
-ghost use Rattle.sect_infer.specs.Sets.{LocksView, AreLocksOf};
+ghost use Rattle.sect_names.specs.{declared.link.Link.{Link}, Needed.{end_of}, Schemes.{SchemeView, IsScheme}};
+ghost use Rattle.sect_infer.specs.Sets.{LocksView, AreLocksOf, AreAllInferred};
 ghost use Rattle.sect_chains.specs.Chains.{AreChains};
 ghost use Rattle.sect_cert.specs.declared.certificate.Cert.{Cert};
-ghost use Rattle.sect_check.specs.Meaning.{IsSectionAt};
-ghost use Rattle.sect_check.specs.Valid.{IsValid, IsValidSection};
-ghost use Rattle.sect_check.specs.Verdicts.{IsRead};
-ghost use Rattle.sect_emit.specs.Certificates.{HasTheSets};
-ghost use Rattle.sect_emit.specs.Claimed.{claims_of};
+ghost use Rattle.sect_check.specs.{Meaning.{IsSectionAt}, Valid.{IsValid, IsValidSection}, Verdicts.{IsRead}};
+ghost use Rattle.sect_emit.specs.{Certificates.{HasTheSets}, Claimed.{claims_of}};
 ghost use Rattle.sect_emit.specs.Compiled.{CompiledView, IsCompiledFrom};
-ghost use Rattle.sect_infer.specs.Sets.{AreAllInferred};
 ghost use Rattle.sect_emit.specs.steps.Spelled.{IsSpelled};
 
 use sect_check::valid_entry_lists_are_least;

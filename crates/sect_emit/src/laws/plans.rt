@@ -2,14 +2,10 @@
 
 ghost use Rattle.std.specs.Prelude.{◌≡◌, Bool, true, List, []};
 ghost use Rattle.sect_lemmas.specs.Lists.{Has};
-ghost use Rattle.sect_types.specs.Store.{StoreView};
-ghost use Rattle.sect_types.specs.declared.meaning.store.Datum.{Datum};
-ghost use Rattle.sect_modes.specs.declared.key.Key.{Key};
-ghost use Rattle.sect_modes.specs.declared.mode.Mode.{Mode};
-ghost use Rattle.sect_names.specs.declared.lock.Lock.{Lock};
-ghost use Rattle.sect_names.specs.Schemes.{SchemeView, IsScheme};
-ghost use Rattle.sect_emit.specs.declared.plan.Grip.{Grip};
-ghost use Rattle.sect_emit.specs.Plan.{IsFixedPart, plan_of, Ascends};
+ghost use Rattle.sect_types.specs.{Store.{StoreView}, declared.meaning.store.Datum.{Datum}};
+ghost use Rattle.sect_modes.specs.{declared.key.Key.{Key}, declared.mode.Mode.{Mode}};
+ghost use Rattle.sect_names.specs.{declared.lock.Lock.{Lock}, Schemes.{SchemeView, IsScheme}};
+ghost use Rattle.sect_emit.specs.{declared.plan.Grip.{Grip}, Plan.{IsFixedPart, plan_of, Ascends}};
 ghost use Rattle.sect_emit.specs.PlanLaws.{IsWish, Gives, BeginsWithAll, IsKeptByJoins, HoldsTheWhole};
 
 /// A plan has its keys in key order, each once.

@@ -2,33 +2,23 @@
 
 ghost use Rattle.std.specs.Prelude.{◌≡◌, ◌<◌, ◌⊎◌, ℕ, length, List};
 ghost use Rattle.sect_lemmas.specs.Lists.{Has};
-ghost use Rattle.sect_types.specs.Programs.{ProgramView};
-ghost use Rattle.sect_types.specs.Statements.{TextView};
-ghost use Rattle.sect_types.specs.Store.{StoreView};
-ghost use Rattle.sect_types.specs.Meaning.{WorkView};
-ghost use Rattle.sect_types.specs.Whole.{first_store, first_work};
-ghost use Rattle.sect_types.specs.declared.expansion.action.Action.{Action};
-ghost use Rattle.sect_types.specs.declared.expansion.action.Label.{Label};
+ghost use Rattle.sect_types.specs.{Programs.{ProgramView}, Statements.{TextView}, Store.{StoreView}};
+ghost use Rattle.sect_types.specs.{Meaning.{WorkView}, Whole.{first_store, first_work}};
+ghost use Rattle.sect_types.specs.{declared.expansion.action.Action.{Action}, declared.expansion.action.Label.{Label}};
 ghost use Rattle.sect_types.specs.declared.expansion.action.Label.TheVariants.{Act};
 ghost use Rattle.sect_types.specs.declared.declarations.types.ValueType.{ValueType};
 ghost use Rattle.sect_types.specs.declared.meaning.store.ObjectName.{ObjectName};
 ghost use Rattle.sect_types.specs.declared.meaning.store.Datum.{Datum};
 ghost use Rattle.sect_types.specs.declared.meaning.store.Datum.TheVariants.{Refers};
 ghost use Rattle.sect_points.specs.Paths.{PathView};
-ghost use Rattle.sect_names.specs.declared.lock.Effect.{Effect};
-ghost use Rattle.sect_names.specs.declared.lock.Lock.{Lock};
-ghost use Rattle.sect_names.specs.declared.lock.Lock.TheVariants.{Path};
-ghost use Rattle.sect_names.specs.Schemes.{SchemeView, IsScheme};
-ghost use Rattle.sect_names.specs.Locks.{PathTo, IsOwn};
-ghost use Rattle.sect_names.specs.Carrying.{CarriedBack};
-ghost use Rattle.sect_names.specs.Laws.{IsProgramStep};
-ghost use Rattle.sect_names.specs.Records.{IsTypedProgram, IsNeedable};
-ghost use Rattle.sect_names.specs.Walks.{Leads, StandsInThread};
+ghost use Rattle.sect_names.specs.{declared.lock.Effect.{Effect}, declared.lock.Lock.{Lock}};
+ghost use Rattle.sect_names.specs.{declared.lock.Lock.TheVariants.{Path}, Schemes.{SchemeView, IsScheme}};
+ghost use Rattle.sect_names.specs.{Locks.{PathTo, IsOwn}, Carrying.{CarriedBack}, Laws.{IsProgramStep}};
+ghost use Rattle.sect_names.specs.{Records.{IsTypedProgram, IsNeedable}, Walks.{Leads, StandsInThread}};
 ghost use Rattle.sect_names.specs.Along.{NeededIn};
 ghost use Rattle.sect_emit.specs.Plan.{path_datum};
 ghost use Rattle.sect_emit.specs.Pointed.{ArePointed, IsPointed, ObjectsStay, StepsTo, IsDenoted, IsMade};
-ghost use Rattle.sect_emit.specs.Pointed.{DenotedBefore, IsSecuredBy};
-ghost use Rattle.sect_emit.specs.NeededAccesses.{NeedsItsAccess};
+ghost use Rattle.sect_emit.specs.{Pointed.{DenotedBefore, IsSecuredBy}, NeededAccesses.{NeedsItsAccess}};
 ghost use Rattle.sect_emit.specs.GoesOn.{GoesOnTo};
 
 /// What a path of the thread denotes that refers to objects lies in the path's set, and is of its record and class.

@@ -1,24 +1,17 @@
 -- A text has one fault at most.
 use Rattle.std.proofs.Common.{◌≡◌, ◌≢◌, ℕ, zero, suc, ◌+◌, ◌-◌, ◌<◌, ◌≤◌, Bool, true, false, List, [], ◌∷◌, ◌++◌, Some}
 use Rattle.std.proofs.Common.{Result, Ok, Err, length, take, drop, refl, sym, ◌∙◌, ap, subst, arith, append_assoc, ◌⊎◌}
-use Rattle.std.proofs.Common.{inl, inr}
+use Rattle.std.proofs.{Common.{inl, inr}, lemmas.List.{take-append-drop}}
 use Rattle.std.specs.Prelude.{unwrap_or, slice_get, option_map}
-use Rattle.std.proofs.lemmas.List.{take-append-drop}
-use Rattle.sect_front.specs.Limits.{most_bytes}
-use Rattle.sect_front.specs.TreeView.{TreeView}
-use Rattle.sect_front.specs.Words.{is_letter, is_digit, begins}
-use Rattle.sect_front.specs.Braces.{open_after, IsShallow}
-use Rattle.sect_front.specs.Lexing.{Spells, IsBadAt}
+use Rattle.sect_front.specs.{Limits.{most_bytes}, TreeView.{TreeView}, Words.{is_letter, is_digit, begins}}
+use Rattle.sect_front.specs.{Braces.{open_after, IsShallow}, Lexing.{Spells, IsBadAt}}
 use Rattle.sect_front.specs.Faults.{IsViable, tokens_in, IsUnexpectedAt, IsTooDeepAt, IsUnfinished}
-use Rattle.sect_front.specs.Front.{IsBadOn, IsFault, Judges, Refuses, line_of}
-use Rattle.sect_front.specs.declared.token.Token.{Token}
-use Rattle.sect_front.specs.TokenAt.{TokenAt}
-use Rattle.sect_front.specs.declared.parsing.FrontFault.{FrontFault}
-use Rattle.sect_front.specs.declared.parsing.FrontFault.TheVariants as fault
+use Rattle.sect_front.specs.{Front.{IsBadOn, IsFault, Judges, Refuses, line_of}, declared.token.Token.{Token}}
+use Rattle.sect_front.specs.{TokenAt.{TokenAt}, declared.parsing.FrontFault.{FrontFault}}
 use Rattle.sect_front.proofs.TokenFaults.{TokenFault, IsTokenFault}
+use Rattle.sect_front.proofs.shared.{Lexings.{one_lexing, one_bad, bad_or_lexed}, Only.{only}}
+use Rattle.sect_front.specs.declared.parsing.FrontFault.TheVariants as fault
 use Rattle.sect_front.proofs.TokenFaults as token_fault
-use Rattle.sect_front.proofs.shared.Lexings.{one_lexing, one_bad, bad_or_lexed}
-use Rattle.sect_front.proofs.shared.Only.{only}
 
 take_take : {A : Type 0} (i j : ℕ) (xs : List A) → i ≤ j → take i (take j xs) ≡ take i xs
 take_take zero j xs h = refl

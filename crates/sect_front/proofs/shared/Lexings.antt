@@ -1,9 +1,8 @@
 -- A text is one list of tokens, or has one first bad lexeme.
-use Rattle.std.proofs.Common.{◌≡◌, ℕ, suc, ◌≤◌, Bool, true, false, not, ◌&&◌, cond, eqb, List, [], ◌∷◌}
-use Rattle.std.proofs.Common.{Some, length, drop, refl, sym, ◌∙◌, ap, subst, arith}
+use Rattle.std.proofs.Common.{◌≡◌, ℕ, suc, ◌≤◌, Bool, true, false, not, ◌&&◌, cond, eqb, List, [], ◌∷◌, Some, length}
+use Rattle.std.proofs.Common.{drop, refl, sym, ◌∙◌, ap, subst, arith}
 use Rattle.sect_front.specs.Gaps.{begins_with, after_gap, skip, is_blank}
-use Rattle.sect_front.specs.Lexing.{IsFirst, IsBad, Reaches, Spells, IsBadAt}
-use Rattle.sect_front.specs.TokenAt.{TokenAt}
+use Rattle.sect_front.specs.{Lexing.{IsFirst, IsBad, Reaches, Spells, IsBadAt}, TokenAt.{TokenAt}}
 use Rattle.sect_front.proofs.Lexemes.{lexeme_only, pair}
 use Rattle.sect_lemmas.proofs.Options.{some_injective}
 

@@ -7,20 +7,16 @@ use Rattle.sect_front.specs.Grammar.{operand_token, operand_list, primitive_list
 use Rattle.sect_front.specs.Grammar.{statement_list, statements_list, parameter_list, declaration_list, hint_list}
 use Rattle.sect_front.specs.Grammar.{record_list, global_list, procedure_list, thread_list, kind_token, tokens_of}
 use Rattle.sect_front.specs.Tokens.{primitive_tokens, test_tokens, operands_tokens, call_tokens, statement_tokens}
-use Rattle.sect_front.specs.Tokens.{block_tokens, declarations_tokens, hints_tokens, record_tokens}
-use Rattle.sect_front.specs.Tokens.{parameters_tokens, procedure_tokens, thread_tokens, records_tokens}
-use Rattle.sect_front.specs.Tokens.{globals_tokens, procedures_tokens, threads_tokens, source_tokens}
-use Rattle.sect_front.specs.declared.token.Token.{Token}
+use Rattle.sect_front.specs.Tokens.{block_tokens, declarations_tokens, hints_tokens, record_tokens, parameters_tokens}
+use Rattle.sect_front.specs.Tokens.{procedure_tokens, thread_tokens, records_tokens, globals_tokens, procedures_tokens}
+use Rattle.sect_front.specs.{Tokens.{threads_tokens, source_tokens}, declared.token.Token.{Token}}
+use Rattle.sect_front.specs.{declared.tree.Operand.{Operand}, declared.tree.Declaration.{Declaration}}
+use Rattle.sect_front.specs.{declared.tree.Record.{Record}, declared.tree.GlobalObject.{GlobalObject}}
+use Rattle.sect_front.specs.{declared.tree.Procedure.{Procedure}, declared.tree.Thread.{Thread}}
 use Rattle.sect_front.specs.declared.tree.Locking.TheVariants as locking
 use Rattle.sect_front.specs.declared.token.Token.TheVariants as token
-use Rattle.sect_front.specs.declared.tree.Operand.{Operand}
 use Rattle.sect_front.specs.declared.tree.Primitive as leaf
 use Rattle.sect_front.specs.declared.tree.Primitive.TheVariants as primitive
-use Rattle.sect_front.specs.declared.tree.Declaration.{Declaration}
-use Rattle.sect_front.specs.declared.tree.Record.{Record}
-use Rattle.sect_front.specs.declared.tree.GlobalObject.{GlobalObject}
-use Rattle.sect_front.specs.declared.tree.Procedure.{Procedure}
-use Rattle.sect_front.specs.declared.tree.Thread.{Thread}
 
 primitive_same : (p : leaf.Primitive) (w : List Token) → primitive_list p ++ w ≡ primitive_tokens p w
 primitive_same (primitive.Assign x v) w = refl

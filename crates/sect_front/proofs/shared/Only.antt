@@ -1,15 +1,11 @@
 -- A text that spells a tree is refused only for want of memory.
 use Rattle.std.proofs.Common.{ℕ, List, Result, Ok, Err, subst, arith, Bool}
-use Rattle.sect_front.specs.Front.{IsSpelled, IsBadOn, Judges, Gives}
-use Rattle.sect_front.specs.Faults.{tokens_in, IsTree}
-use Rattle.sect_front.specs.Lexing.{Spells}
-use Rattle.sect_front.specs.TokenAt.{TokenAt}
-use Rattle.sect_front.specs.TreeView.{TreeView}
-use Rattle.sect_front.specs.declared.parsing.FrontFault.{FrontFault}
-use Rattle.sect_front.specs.declared.parsing.FrontFault.TheVariants as fault
-use Rattle.sect_front.proofs.TokenFaults as token_fault
+use Rattle.sect_front.specs.{Front.{IsSpelled, IsBadOn, Judges, Gives}, Faults.{tokens_in, IsTree}, Lexing.{Spells}}
+use Rattle.sect_front.specs.{TokenAt.{TokenAt}, TreeView.{TreeView}, declared.parsing.FrontFault.{FrontFault}}
 use Rattle.sect_front.proofs.shared.Lexings.{one_lexing, bad_or_lexed}
 use Rattle.sect_front.proofs.Verdict.{given}
+use Rattle.sect_front.specs.declared.parsing.FrontFault.TheVariants as fault
+use Rattle.sect_front.proofs.TokenFaults as token_fault
 
 -- the same tokens, whichever way they were found
 same_tokens : (bytes : List ℕ) (ps : List TokenAt) (tree : TreeView) → Spells bytes ps → (s : IsSpelled bytes tree)

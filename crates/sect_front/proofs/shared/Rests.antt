@@ -1,10 +1,8 @@
 -- The last bytes of a text, and its gaps.
-use Rattle.std.proofs.Common.{◌≡◌, ℕ, suc, ◌+◌, ◌-◌, ◌≤◌, Bool, true, false, not, ◌&&◌, cond, eqb}
-use Rattle.std.proofs.Common.{List, [], ◌∷◌, length, drop, refl, sym, ◌∙◌, ap, arith, inl, inr, length-drop}
-use Rattle.std.proofs.lemmas.Bool.{cases_lt}
+use Rattle.std.proofs.Common.{◌≡◌, ℕ, suc, ◌+◌, ◌-◌, ◌≤◌, Bool, true, false, not, ◌&&◌, cond, eqb, List, [], ◌∷◌}
+use Rattle.std.proofs.{Common.{length, drop, refl, sym, ◌∙◌, ap, arith, inl, inr, length-drop}, lemmas.Bool.{cases_lt}}
 use Rattle.std.proofs.lemmas.List.{drop-drop, drop_all}
-use Rattle.sect_front.specs.Gaps.{begins_with, after_gap, skip, is_blank}
-use Rattle.sect_front.specs.LongGaps.{IsRestOf, IsGap}
+use Rattle.sect_front.specs.{Gaps.{begins_with, after_gap, skip, is_blank}, LongGaps.{IsRestOf, IsGap}}
 use Rattle.sect_front.specs.declared.span.Span.{Span}
 use Rattle.sect_front.proofs.shared.Lexings.{gap_fits}
 

@@ -1,27 +1,22 @@
 -- One more token of a statement.
 use Rattle.std.specs.Prelude.{ℕ, List, Option, Some, None}
-use Rattle.sect_front.specs.declared.token.Token.{Token}
+use Rattle.sect_front.specs.{declared.token.Token.{Token}, declared.tree.Operand.{Operand}}
+use Rattle.sect_front.specs.{declared.tree.Operator.{Operator}, declared.tree.Comparison.{Comparison}}
+use Rattle.sect_front.specs.{declared.tree.Test.{Test}, declared.partial.PartialAssign.{PartialAssign}}
+use Rattle.sect_front.specs.declared.partial.PartialStore.{PartialStore}
+use Rattle.sect_front.specs.{declared.partial.PartialBranch.{PartialBranch}, declared.partial.PartialHead.{PartialHead}}
+use Rattle.sect_front.specs.{declared.partial.Branch.{Branch}, declared.partial.Move.{Move}}
 use Rattle.sect_front.specs.declared.token.Token.TheVariants as token
-use Rattle.sect_front.specs.declared.tree.Operand.{Operand}
 use Rattle.sect_front.specs.declared.tree.Operand.TheVariants as operand
 use Rattle.sect_front.specs.declared.tree.Primitive as leaf
 use Rattle.sect_front.specs.declared.tree.Primitive.TheVariants as primitive
-use Rattle.sect_front.specs.declared.tree.Operator.{Operator}
 use Rattle.sect_front.specs.declared.tree.Operator.TheVariants as operator
-use Rattle.sect_front.specs.declared.tree.Comparison.{Comparison}
-use Rattle.sect_front.specs.declared.tree.Test.{Test}
 use Rattle.sect_front.specs.declared.tree.Locking.TheVariants as locking
-use Rattle.sect_front.specs.declared.partial.PartialAssign.{PartialAssign}
 use Rattle.sect_front.specs.declared.partial.PartialAssign.TheVariants as assign
-use Rattle.sect_front.specs.declared.partial.PartialStore.{PartialStore}
 use Rattle.sect_front.specs.declared.partial.PartialStore.TheVariants as store
-use Rattle.sect_front.specs.declared.partial.PartialBranch.{PartialBranch}
 use Rattle.sect_front.specs.declared.partial.PartialBranch.TheVariants as head
-use Rattle.sect_front.specs.declared.partial.PartialHead.{PartialHead}
 use Rattle.sect_front.specs.declared.partial.PartialHead.TheVariants as line
-use Rattle.sect_front.specs.declared.partial.Branch.{Branch}
 use Rattle.sect_front.specs.declared.partial.Branch.TheVariants as branch
-use Rattle.sect_front.specs.declared.partial.Move.{Move}
 use Rattle.sect_front.specs.declared.partial.Move.TheVariants as move
 
 -- the operand that a token is

@@ -1,9 +1,7 @@
 -- The token at the front of a text, as it is looked for.
 use Rattle.std.specs.Prelude.{ℕ, Bool, if◌then◌else◌, List, [], ◌∷◌, Option, Some, None, length, take_while}
-use Rattle.sect_front.specs.Words.{is_name_byte, begins}
-use Rattle.sect_front.specs.Gaps.{begins_with}
+use Rattle.sect_front.specs.{Words.{is_name_byte, begins}, Gaps.{begins_with}, declared.token.Token.{Token}}
 use Rattle.sect_front.specs.steps.Recognition.{spelled, single_sign, double_sign}
-use Rattle.sect_front.specs.declared.token.Token.{Token}
 
 abbrev pub with_length : ℕ → Option Token → Option (Token × ℕ)
 with_length n None = None

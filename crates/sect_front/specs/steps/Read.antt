@@ -1,40 +1,29 @@
 -- One more token of a text.
 use Rattle.std.specs.Prelude.{◌≡◌, List, [], ◌∷◌, ◌++◌, Option, Some, None, option_and_then, Result, Ok, Err, ⊤, ℕ}
-use Rattle.sect_front.specs.Syntax.{BlockView, End}
-use Rattle.sect_front.specs.TreeView.{TreeView}
-use Rattle.sect_front.specs.steps.WithinView.{WithinView}
-use Rattle.sect_front.specs.steps.Step.{Next, Stays, Ends, Stuck, step_of}
+use Rattle.sect_front.specs.{Syntax.{BlockView, End}, TreeView.{TreeView}, declared.token.Token.{Token}}
+use Rattle.sect_front.specs.{declared.tree.Record.{Record}, declared.tree.GlobalObject.{GlobalObject}}
+use Rattle.sect_front.specs.{declared.tree.Procedure.{Procedure}, declared.tree.Thread.{Thread}}
+use Rattle.sect_front.specs.{declared.tree.Declaration.{Declaration}, declared.tree.Kind.{Kind}}
+use Rattle.sect_front.specs.{declared.within.StepError.{StepError}, declared.reader.Part.{Part}}
+use Rattle.sect_front.specs.{declared.reader.RecordStage.{RecordStage}, declared.reader.GlobalStage.{GlobalStage}}
+use Rattle.sect_front.specs.{declared.reader.ProcedureStage.{ProcedureStage}, declared.reader.ThreadStage.{ThreadStage}}
+use Rattle.sect_front.specs.{declared.reader.Owner.{Owner}, declared.reader.BodyStage.{BodyStage}}
+use Rattle.sect_front.specs.{declared.reader.Outside.{Outside}, declared.reader.Stage.{Stage}}
+use Rattle.sect_front.specs.steps.{WithinView.{WithinView}, Step.{Next, Stays, Ends, Stuck, step_of}}
 use Rattle.sect_front.specs.steps.ReaderView.{ReaderView, reading, among}
-use Rattle.sect_front.specs.declared.token.Token.{Token}
 use Rattle.sect_front.specs.declared.token.Token.TheVariants as token
-use Rattle.sect_front.specs.declared.tree.Record.{Record}
-use Rattle.sect_front.specs.declared.tree.GlobalObject.{GlobalObject}
-use Rattle.sect_front.specs.declared.tree.Procedure.{Procedure}
-use Rattle.sect_front.specs.declared.tree.Thread.{Thread}
-use Rattle.sect_front.specs.declared.tree.Declaration.{Declaration}
-use Rattle.sect_front.specs.declared.tree.Kind.{Kind}
 use Rattle.sect_front.specs.declared.tree.Kind.TheVariants as kind
 use Rattle.sect_front.specs.declared.partial.PartialHead.TheVariants as line
 use Rattle.sect_front.specs.declared.within.Partial.TheVariants as place
-use Rattle.sect_front.specs.declared.within.StepError.{StepError}
 use Rattle.sect_front.specs.declared.within.StepError.TheVariants as error
-use Rattle.sect_front.specs.declared.reader.Part.{Part}
 use Rattle.sect_front.specs.declared.reader.Part.TheVariants as part
-use Rattle.sect_front.specs.declared.reader.RecordStage.{RecordStage}
 use Rattle.sect_front.specs.declared.reader.RecordStage.TheVariants as in_record
-use Rattle.sect_front.specs.declared.reader.GlobalStage.{GlobalStage}
 use Rattle.sect_front.specs.declared.reader.GlobalStage.TheVariants as in_global
-use Rattle.sect_front.specs.declared.reader.ProcedureStage.{ProcedureStage}
 use Rattle.sect_front.specs.declared.reader.ProcedureStage.TheVariants as in_procedure
-use Rattle.sect_front.specs.declared.reader.ThreadStage.{ThreadStage}
 use Rattle.sect_front.specs.declared.reader.ThreadStage.TheVariants as in_thread
-use Rattle.sect_front.specs.declared.reader.Owner.{Owner}
 use Rattle.sect_front.specs.declared.reader.Owner.TheVariants as owner
-use Rattle.sect_front.specs.declared.reader.BodyStage.{BodyStage}
 use Rattle.sect_front.specs.declared.reader.BodyStage.TheVariants as in_body
-use Rattle.sect_front.specs.declared.reader.Outside.{Outside}
 use Rattle.sect_front.specs.declared.reader.Outside.TheVariants as outside
-use Rattle.sect_front.specs.declared.reader.Stage.{Stage}
 use Rattle.sect_front.specs.declared.reader.Stage.TheVariants as stage
 
 -- one more declaration

@@ -1,11 +1,9 @@
 -- How far a text has been read: its declarations so far, and where in the next one.
 use Rattle.std.specs.Prelude.{List, []}
-use Rattle.sect_front.specs.TreeView.{TreeView}
-use Rattle.sect_front.specs.steps.WithinView.{WithinView}
-use Rattle.sect_front.specs.declared.tree.Declaration.{Declaration}
-use Rattle.sect_front.specs.declared.reader.Owner.{Owner}
-use Rattle.sect_front.specs.declared.reader.Outside.{Outside}
+use Rattle.sect_front.specs.{TreeView.{TreeView}, declared.tree.Declaration.{Declaration}}
+use Rattle.sect_front.specs.{declared.reader.Owner.{Owner}, declared.reader.Outside.{Outside}}
 use Rattle.sect_front.specs.declared.reader.Stage.{Stage}
+use Rattle.sect_front.specs.steps.WithinView.{WithinView}
 use Rattle.sect_front.specs.declared.reader.Stage.TheVariants as stage
 
 pub record ReaderView : Type 0 where

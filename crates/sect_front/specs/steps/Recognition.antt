@@ -1,12 +1,9 @@
 -- The token that bytes spell, as it is looked for.
 use Rattle.std.specs.Prelude.{ℕ, ◌+◌, ◌-◌, ◌*◌, ◌&&◌, ◌==◌, nat_lt, if◌then◌else◌, List, [], ◌∷◌, Option, Some, None}
-use Rattle.std.specs.Prelude.{length, codes, nat_eq}
-use Rattle.std.specs.List.{list_all, filter}
-use Rattle.std.specs.Str.{bytes_eq}
-use Rattle.sect_front.specs.Limits.{most_name_bytes}
-use Rattle.sect_front.specs.Words.{is_letter, is_digit, is_name_byte}
-use Rattle.sect_front.specs.declared.tree.Comparison.TheVariants as comparison
+use Rattle.std.specs.{Prelude.{length, codes, nat_eq}, List.{list_all, filter}, Str.{bytes_eq}}
+use Rattle.sect_front.specs.{Limits.{most_name_bytes}, Words.{is_letter, is_digit, is_name_byte}}
 use Rattle.sect_front.specs.declared.token.Token.{Token}
+use Rattle.sect_front.specs.declared.tree.Comparison.TheVariants as comparison
 use Rattle.sect_front.specs.declared.token.Token.TheVariants as token
 
 -- the keywords and their spellings

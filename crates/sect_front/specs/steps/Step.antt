@@ -1,24 +1,19 @@
 -- One more token.
 use Rattle.std.specs.Prelude.{◌≡◌, ℕ, List, [], ◌∷◌, ◌++◌, Option, Some, None, Result, Ok, Err, ⊤}
 use Rattle.sect_front.specs.Syntax.{StatementView, BlockView, Primitive, If, IfElse, While, Atomic, Call, End}
-use Rattle.sect_front.specs.Trees.{append}
-use Rattle.sect_front.specs.steps.WithinView.{WithinView}
-use Rattle.sect_front.specs.steps.Advance.{advance_of, operand_of}
-use Rattle.sect_front.specs.declared.token.Token.{Token}
+use Rattle.sect_front.specs.{Trees.{append}, declared.token.Token.{Token}, declared.tree.Operand.{Operand}}
+use Rattle.sect_front.specs.{declared.partial.PartialCall.{PartialCall}, declared.partial.Move.{Move}}
+use Rattle.sect_front.specs.{declared.within.OpenBlock.{OpenBlock}, declared.within.Partial.{Partial}}
+use Rattle.sect_front.specs.declared.within.StepError.{StepError}
+use Rattle.sect_front.specs.steps.{WithinView.{WithinView}, Advance.{advance_of, operand_of}}
 use Rattle.sect_front.specs.declared.token.Token.TheVariants as token
-use Rattle.sect_front.specs.declared.tree.Operand.{Operand}
 use Rattle.sect_front.specs.declared.partial.PartialHead.TheVariants as line
-use Rattle.sect_front.specs.declared.partial.PartialCall.{PartialCall}
 use Rattle.sect_front.specs.declared.partial.PartialCall.TheVariants as call
 use Rattle.sect_front.specs.declared.partial.Branch.TheVariants as branch
 use Rattle.sect_front.specs.declared.partial.PartialBranch.TheVariants as head
-use Rattle.sect_front.specs.declared.partial.Move.{Move}
 use Rattle.sect_front.specs.declared.partial.Move.TheVariants as move
-use Rattle.sect_front.specs.declared.within.OpenBlock.{OpenBlock}
 use Rattle.sect_front.specs.declared.within.OpenBlock.TheVariants as open_block
-use Rattle.sect_front.specs.declared.within.Partial.{Partial}
 use Rattle.sect_front.specs.declared.within.Partial.TheVariants as place
-use Rattle.sect_front.specs.declared.within.StepError.{StepError}
 use Rattle.sect_front.specs.declared.within.StepError.TheVariants as error
 
 -- what a token leads to

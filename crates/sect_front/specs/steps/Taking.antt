@@ -1,10 +1,7 @@
 -- Which tokens are taken.
 use Rattle.std.specs.Prelude.{Bool, true, false, is_some}
-use Rattle.sect_front.specs.declared.token_kind.TokenKind.{TokenKind}
-use Rattle.sect_front.specs.Samples.{sample_of}
-use Rattle.sect_front.specs.steps.Step.{Next, Stays, Ends, Stuck}
-use Rattle.sect_front.specs.steps.ReaderView.{ReaderView}
-use Rattle.sect_front.specs.steps.Read.{read_one}
+use Rattle.sect_front.specs.{declared.token_kind.TokenKind.{TokenKind}, Samples.{sample_of}}
+use Rattle.sect_front.specs.steps.{Step.{Next, Stays, Ends, Stuck}, ReaderView.{ReaderView}, Read.{read_one}}
 
 abbrev pub is_taken : Next → Bool
 is_taken (Stays x) = true

@@ -1,14 +1,9 @@
 -- What a reading of a text answers.
 use Rattle.std.specs.Prelude.{◌≡◌, ℕ, ◌≤◌, List, ◌++◌, Some, Result, Ok, Err, ⊤, length, slice_get}
-use Rattle.sect_front.specs.TreeView.{TreeView}
-use Rattle.sect_front.specs.TokenAt.{TokenAt}
-use Rattle.sect_front.specs.Gaps.{after_gap}
-use Rattle.sect_front.specs.Lexing.{Reaches, Spells, IsBadAt}
-use Rattle.sect_front.specs.Expected.{AreExpectedAt}
-use Rattle.sect_front.specs.FaultPlaces.{token_span}
+use Rattle.sect_front.specs.{TreeView.{TreeView}, TokenAt.{TokenAt}, Gaps.{after_gap}}
+use Rattle.sect_front.specs.{Lexing.{Reaches, Spells, IsBadAt}, Expected.{AreExpectedAt}, FaultPlaces.{token_span}}
 use Rattle.sect_front.specs.Faults.{tokens_in, IsTree, IsUnexpectedAt, IsTooDeepAt, IsUnfinished}
-use Rattle.sect_front.specs.declared.span.Span.{Span}
-use Rattle.sect_front.specs.declared.token.Token.{Token}
+use Rattle.sect_front.specs.{declared.span.Span.{Span}, declared.token.Token.{Token}}
 use Rattle.sect_front.specs.declared.reading.ReadFault.{ReadFault}
 use Rattle.sect_front.specs.declared.reading.ReadFault.TheVariants as fault
 

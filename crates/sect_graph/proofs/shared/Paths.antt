@@ -1,10 +1,9 @@
 -- Paths of graphs, put together and taken apart.
 use Rattle.std.proofs.Common.{◌≡◌, ℕ, List, [], ◌∷◌, ◌++◌, Some, length, ap, ◌∙◌, subst, sym, arith}
-use Rattle.std.specs.Prelude.{slice_get}
 use Rattle.std.proofs.lemmas.Option.{slice_get_within}
+use Rattle.std.specs.Prelude.{slice_get}
 use Rattle.sect_types.specs.Traces.{Visit, visit}
-use Rattle.sect_graph.specs.declared.flow.Node.{Node}
-use Rattle.sect_graph.specs.Paths.{IsPath}
+use Rattle.sect_graph.specs.{declared.flow.Node.{Node}, Paths.{IsPath}}
 
 -- a path from a node begins with what the node does
 pub path_begins : (g : List Node) (j : ℕ) (y : Node) (steps : List Visit) → slice_get g j ≡ Some y

@@ -1,15 +1,11 @@
 -- Lists in which no two elements are one.
 use Rattle.std.proofs.Common.{◌≡◌, ◌↔◌, ◌⊎◌, inl, inr, ℕ, zero, suc, ◌≤◌, List, [], ◌∷◌, ◌++◌, Some, Bool, true, false}
 use Rattle.std.proofs.Common.{nat_eq, length, refl, sym, ap, ◌∙◌, subst, true≢false}
-use Rattle.std.specs.Prelude.{slice_get}
-use Rattle.std.specs.Bool.{Decides}
-use Rattle.std.specs.Cmp.{IsEquivalence, unsigned_Decides}
-use Rattle.std.specs.List.{IsDistinct, AllByRecursion}
 use Rattle.std.proofs.lemmas.Map.Made.{length-le_from_is_member}
+use Rattle.std.specs.{Prelude.{slice_get}, Bool.{Decides}, Cmp.{IsEquivalence, unsigned_Decides}}
+use Rattle.std.specs.List.{IsDistinct, AllByRecursion}
 use Rattle.sect_lemmas.specs.Lists.{Has}
-use Rattle.sect_lemmas.proofs.Membership.{Has-cases, Has-slice_get}
-use Rattle.sect_lemmas.proofs.Finding.{any_tells}
-use Rattle.sect_lemmas.proofs.Inserting.{inserted}
+use Rattle.sect_lemmas.proofs.{Membership.{Has-cases, Has-slice_get}, Finding.{any_tells}, Inserting.{inserted}}
 use Rattle.sect_infer.specs.Numbers.{has_number, with_number, AreApart}
 
 -- one more element, which isn't there

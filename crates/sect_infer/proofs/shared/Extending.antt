@@ -1,8 +1,7 @@
 -- Numberings that are extended.
 use Rattle.std.proofs.Common.{◌≡◌, ℕ, zero, suc, ◌<◌, List, [], ◌∷◌, ◌++◌, Some, length, sym, ap, ◌∙◌, subst}
-use Rattle.std.proofs.Common.{append_assoc, length-append, arith}
+use Rattle.std.proofs.{Common.{append_assoc, length-append, arith}, lemmas.List.{append-nil}}
 use Rattle.std.specs.Prelude.{slice_get}
-use Rattle.std.proofs.lemmas.List.{append-nil}
 use Rattle.sect_names.specs.declared.lock.Lock.{Lock}
 use Rattle.sect_infer.specs.Numberings.{NumberingView, HasLock, AreNumbers, Extends}
 

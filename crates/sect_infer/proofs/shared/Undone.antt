@@ -1,15 +1,11 @@
 -- Numbers of locks that others cover.
 use Rattle.std.proofs.Common.{◌≡◌, inl, inr, ℕ, List, [], ◌∷◌, Some, Bool, true, false, refl, sym, ap, ◌∙◌, subst}
 use Rattle.std.proofs.Common.{true≢false}
-use Rattle.std.specs.Prelude.{slice_get, slice_index_or, ◌||◌}
-use Rattle.std.specs.List.{list_any}
+use Rattle.std.specs.{Prelude.{slice_get, slice_index_or, ◌||◌}, List.{list_any}}
 use Rattle.sect_lemmas.specs.Lists.{Has}
 use Rattle.sect_lemmas.proofs.Membership.{Has-slice_get}
-use Rattle.sect_names.specs.declared.lock.Lock.{Lock}
-use Rattle.sect_names.specs.Schemes.{SchemeView}
-use Rattle.sect_names.specs.Locks.{IsOutdone}
-use Rattle.sect_infer.specs.Numbers.{has_number}
-use Rattle.sect_infer.specs.Numberings.{NumberingView, HasLock, IsNumbering, is_under}
+use Rattle.sect_names.specs.{declared.lock.Lock.{Lock}, Schemes.{SchemeView}, Locks.{IsOutdone}}
+use Rattle.sect_infer.specs.{Numbers.{has_number}, Numberings.{NumberingView, HasLock, IsNumbering, is_under}}
 use Rattle.sect_infer.proofs.shared.Apart.{apart_one, number_tells}
 
 -- what passes a test that some element passes

@@ -1,12 +1,10 @@
 -- The locks that are found for a section's graph, before what is found is told of the traces.
 use Rattle.std.specs.Prelude.{◌≡◌, ℕ, ◌+◌, List, Some, slice_get, length}
 use Rattle.sect_graph.specs.declared.flow.Node.{Node}
-use Rattle.sect_names.specs.declared.lock.Lock.{Lock}
-use Rattle.sect_names.specs.declared.lock.Lock.TheVariants as lock
-use Rattle.sect_names.specs.Schemes.{SchemeView}
-use Rattle.sect_names.specs.Order.{AreMaximal}
+use Rattle.sect_names.specs.{declared.lock.Lock.{Lock}, Schemes.{SchemeView}, Order.{AreMaximal}}
 use Rattle.sect_infer.specs.Sets.{LocksView}
 use Rattle.sect_infer.specs.steps.Needs.{need, IsDerived}
+use Rattle.sect_names.specs.declared.lock.Lock.TheVariants as lock
 
 -- at each node, the exit too, the maximal ones of the locks that are derived there
 pub record AreFound (s : SchemeView) (t : ℕ) (g : List Node) (at : List (List Lock)) : Type 0 where

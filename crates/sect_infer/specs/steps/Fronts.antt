@@ -1,7 +1,6 @@
 -- Lists that lie in rows: the first numbers of a row. The type that keeps the numbers of each node cites it.
 use Rattle.std.specs.Prelude.{◌≡◌, ◌<◌, ◌≤◌, ◌⊎◌, ◌++◌, ◌∷◌, [], ℕ, List, map, take, length, slice_index_or}
-use Rattle.std.specs.declared.vec.Vec.{Vec}
-use Rattle.std.specs.Global.{Global}
+use Rattle.std.specs.{declared.vec.Vec.{Vec}, Global.{Global}}
 use Rattle.sect_lemmas.specs.Lists.{Has}
 use Rattle.sect_infer.specs.declared.lists.Front.{Front}
 

@@ -1,10 +1,8 @@
 -- Locks in canonical order by their numbers.
 use Rattle.std.specs.Prelude.{◌≡◌, ◌<◌, ◌&&◌, ℕ, Bool, not, List, [], map, filter, length, slice_index_or}
 use Rattle.sect_lemmas.specs.Lists.{Has}
-use Rattle.sect_names.specs.declared.lock.Lock.{Lock}
-use Rattle.sect_names.specs.Order.{AreInOrder}
-use Rattle.sect_infer.specs.Numbers.{has_number, with_numbers}
-use Rattle.sect_infer.specs.Numberings.{NumberingView, is_under, lock_at}
+use Rattle.sect_names.specs.{declared.lock.Lock.{Lock}, Order.{AreInOrder}}
+use Rattle.sect_infer.specs.{Numbers.{has_number, with_numbers}, Numberings.{NumberingView, is_under, lock_at}}
 
 -- these are numbers of locks, in the canonical order of these, and each that one of the lists has is one of them
 pub record IsOrder (keys : List Lock) (lists : List (List ℕ)) (order : List ℕ) : Type 0 where

@@ -1,13 +1,8 @@
 -- Locks that are needed at the nodes of a section's graph, one from another.
 use Rattle.std.specs.Prelude.{◌≡◌, ℕ, zero, suc, List, Some, slice_get}
-use Rattle.sect_graph.specs.declared.flow.Node.{Node}
-use Rattle.sect_graph.specs.Paths.{LeadsTo}
-use Rattle.sect_graph.specs.Predecessors.{StaysWithin}
-use Rattle.sect_names.specs.declared.lock.Lock.{Lock}
-use Rattle.sect_names.specs.Schemes.{SchemeView}
-use Rattle.sect_names.specs.Locks.{IsLockOf}
-use Rattle.sect_names.specs.Carrying.{Generated, CarriedBack}
-use Rattle.sect_names.specs.Laws.{RespectsCover}
+use Rattle.sect_graph.specs.{declared.flow.Node.{Node}, Paths.{LeadsTo}, Predecessors.{StaysWithin}}
+use Rattle.sect_names.specs.{declared.lock.Lock.{Lock}, Schemes.{SchemeView}, Locks.{IsLockOf}}
+use Rattle.sect_names.specs.{Carrying.{Generated, CarriedBack}, Laws.{RespectsCover}}
 
 -- a lock that is needed from a node on
 pub record Need : Type 0 where

@@ -1,7 +1,5 @@
 -- Nodes that wait: all below one, and some from it on.
-use Rattle.std.specs.Prelude.{◌≤◌, ℕ, List}
-use Rattle.std.specs.List.Sorted.{IsStrictlySortedBy}
-use Rattle.std.specs.Ordering.{nat_cmp}
+use Rattle.std.specs.{Prelude.{◌≤◌, ℕ, List}, List.Sorted.{IsStrictlySortedBy}, Ordering.{nat_cmp}}
 use Rattle.sect_lemmas.specs.Lists.{Has}
 
 -- in order, and none below

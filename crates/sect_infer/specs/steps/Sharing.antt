@@ -1,14 +1,10 @@
 -- Locks of sections that workers have found. The private functions under `infer_all` cite it.
 use Rattle.std.specs.Prelude.{◌≡◌, ◌<◌, ◌%◌, ◌==◌, ℕ, List, Option, Some, length, map, filter, slice_get, Result}
-use Rattle.std.specs.List.{range_with_len}
-use Rattle.std.specs.Global.{Global}
-use Rattle.std.specs.declared.vec.Vec.{Vec}
-use Rattle.std.specs.declared.alloc.AllocError.{AllocError}
-use Rattle.std.specs.declared.thread.PromisedHandle.{PromisedHandle}
+use Rattle.std.specs.{List.{range_with_len}, Global.{Global}, declared.vec.Vec.{Vec}}
+use Rattle.std.specs.{declared.alloc.AllocError.{AllocError}, declared.thread.PromisedHandle.{PromisedHandle}}
 use Rattle.sect_types.specs.Sections.{sections_of}
 use Rattle.sect_names.specs.Schemes.{SchemeView}
-use Rattle.sect_infer.specs.Sets.{LocksView, AreInferredAt}
-use Rattle.sect_infer.specs.declared.workers.SectionLocks.{SectionLocks}
+use Rattle.sect_infer.specs.{Sets.{LocksView, AreInferredAt}, declared.workers.SectionLocks.{SectionLocks}}
 use Rattle.sect_infer.specs.declared.workers.ShareOf.{ShareOf}
 
 -- each is of a section of the program

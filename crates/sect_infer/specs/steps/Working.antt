@@ -1,17 +1,12 @@
 -- The worklist: the locks that are found at the nodes of a section's graph.
-use Rattle.std.specs.Prelude.{◌≡◌, ◌↔◌, ◌<◌, ◌+◌, ◌⊎◌, ℕ, Bool, true, false, List, [], ◌++◌, Some, length}
-use Rattle.std.specs.Prelude.{slice_get, slice_index_or, slice_set}
+use Rattle.std.specs.Prelude.{◌≡◌, ◌↔◌, ◌<◌, ◌+◌, ◌⊎◌, ℕ, Bool, true, false, List, [], ◌++◌, Some, length, slice_get}
+use Rattle.std.specs.Prelude.{slice_index_or, slice_set}
 use Rattle.sect_types.specs.declared.expansion.action.Label.{Label}
 use Rattle.sect_lemmas.specs.Lists.{Has}
-use Rattle.sect_graph.specs.declared.flow.Node.{Node}
-use Rattle.sect_graph.specs.declared.flow.Successors.TheVariants.{Next}
-use Rattle.sect_graph.specs.Paths.{LeadsTo}
-use Rattle.sect_names.specs.declared.lock.Lock.{Lock}
-use Rattle.sect_names.specs.Schemes.{SchemeView}
-use Rattle.sect_names.specs.Locks.{Covers, IsLockOf, IsOutdone}
+use Rattle.sect_graph.specs.{declared.flow.Node.{Node}, declared.flow.Successors.TheVariants.{Next}, Paths.{LeadsTo}}
+use Rattle.sect_names.specs.{declared.lock.Lock.{Lock}, Schemes.{SchemeView}, Locks.{Covers, IsLockOf, IsOutdone}}
 use Rattle.sect_names.specs.Carrying.{CarriedBack}
-use Rattle.sect_infer.specs.Numbers.{AreApart}
-use Rattle.sect_infer.specs.Numberings.{NumberingView, HasLock, AreNumbers, IsNumbering, Extends}
+use Rattle.sect_infer.specs.{Numbers.{AreApart}, Numberings.{NumberingView, HasLock, AreNumbers, IsNumbering, Extends}}
 use Rattle.sect_infer.specs.steps.Needs.{need, IsSeed, IsDerived}
 
 -- the lock was found at the node

@@ -2,10 +2,8 @@
 use Rattle.std.specs.Prelude.{◌≡◌, ℕ, List, length}
 use Rattle.serde_json.specs.Data.{Data}
 use Rattle.sect_names.specs.declared.link.Link.{Link}
-use Rattle.sect_emit.specs.Compiled.{CompiledView}
-use Rattle.sect_emit.specs.Explaining.{IsChained}
-use Rattle.sect_json.specs.Values.{by_place}
-use Rattle.sect_json.specs.Explaining.{AreChained, explained_json}
+use Rattle.sect_emit.specs.{Compiled.{CompiledView}, Explaining.{IsChained}}
+use Rattle.sect_json.specs.{Values.{by_place}, Explaining.{AreChained, explained_json}}
 
 -- this is section i, with a chain for each of its locks
 pub record IsExplained (c : CompiledView) (i : ℕ) (value : Data) : Type 0 where

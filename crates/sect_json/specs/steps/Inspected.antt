@@ -1,26 +1,17 @@
 -- What a document is made of. The private functions that make it cite this.
 use Rattle.std.specs.Prelude.{◌≡◌, ℕ, List, [], ◌∷◌, ◌++◌, Option, Some, None, codes, length, map}
 use Rattle.std.specs.String.{string_bytes}
-use Rattle.serde_json.specs.Data.{Data}
-use Rattle.serde_json.specs.View.{view}
-use Rattle.serde_json.specs.Written.{compact_text}
-use Rattle.sect_types.specs.Sections.{sections_of}
-use Rattle.sect_types.specs.declared.expansion.action.Action.TheVariants as action
-use Rattle.sect_types.specs.declared.expansion.action.Label.{Label}
-use Rattle.sect_types.specs.declared.expansion.action.Label.TheVariants as label
-use Rattle.sect_places.specs.NodeSpans.{AreNodeSpans}
-use Rattle.sect_places.specs.Spans.{AreProper}
-use Rattle.sect_places.specs.declared.name_use.NameSpan.{NameSpan}
+use Rattle.serde_json.specs.{Data.{Data}, View.{view}, Written.{compact_text}}
+use Rattle.sect_types.specs.{Sections.{sections_of}, declared.expansion.action.Label.{Label}}
+use Rattle.sect_places.specs.{NodeSpans.{AreNodeSpans}, Spans.{AreProper}, declared.name_use.NameSpan.{NameSpan}}
 use Rattle.sect_emit.specs.Compiled.{program_of}
-use Rattle.sect_json.specs.Values.{count, list, record_of, AreTold}
-use Rattle.sect_json.specs.Calls.{procedure_json}
-use Rattle.sect_json.specs.Inspecting.{ThreadTold, IsSectionInspected, inspection_json}
-use Rattle.sect_json.specs.Sites.{SiteTold, AreClasses}
-use Rattle.sect_json.specs.declared.context.Inspected.{Inspected}
-use Rattle.sect_json.specs.declared.inspecting.Threaded.{Threaded}
-use Rattle.sect_json.specs.declared.sites.Sited.{Sited}
-use Rattle.sect_json.specs.declared.sites.Made.{Made}
+use Rattle.sect_json.specs.{Values.{count, list, record_of, AreTold}, Calls.{procedure_json}}
+use Rattle.sect_json.specs.{Inspecting.{ThreadTold, IsSectionInspected, inspection_json}, Sites.{SiteTold, AreClasses}}
+use Rattle.sect_json.specs.{declared.context.Inspected.{Inspected}, declared.inspecting.Threaded.{Threaded}}
+use Rattle.sect_json.specs.{declared.sites.Sited.{Sited}, declared.sites.Made.{Made}}
 use Rattle.sect_json.specs.steps.Writes.{member_text}
+use Rattle.sect_types.specs.declared.expansion.action.Action.TheVariants as action
+use Rattle.sect_types.specs.declared.expansion.action.Label.TheVariants as label
 
 -- these names stand in a text of so many bytes
 abbrev pub AreNamesWithin : ℕ → List NameSpan → Type 0

@@ -1,21 +1,14 @@
 -- Sections as they are written.
 use Rattle.std.specs.Prelude.{◌≡◌, ℕ, List, [], ◌∷◌, ◌++◌, codes, map, slice_index_or}
-use Rattle.serde_json.specs.Data.{Data}
-use Rattle.serde_json.specs.Written.{compact_text}
+use Rattle.serde_json.specs.{Data.{Data}, Written.{compact_text}}
 use Rattle.sect_graph.specs.Layout.{flow_nodes}
 use Rattle.sect_infer.specs.Sets.{AreNeeded}
-use Rattle.sect_names.specs.Needed.{end_of}
-use Rattle.sect_names.specs.declared.link.Link.{Link}
-use Rattle.sect_names.specs.declared.lock.Lock.{Lock}
-use Rattle.sect_places.specs.NodeSpans.{NodeSpansView}
-use Rattle.sect_places.specs.Spans.{no_span}
+use Rattle.sect_names.specs.{Needed.{end_of}, declared.link.Link.{Link}, declared.lock.Lock.{Lock}}
+use Rattle.sect_places.specs.{NodeSpans.{NodeSpansView}, Spans.{no_span}}
 use Rattle.sect_lint.specs.Json.{span_json}
-use Rattle.sect_emit.specs.Compiled.{CompiledView}
-use Rattle.sect_emit.specs.Explaining.{IsChained, section_at}
-use Rattle.sect_json.specs.Values.{count, list, by_place, record_of, AreTold}
-use Rattle.sect_json.specs.Compiling.{plan_json}
-use Rattle.sect_json.specs.Explaining.{chain_json}
-use Rattle.sect_json.specs.Inspecting.{section_node_json, IsSectionInspected}
+use Rattle.sect_emit.specs.{Compiled.{CompiledView}, Explaining.{IsChained, section_at}}
+use Rattle.sect_json.specs.{Values.{count, list, by_place, record_of, AreTold}, Compiling.{plan_json}}
+use Rattle.sect_json.specs.{Explaining.{chain_json}, Inspecting.{section_node_json, IsSectionInspected}}
 use Rattle.sect_json.specs.declared.context.Inspected.{Inspected}
 use Rattle.sect_json.specs.steps.Writes.{elements_from}
 

@@ -4,10 +4,8 @@ use Rattle.serde_json.specs.Data.{Data, string}
 use Rattle.sect_lemmas.specs.Lists.{Has}
 use Rattle.sect_types.specs.Sections.{sections_of}
 use Rattle.sect_names.specs.declared.link.Link.{Link}
-use Rattle.sect_emit.specs.Compiled.{CompiledView, program_of}
-use Rattle.sect_emit.specs.Explaining.{section_deed}
-use Rattle.sect_json.specs.Values.{count, record_of}
-use Rattle.sect_json.specs.declared.step_texts.Stepped.{Stepped}
+use Rattle.sect_emit.specs.{Compiled.{CompiledView, program_of}, Explaining.{section_deed}}
+use Rattle.sect_json.specs.{Values.{count, record_of}, declared.step_texts.Stepped.{Stepped}}
 use Rattle.sect_json.specs.steps.Writes.{tail_text}
 
 -- a step without its lock: the node and what it does

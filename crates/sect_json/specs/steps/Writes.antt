@@ -1,8 +1,6 @@
 -- Documents as they are written, part by part.
-use Rattle.std.specs.Prelude.{◌≡◌, ℕ, ◌+◌, ◌==◌, if◌then◌else◌, List, [], ◌∷◌, ◌++◌, drop, map}
-use Rattle.std.specs.List.{flat_map}
-use Rattle.serde_json.specs.Data.{Data, string}
-use Rattle.serde_json.specs.Written.{compact_text}
+use Rattle.std.specs.{Prelude.{◌≡◌, ℕ, ◌+◌, ◌==◌, if◌then◌else◌, List, [], ◌∷◌, ◌++◌, drop, map}, List.{flat_map}}
+use Rattle.serde_json.specs.{Data.{Data, string}, Written.{compact_text}}
 use Rattle.sect_front.specs.TreeView.{TreeView}
 use Rattle.sect_names.specs.declared.lock.Lock.{Lock}
 use Rattle.sect_json.specs.Locks.{lock_json}

@@ -1,15 +1,9 @@
 -- The tokens of an item, read off a text.
 use Rattle.std.specs.Prelude.{◌≡◌, ◌<◌, ◌≤◌, ◌+◌, ℕ, List, length, map, get_or}
-use Rattle.sect_front.specs.TreeView.{TreeView}
-use Rattle.sect_front.specs.Front.{IsSpelled}
-use Rattle.sect_front.specs.FaultPlaces.{token_span}
-use Rattle.sect_front.specs.Grammar.{tokens_of}
+use Rattle.sect_front.specs.{TreeView.{TreeView}, Front.{IsSpelled}, FaultPlaces.{token_span}, Grammar.{tokens_of}}
 use Rattle.sect_front.specs.declared.span.Span.{Span}
-use Rattle.sect_places.specs.Spans.{AreInOrder, no_span}
-use Rattle.sect_places.specs.Openings.{IsOpening}
-use Rattle.sect_places.specs.declared.opening.Opening.{Opening}
-use Rattle.sect_lint.specs.Details.{own_range, own_tokens, own_spans}
-use Rattle.sect_lint.specs.declared.layout.Words.{Words}
+use Rattle.sect_places.specs.{Spans.{AreInOrder, no_span}, Openings.{IsOpening}, declared.opening.Opening.{Opening}}
+use Rattle.sect_lint.specs.{Details.{own_range, own_tokens, own_spans}, declared.layout.Words.{Words}}
 
 -- the text spells the tree, and these are the tokens of the item, with their bytes
 pub record AreOwnWords (source : List ℕ) (tree : TreeView) (item : ℕ) (words : Words) : Type 0 where

@@ -1,10 +1,8 @@
 -- Calls between procedures by number, where these are the names by which procedures are declared.
 use Rattle.std.specs.Prelude.{◌≡◌, ◌<◌, ℕ, true, List, Option, Some, slice_get}
 use Rattle.sect_lemmas.specs.Lists.{Has}
-use Rattle.sect_places.specs.Declarations.{is_called, is_procedure}
-use Rattle.sect_places.specs.declared.name_use.NameSpan.{NameSpan}
-use Rattle.sect_lint.specs.Calls.{is_call_in}
-use Rattle.sect_lint.specs.declared.circle.Link.{Link}
+use Rattle.sect_places.specs.{Declarations.{is_called, is_procedure}, declared.name_use.NameSpan.{NameSpan}}
+use Rattle.sect_lint.specs.{Calls.{is_call_in}, declared.circle.Link.{Link}}
 
 -- the call stands in the one procedure and calls the other
 pub record IsLink (declared : List NameSpan) (l : Link) : Type 0 where

@@ -1,24 +1,16 @@
 -- What is said beside the carets, whatever the places of names are.
 use Rattle.std.specs.Prelude.{◌≡◌, ◌&&◌, ℕ, Bool, true, false, List, ◌∷◌, Option, Some, None, map, nat_eq, slice_get}
-use Rattle.sect_front.specs.TreeView.{TreeView}
-use Rattle.sect_front.specs.declared.span.Span.{Span}
-use Rattle.sect_front.specs.declared.token.Token.{Token}
-use Rattle.sect_front.specs.declared.token.Token.TheVariants as token
+use Rattle.sect_front.specs.{TreeView.{TreeView}, declared.span.Span.{Span}, declared.token.Token.{Token}}
 use Rattle.sect_front.specs.declared.tree.Procedure.{Procedure}
 use Rattle.sect_types.specs.declared.rules.rule.TypeFault.{TypeFault}
-use Rattle.sect_types.specs.declared.rules.rule.TypeFault.TheVariants as types
-use Rattle.sect_places.specs.declared.name_use.NameUse.{NameUse}
-use Rattle.sect_places.specs.declared.name_use.NameSpan.{NameSpan}
-use Rattle.sect_places.specs.NameUses.{name_uses}
-use Rattle.sect_places.specs.Openings.{IsOpening}
-use Rattle.sect_places.specs.declared.opening.Opening.{Opening}
+use Rattle.sect_places.specs.{declared.name_use.NameUse.{NameUse}, declared.name_use.NameSpan.{NameSpan}}
+use Rattle.sect_places.specs.{NameUses.{name_uses}, Openings.{IsOpening}, declared.opening.Opening.{Opening}}
 use Rattle.sect_places.specs.Declarations.{is_declaration}
-use Rattle.sect_lint.specs.Places.{marked_name}
-use Rattle.sect_lint.specs.Limits.{limit_by, statement_limit}
-use Rattle.sect_lint.specs.Details.{IsToldOf, item_detail}
-use Rattle.sect_lint.specs.declared.limit.Limit.{Limit}
-use Rattle.sect_lint.specs.Counting.{counts_by, parameters_of}
+use Rattle.sect_lint.specs.{Places.{marked_name}, Limits.{limit_by, statement_limit}, Details.{IsToldOf, item_detail}}
+use Rattle.sect_lint.specs.{declared.limit.Limit.{Limit}, Counting.{counts_by, parameters_of}}
 use Rattle.sect_lint.specs.declared.diagnostic.Detail.{Detail}
+use Rattle.sect_front.specs.declared.token.Token.TheVariants as token
+use Rattle.sect_types.specs.declared.rules.rule.TypeFault.TheVariants as types
 use Rattle.sect_lint.specs.declared.diagnostic.Detail.TheVariants as detail
 
 -- a name is declared in that item

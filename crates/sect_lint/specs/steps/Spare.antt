@@ -1,6 +1,5 @@
 -- Whether what is declared isn't among what is referred to, by a test.
-use Rattle.std.specs.Prelude.{Bool, false, not, List, Option, Some, None}
-use Rattle.std.specs.List.{list_any}
+use Rattle.std.specs.{Prelude.{Bool, false, not, List, Option, Some, None}, List.{list_any}}
 use Rattle.sect_lint.specs.declared.unused.Referent.{Referent}
 use Rattle.sect_lint.specs.contracts.unused.ReferentPartialEq.TheImpl.{ghosts as the_referent_eq}
 

@@ -1,17 +1,13 @@
 -- Which names tell of a mistake.
-use Rattle.std.specs.Prelude.{◌≡◌, ◌&&◌, ◌||◌, ◌⊎◌, ℕ, Bool, true, false, not, List, filter, nat_eq}
-use Rattle.std.specs.List.{list_all}
+use Rattle.std.specs.{Prelude.{◌≡◌, ◌&&◌, ◌||◌, ◌⊎◌, ℕ, Bool, true, false, not, List, filter, nat_eq}, List.{list_all}}
 use Rattle.std.specs.Cmp.Lexicographic.{pointwise}
 use Rattle.sect_front.specs.TreeView.{TreeView}
 use Rattle.sect_types.specs.declared.rules.rule.TypeFault.{TypeFault}
+use Rattle.sect_places.specs.{declared.name_use.NameUse.{NameUse}, declared.name_use.Role.{Role}}
+use Rattle.sect_places.specs.{declared.wish.Wish.{Wish}, Declarations.{is_declaration}, NameUses.{name_uses}}
 use Rattle.sect_types.specs.declared.rules.rule.TypeFault.TheVariants as types
-use Rattle.sect_places.specs.declared.name_use.NameUse.{NameUse}
-use Rattle.sect_places.specs.declared.name_use.Role.{Role}
 use Rattle.sect_places.specs.declared.name_use.Role.TheVariants as role
-use Rattle.sect_places.specs.declared.wish.Wish.{Wish}
 use Rattle.sect_places.specs.declared.wish.Wish.TheVariants as wish
-use Rattle.sect_places.specs.Declarations.{is_declaration}
-use Rattle.sect_places.specs.NameUses.{name_uses}
 
 -- it stands behind a dot
 abbrev pub is_member : Role → Bool

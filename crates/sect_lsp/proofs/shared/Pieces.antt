@@ -1,19 +1,14 @@
 -- What comes behind changes nothing of the messages that have come.
-use Rattle.std.proofs.Common.{◌≡◌, ◌≢◌, ℕ, ◌+◌, ◌-◌, ◌≤◌, ◌⊎◌, List, [], ◌∷◌, ◌++◌, length, take, drop, Option}
-use Rattle.std.proofs.Common.{Some, None}
-use Rattle.std.proofs.Common.{Bool, true, false, cond, nat_eq, nat_lt, refl, sym, ap, subst, ◌∙◌, inl, inr, ⊎_elim}
-use Rattle.std.proofs.Common.{arith}
-use Rattle.std.proofs.Common.{append-nil}
-use Rattle.std.specs.Prelude.{option_map, codes}
-use Rattle.std.specs.List.{starts_with}
-use Rattle.std.specs.Cmp.Lexicographic.{pointwise}
+use Rattle.std.proofs.Common.{◌≡◌, ◌≢◌, ℕ, ◌+◌, ◌-◌, ◌≤◌, ◌⊎◌, List, [], ◌∷◌, ◌++◌, length, take, drop, Option, Some}
+use Rattle.std.proofs.Common.{None, Bool, true, false, cond, nat_eq, nat_lt, refl, sym, ap, subst, ◌∙◌, inl, inr}
+use Rattle.std.proofs.Common.{⊎_elim, arith, append-nil}
 use Rattle.std.proofs.lemmas.List.{take-append-le, take_all, length-take, length-append, length-drop, drop-append-le}
-use Rattle.std.proofs.lemmas.Bool.{and_parts, cases_lt, le-ltb, ltb-false}
-use Rattle.std.proofs.Math.Seq.{take-append-add}
+use Rattle.std.proofs.{lemmas.Bool.{and_parts, cases_lt, le-ltb, ltb-false}, Math.Seq.{take-append-add}}
+use Rattle.std.specs.{Prelude.{option_map, codes}, List.{starts_with}, Cmp.Lexicographic.{pointwise}}
 use Rattle.sect_lsp.specs.declared.framing.Front.TheVariants.{Message, Part, Malformed}
 use Rattle.sect_lsp.specs.declared.framing.TheConstants.{MOST_HEADER}
-use Rattle.sect_lsp.specs.Framing.{place_of, header_length, content_length, front_behind, front_by, front_of}
-use Rattle.sect_lsp.specs.Framing.{Spells, IsRest}
+use Rattle.sect_lsp.specs.Framing.{place_of, header_length, content_length, front_behind, front_by, front_of, Spells}
+use Rattle.sect_lsp.specs.Framing.{IsRest}
 
 -- which way a choice went
 chosen : {A : Type 0} (b : Bool) (x y z : A) → cond b x y ≡ z → ((b ≡ true) × (x ≡ z)) ⊎ ((b ≡ false) × (y ≡ z))

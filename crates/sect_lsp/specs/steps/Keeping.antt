@@ -1,11 +1,9 @@
 -- Open documents with what their texts are compiled to.
-use Rattle.std.specs.Prelude.{◌≡◌, ⊤, ℕ, if◌then◌else◌, List, [], ◌∷◌, Option, Some, None}
-use Rattle.std.specs.Str.{bytes_eq}
+use Rattle.std.specs.{Prelude.{◌≡◌, ⊤, ℕ, if◌then◌else◌, List, [], ◌∷◌, Option, Some, None}, Str.{bytes_eq}}
 use Rattle.sect_emit.specs.Compiled.{CompiledView}
-use Rattle.sect_lsp.specs.declared.server.Phase.{Phase}
-use Rattle.sect_lsp.specs.declared.server.Phase.TheVariants as phase
+use Rattle.sect_lsp.specs.{declared.server.Phase.{Phase}, Documents.{DocumentView}}
 use Rattle.sect_editor.specs.Accepted.{IsCompiledIf}
-use Rattle.sect_lsp.specs.Documents.{DocumentView}
+use Rattle.sect_lsp.specs.declared.server.Phase.TheVariants as phase
 
 -- a document with the compiled program of its text, unless that is refused
 pub record KeptView : Type 0 where

@@ -1,10 +1,7 @@
 -- A session that goes on.
-use Rattle.std.specs.Prelude.{◌≡◌, ℕ, List, ◌++◌, Option, Some}
-use Rattle.std.specs.Io.KnownBytes.{Appends}
+use Rattle.std.specs.{Prelude.{◌≡◌, ℕ, List, ◌++◌, Option, Some}, Io.KnownBytes.{Appends}}
 use Rattle.serde_json.specs.Data.{Data}
-use Rattle.sect_lsp.specs.Framing.{Spells}
-use Rattle.sect_lsp.specs.Server.{ServerView, Step, start}
-use Rattle.sect_lsp.specs.Sessions.{Runs, AreSent}
+use Rattle.sect_lsp.specs.{Framing.{Spells}, Server.{ServerView, Step, start}, Sessions.{Runs, AreSent}}
 
 -- these bytes have come or will come: messages were taken, what is in the inbox isn't taken yet, and what is left
 -- hasn't come. The writer has been given what was sent

@@ -1,28 +1,20 @@
 -- Schemes that differ in their points-to sets alone, where paths have the same classes, know the same locks.
 use Rattle.std.proofs.Common.{◌≡◌, ℕ, List, [], ◌∷◌, Option, inl, inr}
-use Rattle.sect_types.specs.declared.expansion.action.Field.{Field}
-use Rattle.sect_types.specs.declared.expansion.action.Action.{Action}
-use Rattle.sect_types.specs.declared.expansion.action.Action.TheVariants as action
+use Rattle.sect_types.specs.{declared.expansion.action.Field.{Field}, declared.expansion.action.Action.{Action}}
 use Rattle.sect_types.specs.declared.expansion.action.Label.{Label}
-use Rattle.sect_types.specs.declared.expansion.action.Label.TheVariants as label
 use Rattle.sect_graph.specs.declared.flow.Node.{Node}
-use Rattle.sect_points.specs.declared.holders.Holder.TheVariants as holder
 use Rattle.sect_points.specs.declared.holders.Variable.{Variable}
-use Rattle.sect_points.specs.declared.holders.Variable.TheVariants.{Global, Local}
-use Rattle.sect_points.specs.Flow.{Family, Within}
-use Rattle.sect_points.specs.Paths.{PathView, var, dot, VariableHas, PathHas}
-use Rattle.sect_points.specs.PathClasses.{variable_of, variable_in}
-use Rattle.sect_points.specs.Sets.{PointsToView, InSets}
-use Rattle.sect_points.specs.Partitions.{ClassesView, HasClass}
-use Rattle.sect_names.specs.declared.lock.Effect.{Effect}
-use Rattle.sect_names.specs.declared.lock.Lock.{Lock}
-use Rattle.sect_names.specs.declared.lock.Lock.TheVariants as lock
-use Rattle.sect_names.specs.declared.link.Link.{Link}
-use Rattle.sect_names.specs.Schemes.{SchemeView}
-use Rattle.sect_names.specs.Locks.{IsLockOf, Covers, CoveredBy}
+use Rattle.sect_points.specs.{declared.holders.Variable.TheVariants.{Global, Local}, Flow.{Family, Within}}
+use Rattle.sect_points.specs.{Paths.{PathView, var, dot, VariableHas, PathHas}, PathClasses.{variable_of, variable_in}}
+use Rattle.sect_points.specs.{Sets.{PointsToView, InSets}, Partitions.{ClassesView, HasClass}}
+use Rattle.sect_names.specs.{declared.lock.Effect.{Effect}, declared.lock.Lock.{Lock}, declared.link.Link.{Link}}
+use Rattle.sect_names.specs.{Schemes.{SchemeView}, Locks.{IsLockOf, Covers, CoveredBy}}
 use Rattle.sect_names.specs.Carrying.{Accesses, GeneratedBy, Generated, BeforeStore, BeforeAction, Before, CarriedBack}
-use Rattle.sect_names.specs.Chains.{IsGeneratedAt, AreLinked, IsChain}
-use Rattle.sect_names.specs.Laws.{AreOneScheme}
+use Rattle.sect_names.specs.{Chains.{IsGeneratedAt, AreLinked, IsChain}, Laws.{AreOneScheme}}
+use Rattle.sect_types.specs.declared.expansion.action.Action.TheVariants as action
+use Rattle.sect_types.specs.declared.expansion.action.Label.TheVariants as label
+use Rattle.sect_points.specs.declared.holders.Holder.TheVariants as holder
+use Rattle.sect_names.specs.declared.lock.Lock.TheVariants as lock
 
 -- the classes of these sets with the numbers of a scheme
 abbrev pub classes_with : SchemeView → PointsToView → ClassesView

@@ -2,33 +2,26 @@
 use Rattle.std.proofs.Common.{◌≡◌, ◌⊎◌, ℕ, ◌≤◌, List, [], ◌∷◌, Option, Some, None, refl, sym, ap, ◌∙◌, subst, inl, inr}
 use Rattle.std.proofs.Common.{arith}
 use Rattle.sect_lemmas.specs.Lists.{Has}
-use Rattle.sect_types.specs.declared.expansion.action.Field.{Field}
-use Rattle.sect_types.specs.declared.expansion.action.Value.{Value}
-use Rattle.sect_types.specs.declared.expansion.action.Value.TheVariants as value
-use Rattle.sect_types.specs.declared.expansion.action.Action.{Action}
-use Rattle.sect_types.specs.declared.expansion.action.Action.TheVariants as action
-use Rattle.sect_types.specs.declared.expansion.action.Label.{Label}
-use Rattle.sect_types.specs.declared.expansion.action.Label.TheVariants as label
+use Rattle.sect_types.specs.{declared.expansion.action.Field.{Field}, declared.expansion.action.Value.{Value}}
+use Rattle.sect_types.specs.{declared.expansion.action.Action.{Action}, declared.expansion.action.Label.{Label}}
 use Rattle.sect_points.specs.declared.holders.Variable.{Variable}
-use Rattle.sect_points.specs.declared.holders.Variable.TheVariants.{Global, Local}
-use Rattle.sect_points.specs.Paths.{PathView, var, dot}
+use Rattle.sect_points.specs.{declared.holders.Variable.TheVariants.{Global, Local}, Paths.{PathView, var, dot}}
 use Rattle.sect_points.specs.Partitions.{ClassesView, HasClass}
 use Rattle.sect_points.specs.PathClasses.{ArePathClasses, variable_of, variable_in}
-use Rattle.sect_names.specs.declared.lock.Effect.{Effect}
-use Rattle.sect_names.specs.declared.lock.Effect.TheVariants as effect
-use Rattle.sect_names.specs.declared.lock.Lock.{Lock}
-use Rattle.sect_names.specs.declared.lock.Lock.TheVariants as lock
-use Rattle.sect_names.specs.Schemes.{SchemeView, IsScheme, guard_of}
-use Rattle.sect_names.specs.Locks.{depth, IsClassed, Covers, PathTo, IsOwn}
+use Rattle.sect_names.specs.{declared.lock.Effect.{Effect}, declared.lock.Lock.{Lock}}
+use Rattle.sect_names.specs.{Schemes.{SchemeView, IsScheme, guard_of}, Locks.{depth, IsClassed, Covers, PathTo, IsOwn}}
 use Rattle.sect_names.specs.Carrying.{locked_for, Makes, Generated, Replaced, BeforeStore, BeforeAssignment, Before}
-use Rattle.sect_names.specs.Carrying.{LockOn, CarriedBack}
-use Rattle.sect_names.specs.Laws.{IsProgramStep}
-use Rattle.sect_names.proofs.shared.Covering.{covers_refl}
-use Rattle.sect_names.proofs.shared.Respecting.{respects_cover}
-use Rattle.sect_names.proofs.Sounding.{global_classed}
+use Rattle.sect_names.specs.{Carrying.{LockOn, CarriedBack}, Laws.{IsProgramStep}}
 use Rattle.sect_names.specs.Along.{NeededBefore, NeededAlong, AreProgramSteps, GoesBy, read_for, reading_lock}
 use Rattle.sect_names.specs.Along.{ReadsBeginnings}
+use Rattle.sect_names.proofs.shared.{Covering.{covers_refl}, Respecting.{respects_cover}}
+use Rattle.sect_names.proofs.Sounding.{global_classed}
 use Rattle.sect_points.proofs.shared.ClassLaws.{path_classes}
+use Rattle.sect_types.specs.declared.expansion.action.Value.TheVariants as value
+use Rattle.sect_types.specs.declared.expansion.action.Action.TheVariants as action
+use Rattle.sect_types.specs.declared.expansion.action.Label.TheVariants as label
+use Rattle.sect_names.specs.declared.lock.Effect.TheVariants as effect
+use Rattle.sect_names.specs.declared.lock.Lock.TheVariants as lock
 
 -- over an assignment: a beginning comes from one, or it begins what is put in the base's place
 replaced_goes : (x : Variable) (source : Option PathView) (p p' q' : PathView) (f : Field) → Replaced x source p p'

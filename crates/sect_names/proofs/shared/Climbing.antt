@@ -1,21 +1,16 @@
 -- Which locks stand above a lock.
 use Rattle.std.proofs.Common.{◌≡◌, ◌↔◌, ◌⊎◌, inl, inr, ℕ, ◌≤◌, List, [], ◌∷◌, ◌++◌, Option, Some, None, take, length}
-use Rattle.std.proofs.Common.{refl, sym, ap, ◌∙◌, subst, arith}
-use Rattle.std.proofs.lemmas.List.{take-append-le, take_all}
+use Rattle.std.proofs.{Common.{refl, sym, ap, ◌∙◌, subst, arith}, lemmas.List.{take-append-le, take_all}}
 use Rattle.std.proofs.lemmas.Option.{slice_get_within}
 use Rattle.sect_lemmas.specs.Lists.{Has}
 use Rattle.sect_lemmas.proofs.Places.{pushed_at}
-use Rattle.sect_points.specs.Paths.{PathView}
-use Rattle.sect_points.specs.Partitions.{HasClass}
-use Rattle.sect_names.specs.declared.lock.Effect.{Effect}
-use Rattle.sect_names.specs.declared.lock.Effect.TheVariants as effect
-use Rattle.sect_names.specs.declared.lock.Right.{Right}
-use Rattle.sect_names.specs.declared.lock.Right.TheVariants as right
-use Rattle.sect_names.specs.declared.lock.Lock.{Lock}
-use Rattle.sect_names.specs.declared.lock.Lock.TheVariants as lock
-use Rattle.sect_names.specs.Schemes.{SchemeView}
-use Rattle.sect_names.specs.Climbing.{IsAbove, AreBehind, AreCoverers}
+use Rattle.sect_points.specs.{Paths.{PathView}, Partitions.{HasClass}}
+use Rattle.sect_names.specs.{declared.lock.Effect.{Effect}, declared.lock.Right.{Right}, declared.lock.Lock.{Lock}}
+use Rattle.sect_names.specs.{Schemes.{SchemeView}, Climbing.{IsAbove, AreBehind, AreCoverers}}
 use Rattle.sect_names.specs.Above.{over_class, over_path}
+use Rattle.sect_names.specs.declared.lock.Effect.TheVariants as effect
+use Rattle.sect_names.specs.declared.lock.Right.TheVariants as right
+use Rattle.sect_names.specs.declared.lock.Lock.TheVariants as lock
 
 module _ (s : SchemeView) where
   -- nothing stands above the lock on all

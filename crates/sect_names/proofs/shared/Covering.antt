@@ -1,14 +1,11 @@
 -- Covering is a partial order.
 use Rattle.std.proofs.Common.{◌≡◌, refl, sym, ap, ◌∙◌, subst}
 use Rattle.sect_points.specs.Partitions.{HasClass}
-use Rattle.sect_names.specs.declared.lock.Effect.{Effect}
+use Rattle.sect_names.specs.{declared.lock.Effect.{Effect}, declared.lock.Right.{Right}, declared.lock.Lock.{Lock}}
+use Rattle.sect_names.specs.{Schemes.{SchemeView}, Locks.{Allows, Grants, Includes, Covers, IsCoverOrder}}
 use Rattle.sect_names.specs.declared.lock.Effect.TheVariants as effect
-use Rattle.sect_names.specs.declared.lock.Right.{Right}
 use Rattle.sect_names.specs.declared.lock.Right.TheVariants as right
-use Rattle.sect_names.specs.declared.lock.Lock.{Lock}
 use Rattle.sect_names.specs.declared.lock.Lock.TheVariants as lock
-use Rattle.sect_names.specs.Schemes.{SchemeView}
-use Rattle.sect_names.specs.Locks.{Allows, Grants, Includes, Covers, IsCoverOrder}
 
 allows_refl : (e : Effect) → Allows e e
 allows_refl effect.Read = tt

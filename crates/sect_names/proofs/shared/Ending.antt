@@ -1,15 +1,11 @@
 -- Sections that are read by their numbers, and their ends.
-use Rattle.std.proofs.Common.{◌≡◌, ℕ, List, Some, ap, subst}
+use Rattle.std.proofs.{Common.{◌≡◌, ℕ, List, Some, ap, subst}, lemmas.Option.{get_or_from_slice_get}}
 use Rattle.std.specs.Prelude.{slice_get}
-use Rattle.std.proofs.lemmas.Option.{get_or_from_slice_get}
 use Rattle.sect_front.specs.declared.tree.Locking.{Locking}
+use Rattle.sect_types.specs.{Programs.{ProgramView}, Sections.{SectionView, sections_of}}
+use Rattle.sect_graph.specs.{declared.flow.Node.{Node}, Graphs.{GraphView}}
+use Rattle.sect_names.specs.{Schemes.{SchemeView}, Needed.{end_locks, end_of}}
 use Rattle.sect_front.specs.declared.tree.Locking.TheVariants as locking
-use Rattle.sect_types.specs.Programs.{ProgramView}
-use Rattle.sect_types.specs.Sections.{SectionView, sections_of}
-use Rattle.sect_graph.specs.declared.flow.Node.{Node}
-use Rattle.sect_graph.specs.Graphs.{GraphView}
-use Rattle.sect_names.specs.Schemes.{SchemeView}
-use Rattle.sect_names.specs.Needed.{end_locks, end_of}
 
 -- a section that is read from a scheme's program, and the graph that is read from its graphs
 pub section_read : (s : SchemeView) (i : ℕ) (p : ProgramView) (q : GraphView) (of : SectionView) (g : List Node)

@@ -2,15 +2,11 @@
 use Rattle.std.proofs.Common.{◌≡◌, ℕ, subst, inl, inr}
 use Rattle.std.specs.Prelude.{slice_index_or}
 use Rattle.sect_front.specs.declared.tree.Locking.{Locking}
-use Rattle.sect_front.specs.declared.tree.Locking.TheVariants as locking
 use Rattle.sect_lemmas.specs.Lists.{Has}
-use Rattle.sect_names.specs.declared.lock.Lock.{Lock}
+use Rattle.sect_names.specs.{declared.lock.Lock.{Lock}, Schemes.{SchemeView}, Needed.{end_locks, end_of}}
+use Rattle.sect_names.specs.{Records.{IsNeedable}, Along.{ReadsBeginnings}, Locks.{IsLockOf}}
+use Rattle.sect_front.specs.declared.tree.Locking.TheVariants as locking
 use Rattle.sect_names.specs.declared.lock.Lock.TheVariants as lock
-use Rattle.sect_names.specs.Schemes.{SchemeView}
-use Rattle.sect_names.specs.Needed.{end_locks, end_of}
-use Rattle.sect_names.specs.Records.{IsNeedable}
-use Rattle.sect_names.specs.Along.{ReadsBeginnings}
-use Rattle.sect_names.specs.Locks.{IsLockOf}
 
 -- only the lock on all is generated there
 pub only_all : (x : Locking) (l : Lock) → Has (end_locks x) l → lock.All ≡ l

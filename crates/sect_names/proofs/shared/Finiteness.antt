@@ -1,23 +1,18 @@
 -- The locks of a program are finitely many.
 use Rattle.std.proofs.Common.{ℕ, zero, suc, ◌<◌, ◌≤◌, List, [], ◌∷◌, ◌++◌, map, length, refl, ap, inl, inr, arith}
-use Rattle.std.specs.Prelude.{slice_index_or}
-use Rattle.std.specs.List.{flat_map}
 use Rattle.std.proofs.lemmas.Option.{slice_get_within, get_or_from_slice_get}
+use Rattle.std.specs.{Prelude.{slice_index_or}, List.{flat_map}}
 use Rattle.sect_lemmas.specs.Lists.{Has}
-use Rattle.sect_types.specs.Programs.{ProgramView}
-use Rattle.sect_types.specs.declared.expansion.action.Field.{Field}
-use Rattle.sect_lemmas.proofs.Membership.{Has-left, Has-right}
+use Rattle.sect_types.specs.{Programs.{ProgramView}, declared.expansion.action.Field.{Field}}
+use Rattle.sect_lemmas.proofs.{Membership.{Has-left, Has-right}, Listing.{Has-map, Has-flat_map, below, Has-below}}
 use Rattle.sect_points.specs.declared.holders.Variable.{Variable}
-use Rattle.sect_points.specs.declared.holders.Variable.TheVariants.{Global, Local}
-use Rattle.sect_points.specs.Paths.{PathView, var, dot}
+use Rattle.sect_points.specs.{declared.holders.Variable.TheVariants.{Global, Local}, Paths.{PathView, var, dot}}
+use Rattle.sect_names.specs.{declared.lock.Lock.{Lock}, Schemes.{SchemeView}}
+use Rattle.sect_names.specs.Locks.{depth, IsVariable, IsField, IsPathOf, IsLockOf}
+use Rattle.sect_names.proofs.shared.Sounding.{path_there}
 use Rattle.sect_names.specs.declared.lock.Effect.TheVariants as effect
 use Rattle.sect_names.specs.declared.lock.Right.TheVariants as right
-use Rattle.sect_names.specs.declared.lock.Lock.{Lock}
 use Rattle.sect_names.specs.declared.lock.Lock.TheVariants as lock
-use Rattle.sect_names.specs.Schemes.{SchemeView}
-use Rattle.sect_names.proofs.shared.Sounding.{path_there}
-use Rattle.sect_names.specs.Locks.{depth, IsVariable, IsField, IsPathOf, IsLockOf}
-use Rattle.sect_lemmas.proofs.Listing.{Has-map, Has-flat_map, below, Has-below}
 
 -- the variables of a program
 abbrev locals_of_thread : ProgramView → ℕ → List Variable

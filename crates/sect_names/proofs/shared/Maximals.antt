@@ -1,17 +1,12 @@
 -- The locks that are kept are the maximal ones.
 use Rattle.std.proofs.Common.{◌≡◌, ◌↔◌, ◌⊎◌, inl, inr, ℕ, zero, suc, ◌+◌, ◌<◌, ◌≤◌, List, refl, ap, ◌∙◌, arith}
 use Rattle.sect_types.specs.Statements.{TextView}
+use Rattle.sect_names.specs.{declared.lock.Right.{Right}, declared.lock.Lock.{Lock}, Schemes.{SchemeView}}
+use Rattle.sect_names.specs.{Locks.{Covers, IsOutdone}, Needed.{IsNeeded, IsLeast}, Order.{AreMaximal}}
+use Rattle.sect_names.proofs.shared.{Covering.{covers_refl, covers_trans}, Telling.{lock_cases}}
 use Rattle.sect_names.specs.declared.lock.Effect.TheVariants as effect
-use Rattle.sect_names.specs.declared.lock.Right.{Right}
 use Rattle.sect_names.specs.declared.lock.Right.TheVariants as right
-use Rattle.sect_names.specs.declared.lock.Lock.{Lock}
 use Rattle.sect_names.specs.declared.lock.Lock.TheVariants as lock
-use Rattle.sect_names.specs.Schemes.{SchemeView}
-use Rattle.sect_names.specs.Locks.{Covers, IsOutdone}
-use Rattle.sect_names.specs.Needed.{IsNeeded, IsLeast}
-use Rattle.sect_names.specs.Order.{AreMaximal}
-use Rattle.sect_names.proofs.shared.Covering.{covers_refl, covers_trans}
-use Rattle.sect_names.proofs.shared.Telling.{lock_cases}
 
 -- how high a lock stands: another that covers it stands higher
 rank : Lock → ℕ

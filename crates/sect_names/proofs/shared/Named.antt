@@ -1,16 +1,13 @@
 -- What locks name is there.
 use Rattle.std.proofs.Common.{◌≡◌, ℕ, ◌<◌, inl, inr, List, [], ◌∷◌, length, get_or, subst}
 use Rattle.sect_lemmas.specs.Lists.{Has}
-use Rattle.sect_types.specs.Programs.{ProgramView}
+use Rattle.sect_types.specs.{Programs.{ProgramView}, declared.expansion.action.Field.{Field}}
 use Rattle.sect_lemmas.proofs.Membership.{Has-cases, Has-get_or}
-use Rattle.sect_types.specs.declared.expansion.action.Field.{Field}
 use Rattle.sect_points.specs.Paths.{PathView, var, dot, base_of, fields_of}
-use Rattle.sect_names.specs.declared.lock.Lock.{Lock}
-use Rattle.sect_names.specs.declared.lock.Lock.TheVariants as lock
-use Rattle.sect_names.specs.Schemes.{SchemeView}
-use Rattle.sect_names.specs.Locks.{IsVariable, IsField, IsPathOf, IsLockOf}
+use Rattle.sect_names.specs.{declared.lock.Lock.{Lock}, Schemes.{SchemeView}}
+use Rattle.sect_names.specs.{Locks.{IsVariable, IsField, IsPathOf, IsLockOf}, Printing.{IsNamed}}
 use Rattle.sect_names.proofs.shared.Sounding.{path_there}
-use Rattle.sect_names.specs.Printing.{IsNamed}
+use Rattle.sect_names.specs.declared.lock.Lock.TheVariants as lock
 
 -- a lock of the program names what is there
 pub named_lock : (s : SchemeView) (t : ℕ) (l : Lock) → IsLockOf s t l → IsNamed s.program l

@@ -1,32 +1,22 @@
 -- The locks that a thread comes to need: on paths of its own, whose objects nothing guards.
 use Rattle.std.proofs.Common.{◌≡◌, ℕ, List, [], ◌∷◌, Option, Some, None, refl, sym, subst, inl, inr}
 use Rattle.sect_lemmas.specs.Lists.{Has}
-use Rattle.sect_types.specs.Statements.{TextView}
-use Rattle.sect_types.specs.Programs.{environment_at}
-use Rattle.sect_types.specs.Sound.{IsSoundAction}
-use Rattle.sect_types.specs.declared.expansion.action.Base.{Base}
-use Rattle.sect_types.specs.declared.expansion.action.Action.{Action}
-use Rattle.sect_types.specs.declared.expansion.action.Action.TheVariants as action
+use Rattle.sect_types.specs.{Statements.{TextView}, Programs.{environment_at}, Sound.{IsSoundAction}}
+use Rattle.sect_types.specs.{declared.expansion.action.Base.{Base}, declared.expansion.action.Action.{Action}}
 use Rattle.sect_types.specs.declared.expansion.action.Label.{Label}
-use Rattle.sect_types.specs.declared.expansion.action.Label.TheVariants as label
-use Rattle.sect_points.specs.declared.holders.Variable.TheVariants.{Global}
-use Rattle.sect_points.specs.Paths.{PathView, var}
+use Rattle.sect_points.specs.{declared.holders.Variable.TheVariants.{Global}, Paths.{PathView, var}}
 use Rattle.sect_points.specs.PathClasses.{variable_of}
-use Rattle.sect_names.specs.declared.lock.Effect.{Effect}
-use Rattle.sect_names.specs.declared.lock.Effect.TheVariants as effect
-use Rattle.sect_names.specs.declared.lock.Lock.{Lock}
-use Rattle.sect_names.specs.declared.lock.Lock.TheVariants as lock
-use Rattle.sect_names.specs.Schemes.{SchemeView, IsScheme, guard_of}
-use Rattle.sect_names.specs.Locks.{PathTo, IsOwn}
+use Rattle.sect_names.specs.{declared.lock.Effect.{Effect}, declared.lock.Lock.{Lock}}
+use Rattle.sect_names.specs.{Schemes.{SchemeView, IsScheme, guard_of}, Locks.{PathTo, IsOwn}}
 use Rattle.sect_names.specs.Carrying.{locked_for, Accesses, Makes, GeneratedBy, Generated, LockOn, CarriedBack}
-use Rattle.sect_names.specs.Laws.{IsSoundStep}
-use Rattle.sect_names.specs.Records.{IsTypedProgram, KeepsItsRecord, IsNeedable}
-use Rattle.sect_names.specs.Walks.{StandsInThread}
-use Rattle.sect_names.specs.Along.{NeededAlong, NeededIn, AreProgramSteps}
-use Rattle.sect_names.proofs.shared.Typing.{base_to, path_to}
-use Rattle.sect_names.proofs.shared.Owning.{own_base, own_before}
-use Rattle.sect_names.proofs.shared.Placing.{step_sound}
+use Rattle.sect_names.specs.{Laws.{IsSoundStep}, Records.{IsTypedProgram, KeepsItsRecord, IsNeedable}}
+use Rattle.sect_names.specs.{Walks.{StandsInThread}, Along.{NeededAlong, NeededIn, AreProgramSteps}}
+use Rattle.sect_names.proofs.shared.{Typing.{base_to, path_to}, Owning.{own_base, own_before}, Placing.{step_sound}}
 use Rattle.sect_names.proofs.shared.Walking.{walk_stands}
+use Rattle.sect_types.specs.declared.expansion.action.Action.TheVariants as action
+use Rattle.sect_types.specs.declared.expansion.action.Label.TheVariants as label
+use Rattle.sect_names.specs.declared.lock.Effect.TheVariants as effect
+use Rattle.sect_names.specs.declared.lock.Lock.TheVariants as lock
 
 module _ (s : SchemeView) (t : ℕ) where
   -- steps keep the records of paths

@@ -1,12 +1,8 @@
 -- A program has one scheme.
 use Rattle.std.proofs.Common.{◌≡◌, inl, inr, ℕ, zero, suc, ◌<◌, ◌≤◌, List, [], ◌∷◌, length, Option, Some, None, refl}
-use Rattle.std.proofs.Common.{sym, ap, ◌∙◌, subst, arith}
+use Rattle.std.proofs.{Common.{sym, ap, ◌∙◌, subst, arith}, lemmas.Bool.{cases_lt}, lemmas.Option.{slice_get-get_or}}
 use Rattle.std.specs.Prelude.{slice_index, slice_index_or}
-use Rattle.std.proofs.lemmas.Bool.{cases_lt}
-use Rattle.std.proofs.lemmas.Option.{slice_get-get_or}
-use Rattle.sect_types.specs.Statements.{TextView, Stop}
-use Rattle.sect_types.specs.Programs.{ProgramView, sites_of}
-use Rattle.sect_types.specs.Sections.{sections_of}
+use Rattle.sect_types.specs.{Statements.{TextView, Stop}, Programs.{ProgramView, sites_of}, Sections.{sections_of}}
 use Rattle.sect_graph.specs.Graphs.{GraphView, AreGraphs}
 use Rattle.sect_points.specs.declared.holders.ThreadAction.{ThreadAction}
 use Rattle.sect_points.specs.Flow.{Family, Within, IsClosed, family_of, IsLeastFlow}
@@ -15,8 +11,7 @@ use Rattle.sect_points.specs.Partitions.{ClassesView, Together, IsParted, AreSlo
 use Rattle.sect_points.specs.Statements.{thread_actions}
 use Rattle.sect_points.proofs.shared.SolvingLaws.{moved_more}
 use Rattle.sect_hints.specs.Hints.{AreGuards}
-use Rattle.sect_names.specs.Schemes.{SchemeView, IsScheme}
-use Rattle.sect_names.specs.Laws.{AreOneScheme}
+use Rattle.sect_names.specs.{Schemes.{SchemeView, IsScheme}, Laws.{AreOneScheme}}
 use Rattle.sect_names.proofs.Facts.{facts, facts_tell}
 
 -- lists of one length that have the same at each place are one

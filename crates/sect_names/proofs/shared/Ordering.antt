@@ -1,7 +1,6 @@
 -- The canonical order of locks goes on.
 use Rattle.sect_names.specs.declared.lock.Lock.{Lock}
-use Rattle.sect_names.specs.contracts.lock.LockOrd.TheImpl.Laws.{total-law as the_lock_total}
-use Rattle.sect_names.specs.Order.{LockBefore}
+use Rattle.sect_names.specs.{contracts.lock.LockOrd.TheImpl.Laws.{total-law as the_lock_total}, Order.{LockBefore}}
 use Rattle.sect_names.proofs.Preceding.{before_tells}
 
 -- what stands before a lock stands before those that follow it

@@ -1,20 +1,15 @@
 -- Paths that begin with a global or a local of a thread do so when they are carried back in that thread.
 use Rattle.std.proofs.Common.{◌≡◌, ℕ, Option, Some, None, refl, sym, subst, inl, inr}
-use Rattle.sect_types.specs.declared.expansion.action.Base.{Base}
-use Rattle.sect_types.specs.declared.expansion.action.Base.TheVariants as base
-use Rattle.sect_types.specs.declared.expansion.action.Value.{Value}
-use Rattle.sect_types.specs.declared.expansion.action.Value.TheVariants as value
-use Rattle.sect_types.specs.declared.expansion.action.Field.{Field}
-use Rattle.sect_types.specs.declared.expansion.action.Action.TheVariants as action
-use Rattle.sect_types.specs.declared.expansion.action.Label.{Label}
-use Rattle.sect_types.specs.declared.expansion.action.Label.TheVariants as label
+use Rattle.sect_types.specs.{declared.expansion.action.Base.{Base}, declared.expansion.action.Value.{Value}}
+use Rattle.sect_types.specs.{declared.expansion.action.Field.{Field}, declared.expansion.action.Label.{Label}}
 use Rattle.sect_points.specs.declared.holders.Variable.{Variable}
-use Rattle.sect_points.specs.declared.holders.Variable.TheVariants.{Global, Local}
-use Rattle.sect_points.specs.Paths.{PathView, var, dot}
-use Rattle.sect_points.specs.Partitions.{ClassesView}
-use Rattle.sect_points.specs.PathClasses.{variable_of, variable_in}
-use Rattle.sect_names.specs.Locks.{IsOwn}
-use Rattle.sect_names.specs.Carrying.{Replaced, BeforeStore, BeforeAssignment, Before}
+use Rattle.sect_points.specs.{declared.holders.Variable.TheVariants.{Global, Local}, Paths.{PathView, var, dot}}
+use Rattle.sect_points.specs.{Partitions.{ClassesView}, PathClasses.{variable_of, variable_in}}
+use Rattle.sect_names.specs.{Locks.{IsOwn}, Carrying.{Replaced, BeforeStore, BeforeAssignment, Before}}
+use Rattle.sect_types.specs.declared.expansion.action.Base.TheVariants as base
+use Rattle.sect_types.specs.declared.expansion.action.Value.TheVariants as value
+use Rattle.sect_types.specs.declared.expansion.action.Action.TheVariants as action
+use Rattle.sect_types.specs.declared.expansion.action.Label.TheVariants as label
 
 module _ (t : ℕ) where
   -- a base of a statement is own

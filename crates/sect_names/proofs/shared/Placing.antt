@@ -3,25 +3,18 @@ use Rattle.std.proofs.Common.{◌≡◌, ℕ, zero, suc, ◌+◌, List, [], ◌�
 use Rattle.std.proofs.Common.{◌∙◌, subst, inl, inr, arith, false}
 use Rattle.std.specs.Prelude.{⊤, slice_get}
 use Rattle.sect_lemmas.specs.Lists.{Has}
-use Rattle.sect_lemmas.proofs.Membership.{Has-cases, Has-unmap}
+use Rattle.sect_lemmas.proofs.{Membership.{Has-cases, Has-unmap}, Elements.{slice_get-left}}
 use Rattle.sect_types.specs.Environments.{Environment}
 use Rattle.sect_types.specs.Statements.{TextView, Stop, Do, Choose, Loop, Section, made_by, made_in}
-use Rattle.sect_types.specs.Sections.{IsSite, AreSited, AllSited}
-use Rattle.sect_types.specs.Programs.{ProgramView, environment_at, all_made}
-use Rattle.sect_types.specs.Sound.{AreSound, IsSoundAction}
-use Rattle.sect_types.specs.declared.declarations.types.ValueType.{ValueType}
-use Rattle.sect_types.specs.declared.expansion.action.Action.{Action}
-use Rattle.sect_types.specs.declared.expansion.action.Action.TheVariants as action
-use Rattle.sect_types.specs.declared.expansion.action.Label.{Label}
-use Rattle.sect_types.specs.declared.expansion.action.Label.TheVariants as label
-use Rattle.sect_points.specs.declared.holders.ThreadAction.{ThreadAction}
-use Rattle.sect_points.specs.Flow.{actions_of}
+use Rattle.sect_types.specs.{Sections.{IsSite, AreSited, AllSited}, Programs.{ProgramView, environment_at, all_made}}
+use Rattle.sect_types.specs.{Sound.{AreSound, IsSoundAction}, declared.declarations.types.ValueType.{ValueType}}
+use Rattle.sect_types.specs.{declared.expansion.action.Action.{Action}, declared.expansion.action.Label.{Label}}
+use Rattle.sect_points.specs.{declared.holders.ThreadAction.{ThreadAction}, Flow.{actions_of}}
 use Rattle.sect_points.specs.Statements.{thread_action, actions_from, thread_actions}
-use Rattle.sect_names.specs.Schemes.{SchemeView}
-use Rattle.sect_names.specs.Laws.{IsProgramStep, IsSoundStep}
+use Rattle.sect_names.specs.{Schemes.{SchemeView}, Laws.{IsProgramStep, IsSoundStep}, Records.{IsTypedProgram, SiteOf}}
 use Rattle.sect_names.proofs.SectionSteps.{sound_action}
-use Rattle.sect_names.specs.Records.{IsTypedProgram, SiteOf}
-use Rattle.sect_lemmas.proofs.Elements.{slice_get-left}
+use Rattle.sect_types.specs.declared.expansion.action.Action.TheVariants as action
+use Rattle.sect_types.specs.declared.expansion.action.Label.TheVariants as label
 
 -- what stands in the second of two lists
 pub slice_get-right : {A : Type 0} (xs ys : List A) (j : ℕ) (x : A) → slice_get ys j ≡ Some x

@@ -1,14 +1,9 @@
 -- The derived order of locks is the canonical one.
 use Rattle.std.proofs.Common.{◌≡◌, ◌↔◌, ◌⊎◌, inl, inr, List, [], ◌∷◌, refl, sym, ap, ◌∙◌, subst, rules, arith}
-use Rattle.std.proofs.Common.{true≢false, Less, Equal, Greater}
-use Rattle.std.specs.declared.cmp.Ordering.{Ordering}
-use Rattle.std.specs.Ordering.{ordering_then, is_eq, is_lt}
-use Rattle.std.specs.Cmp.Lexicographic.{slice_cmp}
-use Rattle.std.proofs.lemmas.Map.Keys.{sorted_tail}
-use Rattle.std.proofs.lemmas.Map.Views.{All-after_first}
-use Rattle.std.specs.List.{All}
-use Rattle.std.specs.List.Sorted.{IsStrictlySortedBy}
-use Rattle.std.proofs.lemmas.List.Elements.{All-get_or, All-tail}
+use Rattle.std.proofs.{Common.{true≢false, Less, Equal, Greater}, lemmas.Map.Keys.{sorted_tail}}
+use Rattle.std.proofs.{lemmas.Map.Views.{All-after_first}, lemmas.List.Elements.{All-get_or, All-tail}}
+use Rattle.std.specs.{declared.cmp.Ordering.{Ordering}, Ordering.{ordering_then, is_eq, is_lt}}
+use Rattle.std.specs.{Cmp.Lexicographic.{slice_cmp}, List.{All}, List.Sorted.{IsStrictlySortedBy}}
 use Rattle.std.specs.BTreeSet.{insert_key}
 use Rattle.sect_lemmas.specs.Lists.{Has}
 use Rattle.sect_types.specs.declared.expansion.action.Field.{Field}
@@ -19,16 +14,15 @@ use Rattle.sect_points.specs.declared.holders.Variable.TheVariants.{Global, Loca
 use Rattle.sect_points.specs.contracts.holders.VariableOrd.TheImpl.{ghosts as the_variable_order}
 use Rattle.sect_points.specs.contracts.holders.VariableOrd.TheImpl.Laws.{matches_eq-law as the_variable_ties}
 use Rattle.sect_points.specs.Paths.{PathView, base_of, fields_of}
-use Rattle.sect_names.specs.declared.lock.Effect.TheVariants as effect
-use Rattle.sect_names.specs.declared.lock.Right.TheVariants as right
-use Rattle.sect_names.specs.declared.lock.Lock.{Lock}
-use Rattle.sect_names.specs.declared.lock.Lock.TheVariants as lock
-use Rattle.sect_names.specs.contracts.lock.LockOrd.TheImpl.{ghosts as the_lock_order}
+use Rattle.sect_names.specs.{declared.lock.Lock.{Lock}, contracts.lock.LockOrd.TheImpl.{ghosts as the_lock_order}}
 use Rattle.sect_names.specs.contracts.lock.LockOrd.TheImpl.Laws.{matches_eq-law as the_lock_ties}
 use Rattle.sect_names.specs.Comparing.{path_cmp, path_ties}
 use Rattle.sect_names.specs.Order.{VariableBefore, FieldBefore, FieldsBefore, PathBefore, LockBefore, AreInOrder}
 use Rattle.sect_names.proofs.shared.Telling.{variable_tells, field_tells, path_tells, lock_tells}
 use Rattle.sect_lemmas.proofs.Inserting.{put_key}
+use Rattle.sect_names.specs.declared.lock.Effect.TheVariants as effect
+use Rattle.sect_names.specs.declared.lock.Right.TheVariants as right
+use Rattle.sect_names.specs.declared.lock.Lock.TheVariants as lock
 
 then_less : (a b : Ordering) → ordering_then a b ≡ Less → (a ≡ Less) ⊎ ((a ≡ Equal) × (b ≡ Less))
 then_less Less b e = inl refl

@@ -1,40 +1,32 @@
 -- Each site in a set is of the record of what holds it, and the sites of a class have one record.
-use Rattle.std.proofs.Common.{◌≡◌, ℕ, zero, suc, List, [], ◌∷◌, ◌++◌, length, get_or, Option, Some, None, refl, sym}
-use Rattle.std.proofs.Common.{ap, ◌∙◌, subst, inl, inr, arith}
-use Rattle.std.specs.Prelude.{slice_get, slice_index, slice_index_or}
-use Rattle.std.proofs.lemmas.Bool.{cases_eq, cases_lt}
+use Rattle.std.proofs.Common.{◌≡◌, ℕ, zero, suc, List, [], ◌∷◌, ◌++◌, length, get_or, Option, Some, None, refl, sym, ap}
+use Rattle.std.proofs.{Common.{◌∙◌, subst, inl, inr, arith}, lemmas.Bool.{cases_eq, cases_lt}}
 use Rattle.std.proofs.lemmas.List.{get_or_past}
 use Rattle.std.proofs.lemmas.Option.{slice_get_within, slice_get-get_or, get_or_from_slice_get, same_Some}
+use Rattle.std.specs.Prelude.{slice_get, slice_index, slice_index_or}
 use Rattle.sect_lemmas.specs.Lists.{Has}
-use Rattle.sect_lemmas.proofs.Membership.{Has-left, Has-right, Has-cases}
+use Rattle.sect_lemmas.proofs.{Membership.{Has-left, Has-right, Has-cases}, Elements.{slice_get-left}}
 use Rattle.sect_types.specs.Programs.{ProgramView, environment_at, sites_of}
 use Rattle.sect_types.specs.Sound.{reference_to, type_at, type_in, field_type, HasType, IsSoundAction}
 use Rattle.sect_types.specs.declared.declarations.types.ValueType.{ValueType}
 use Rattle.sect_types.specs.declared.declarations.types.ValueType.TheVariants.{Int, Refers}
-use Rattle.sect_types.specs.declared.expansion.action.Base.{Base}
-use Rattle.sect_types.specs.declared.expansion.action.Base.TheVariants as base
-use Rattle.sect_types.specs.declared.expansion.action.Value.{Value}
-use Rattle.sect_types.specs.declared.expansion.action.Value.TheVariants as value
+use Rattle.sect_types.specs.{declared.expansion.action.Base.{Base}, declared.expansion.action.Value.{Value}}
 use Rattle.sect_types.specs.declared.expansion.action.Action.{Action}
-use Rattle.sect_types.specs.declared.expansion.action.Action.TheVariants as action
-use Rattle.sect_points.specs.declared.holders.Fact.{Fact}
-use Rattle.sect_points.specs.declared.holders.Holder.{Holder}
+use Rattle.sect_points.specs.{declared.holders.Fact.{Fact}, declared.holders.Holder.{Holder}}
 use Rattle.sect_points.specs.declared.holders.Holder.TheVariants.{Local, Slot}
-use Rattle.sect_points.specs.declared.holders.Variable.TheVariants as variable
 use Rattle.sect_points.specs.Flow.{Family, ValueHas, BaseHas, Moved, Within, IsClosed, fact, family_of}
-use Rattle.sect_points.specs.Paths.{var, dot}
-use Rattle.sect_points.specs.Partitions.{Together, Respects}
-use Rattle.sect_points.specs.Sets.{InSets}
+use Rattle.sect_points.specs.{Paths.{var, dot}, Partitions.{Together, Respects}, Sets.{InSets}}
 use Rattle.sect_points.specs.Statements.{thread_actions}
 use Rattle.sect_points.proofs.shared.SolvingLaws.{moved_more}
-use Rattle.sect_names.specs.Schemes.{SchemeView, IsScheme}
-use Rattle.sect_names.specs.Locks.{VariableTo, FieldTo}
+use Rattle.sect_names.specs.{Schemes.{SchemeView, IsScheme}, Locks.{VariableTo, FieldTo}}
 use Rattle.sect_names.specs.Records.{IsTypedProgram, SiteOf, LocalsFit, FieldsFit, PathsFit, ClassesHaveOneRecord}
-use Rattle.sect_names.proofs.Facts.{where_so, so_there, there_so}
-use Rattle.sect_names.proofs.Typing.{same_refers}
+use Rattle.sect_names.proofs.{Facts.{where_so, so_there, there_so}, Typing.{same_refers}}
 use Rattle.sect_names.proofs.shared.Typing.{same_type, reference_of}
-use Rattle.sect_lemmas.proofs.Elements.{slice_get-left}
 use Rattle.sect_names.proofs.shared.Placing.{MakesOwn, statement_sound, statement_sited}
+use Rattle.sect_types.specs.declared.expansion.action.Base.TheVariants as base
+use Rattle.sect_types.specs.declared.expansion.action.Value.TheVariants as value
+use Rattle.sect_types.specs.declared.expansion.action.Action.TheVariants as action
+use Rattle.sect_points.specs.declared.holders.Variable.TheVariants as variable
 
 -- what a list is made of, element by element with its index
 abbrev each : {A B : Type 0} → (ℕ → A → List B) → List A → List B

@@ -1,11 +1,8 @@
 -- A tree has one program.
 use Rattle.std.proofs.Common.{◌≡◌, List, sym, ap, ◌∙◌}
 use Rattle.sect_front.specs.TreeView.{TreeView}
-use Rattle.sect_types.specs.Sight.{names_of_records}
-use Rattle.sect_types.specs.Environments.{field_types, global_records}
-use Rattle.sect_types.specs.Statements.{TextView}
-use Rattle.sect_types.specs.Expanded.{all_local_types, texts_of}
-use Rattle.sect_types.specs.Lockings.{lockings_of}
+use Rattle.sect_types.specs.{Sight.{names_of_records}, Environments.{field_types, global_records}}
+use Rattle.sect_types.specs.{Statements.{TextView}, Expanded.{all_local_types, texts_of}, Lockings.{lockings_of}}
 use Rattle.sect_types.specs.Programs.{ProgramView, IsOfTree, numbered_by}
 use Rattle.sect_lemmas.proofs.Options.{some_injective}
 

@@ -1,19 +1,14 @@
 -- Carrying back respects covering.
 use Rattle.std.proofs.Common.{◌≡◌, ℕ, refl, sym, subst, inl, inr}
 use Rattle.sect_types.specs.declared.expansion.action.Label.{Label}
-use Rattle.sect_points.specs.Paths.{PathView}
-use Rattle.sect_points.specs.Partitions.{HasClass}
-use Rattle.sect_names.specs.declared.lock.Effect.{Effect}
-use Rattle.sect_names.specs.declared.lock.Effect.TheVariants as effect
-use Rattle.sect_names.specs.declared.lock.Right.{Right}
-use Rattle.sect_names.specs.declared.lock.Right.TheVariants as right
-use Rattle.sect_names.specs.declared.lock.Lock.{Lock}
-use Rattle.sect_names.specs.declared.lock.Lock.TheVariants as lock
-use Rattle.sect_names.specs.Schemes.{SchemeView, IsScheme}
-use Rattle.sect_names.specs.Locks.{Allows, Grants, Includes, Covers}
-use Rattle.sect_names.specs.Carrying.{Before, LockOn, right_for}
-use Rattle.sect_names.specs.Laws.{IsProgramStep, KeepsItsClass, RespectsCover}
+use Rattle.sect_points.specs.{Paths.{PathView}, Partitions.{HasClass}}
+use Rattle.sect_names.specs.{declared.lock.Effect.{Effect}, declared.lock.Right.{Right}, declared.lock.Lock.{Lock}}
+use Rattle.sect_names.specs.{Schemes.{SchemeView, IsScheme}, Locks.{Allows, Grants, Includes, Covers}}
+use Rattle.sect_names.specs.{Carrying.{Before, LockOn, right_for}, Laws.{IsProgramStep, KeepsItsClass, RespectsCover}}
 use Rattle.sect_names.proofs.Keeping.{keeps_its_class}
+use Rattle.sect_names.specs.declared.lock.Effect.TheVariants as effect
+use Rattle.sect_names.specs.declared.lock.Right.TheVariants as right
+use Rattle.sect_names.specs.declared.lock.Lock.TheVariants as lock
 
 -- the rights that effects ask for are as the effects
 rights_allow : (e f : Effect) → Allows e f → Includes (right_for e) (right_for f)

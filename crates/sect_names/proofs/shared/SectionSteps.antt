@@ -1,26 +1,19 @@
 -- The steps of a section are the program's, and sound.
 use Rattle.std.proofs.Common.{◌≡◌, ℕ, zero, suc, ◌+◌, List, [], ◌∷◌, ◌++◌, map, length, Some, refl, sym, ◌∙◌, subst}
-use Rattle.std.proofs.Common.{inl, inr, arith}
+use Rattle.std.proofs.{Common.{inl, inr, arith}, lemmas.Option.{slice_get_within}}
 use Rattle.std.specs.Prelude.{⊤, slice_get}
-use Rattle.std.proofs.lemmas.Option.{slice_get_within}
 use Rattle.sect_lemmas.specs.Lists.{Has}
 use Rattle.sect_types.specs.Statements.{TextView, Stop, Do, Choose, Loop, Section, section_bodies}
 use Rattle.sect_types.specs.Sections.{SectionView, sections_from, sections_of}
 use Rattle.sect_types.specs.Traces.{Visit, visit, Rounds, IsTrace, node_count}
-use Rattle.sect_types.specs.declared.expansion.action.Action.{Action}
-use Rattle.sect_types.specs.declared.expansion.action.Condition.{Condition}
+use Rattle.sect_types.specs.{declared.expansion.action.Action.{Action}, declared.expansion.action.Condition.{Condition}}
 use Rattle.sect_types.specs.declared.expansion.action.Label.{Label}
-use Rattle.sect_types.specs.declared.expansion.action.Label.TheVariants as label
-use Rattle.sect_lemmas.proofs.Membership.{Has-cases, Has-left, Has-right, Has-slice_get, Has-unmap}
-use Rattle.sect_graph.specs.declared.flow.Node.{Node}
-use Rattle.sect_graph.specs.Paths.{IsPath}
-use Rattle.sect_graph.specs.Graphs.{IsGraphOf}
+use Rattle.sect_lemmas.proofs.{Membership.{Has-cases, Has-left, Has-right, Has-slice_get, Has-unmap}, Listing.{Has-map}}
+use Rattle.sect_graph.specs.{declared.flow.Node.{Node}, Paths.{IsPath}, Graphs.{IsGraphOf}}
 use Rattle.sect_graph.proofs.shared.Paths.{path_join}
-use Rattle.sect_points.specs.Flow.{actions_of}
-use Rattle.sect_points.specs.Statements.{thread_action, actions_from}
-use Rattle.sect_names.specs.Schemes.{SchemeView, IsScheme}
-use Rattle.sect_names.specs.Laws.{IsProgramStep, StandsIn}
-use Rattle.sect_lemmas.proofs.Listing.{Has-map}
+use Rattle.sect_points.specs.{Flow.{actions_of}, Statements.{thread_action, actions_from}}
+use Rattle.sect_names.specs.{Schemes.{SchemeView, IsScheme}, Laws.{IsProgramStep, StandsIn}}
+use Rattle.sect_types.specs.declared.expansion.action.Label.TheVariants as label
 
 -- a statement that the visit does is one of these
 abbrev pub IsAmong : List Action → Label → Type 0

@@ -1,16 +1,11 @@
 -- What a sound step of a thread needs, and what it carries back, are locks that the thread's sections may take.
 use Rattle.std.proofs.Common.{◌≡◌, ℕ, ◌<◌, List, [], length, Option, Some, None, refl, ap, inl, inr, arith}
+use Rattle.std.proofs.{lemmas.Bool.{cases_lt}, lemmas.List.{get_or_past}, lemmas.Option.{slice_get_within}}
 use Rattle.std.specs.Prelude.{slice_get, slice_index_or}
-use Rattle.std.proofs.lemmas.Bool.{cases_lt}
-use Rattle.std.proofs.lemmas.List.{get_or_past}
-use Rattle.std.proofs.lemmas.Option.{slice_get_within}
-use Rattle.sect_types.specs.Programs.{ProgramView}
-use Rattle.sect_types.specs.Sound.{type_in}
-use Rattle.sect_types.specs.declared.declarations.types.ValueType.{ValueType}
+use Rattle.sect_types.specs.{Programs.{ProgramView}, Sound.{type_in}, declared.declarations.types.ValueType.{ValueType}}
 use Rattle.sect_types.specs.declared.declarations.types.ValueType.TheVariants.{Refers}
 use Rattle.sect_points.specs.declared.holders.Variable.{Variable}
-use Rattle.sect_points.specs.declared.holders.Variable.TheVariants.{Global, Local}
-use Rattle.sect_points.specs.Paths.{PathView, var, dot}
+use Rattle.sect_points.specs.{declared.holders.Variable.TheVariants.{Global, Local}, Paths.{PathView, var, dot}}
 use Rattle.sect_names.specs.Locks.{IsVariable, IsPathOf, VariableTo, FieldTo, PathTo}
 
 module _ (p : ProgramView) where

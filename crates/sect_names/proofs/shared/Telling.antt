@@ -1,22 +1,18 @@
 -- The comparisons of paths and locks tell which are one.
 use Rattle.std.proofs.Common.{◌≡◌, ◌⊎◌, inl, inr, Bool, true, false, refl, sym, ap, rules, true≢false}
-use Rattle.std.specs.Bool.{Decides}
-use Rattle.std.specs.Cmp.{first_so, second_so}
-use Rattle.std.specs.Cmp.Lexicographic.{pointwise, pointwise_decides}
+use Rattle.std.proofs.lemmas.Bool.{and_from}
+use Rattle.std.specs.{Bool.{Decides}, Cmp.{first_so, second_so}, Cmp.Lexicographic.{pointwise, pointwise_decides}}
 use Rattle.sect_types.specs.declared.expansion.action.Field.{Field}
 use Rattle.sect_types.specs.contracts.expansion.action.FieldPartialEq.TheImpl.{ghosts as the_field_eq}
 use Rattle.sect_points.specs.declared.holders.Variable.{Variable}
 use Rattle.sect_points.specs.declared.holders.Variable.TheVariants.{Global, Local}
 use Rattle.sect_points.specs.contracts.holders.VariablePartialEq.TheImpl.{ghosts as the_variable_eq}
 use Rattle.sect_points.specs.Paths.{PathView, base_of, fields_of}
-use Rattle.sect_names.specs.declared.lock.Lock.{Lock}
-use Rattle.sect_names.specs.declared.lock.Lock.TheVariants as lock
-use Rattle.sect_names.specs.contracts.lock.LockPartialEq.TheImpl.{ghosts as the_lock_eq}
-use Rattle.sect_names.specs.declared.link.Link.{Link}
-use Rattle.sect_names.specs.contracts.link.LinkPartialEq.TheImpl.{ghosts as the_link_eq}
+use Rattle.sect_names.specs.{declared.lock.Lock.{Lock}, contracts.lock.LockPartialEq.TheImpl.{ghosts as the_lock_eq}}
+use Rattle.sect_names.specs.{declared.link.Link.{Link}, contracts.link.LinkPartialEq.TheImpl.{ghosts as the_link_eq}}
 use Rattle.sect_names.specs.Comparing.{path_eq}
 use Rattle.sect_names.proofs.Paths.{same_parts}
-use Rattle.std.proofs.lemmas.Bool.{and_from}
+use Rattle.sect_names.specs.declared.lock.Lock.TheVariants as lock
 
 pub variable_tells : (v w : Variable) → Decides (the_variable_eq.eq v w) (v ≡ w)
 variable_tells (Global g) (Global h) = search rules

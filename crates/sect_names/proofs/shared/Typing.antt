@@ -5,23 +5,18 @@ use Rattle.sect_types.specs.Programs.{ProgramView, environment_at}
 use Rattle.sect_types.specs.Sound.{reference_to, type_at, field_type, HasType, IsSoundAction}
 use Rattle.sect_types.specs.declared.declarations.types.ValueType.{ValueType}
 use Rattle.sect_types.specs.declared.declarations.types.ValueType.TheVariants.{Refers}
-use Rattle.sect_types.specs.declared.expansion.action.Base.{Base}
-use Rattle.sect_types.specs.declared.expansion.action.Base.TheVariants as base
-use Rattle.sect_types.specs.declared.expansion.action.Value.{Value}
-use Rattle.sect_types.specs.declared.expansion.action.Value.TheVariants as value
-use Rattle.sect_types.specs.declared.expansion.action.Field.{Field}
-use Rattle.sect_types.specs.declared.expansion.action.Action.{Action}
-use Rattle.sect_types.specs.declared.expansion.action.Action.TheVariants as action
+use Rattle.sect_types.specs.{declared.expansion.action.Base.{Base}, declared.expansion.action.Value.{Value}}
+use Rattle.sect_types.specs.{declared.expansion.action.Field.{Field}, declared.expansion.action.Action.{Action}}
 use Rattle.sect_types.specs.declared.expansion.action.Label.{Label}
-use Rattle.sect_types.specs.declared.expansion.action.Label.TheVariants as label
 use Rattle.sect_points.specs.declared.holders.Variable.{Variable}
-use Rattle.sect_points.specs.declared.holders.Variable.TheVariants.{Global, Local}
-use Rattle.sect_points.specs.Paths.{PathView, var, dot}
-use Rattle.sect_points.specs.Partitions.{ClassesView}
-use Rattle.sect_points.specs.PathClasses.{variable_of, variable_in}
+use Rattle.sect_points.specs.{declared.holders.Variable.TheVariants.{Global, Local}, Paths.{PathView, var, dot}}
+use Rattle.sect_points.specs.{Partitions.{ClassesView}, PathClasses.{variable_of, variable_in}}
 use Rattle.sect_names.specs.Carrying.{Replaced, BeforeStore, BeforeAssignment, BeforeAction, Before}
-use Rattle.sect_names.specs.Laws.{IsSoundStep}
-use Rattle.sect_names.specs.Locks.{VariableTo, FieldTo, PathTo}
+use Rattle.sect_names.specs.{Laws.{IsSoundStep}, Locks.{VariableTo, FieldTo, PathTo}}
+use Rattle.sect_types.specs.declared.expansion.action.Base.TheVariants as base
+use Rattle.sect_types.specs.declared.expansion.action.Value.TheVariants as value
+use Rattle.sect_types.specs.declared.expansion.action.Action.TheVariants as action
+use Rattle.sect_types.specs.declared.expansion.action.Label.TheVariants as label
 
 -- there is one type at most
 pub same_type : (o : Option ValueType) (a b : ValueType) → o ≡ Some a → o ≡ Some b → a ≡ b

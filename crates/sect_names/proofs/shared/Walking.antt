@@ -5,22 +5,16 @@ use Rattle.std.specs.Prelude.{slice_get}
 use Rattle.sect_lemmas.specs.Lists.{Has}
 use Rattle.sect_lemmas.proofs.Membership.{Has-cases, Has-left, Has-right, Has-slice_get}
 use Rattle.sect_types.specs.Statements.{TextView, Stop, Do, Choose, Loop, Section, joined}
-use Rattle.sect_types.specs.Sections.{SectionView, sections_of}
-use Rattle.sect_types.specs.Traces.{Visit, visit, Rounds, IsTrace, node_count}
-use Rattle.sect_types.specs.declared.expansion.action.Action.{Action}
-use Rattle.sect_types.specs.declared.expansion.action.Condition.{Condition}
+use Rattle.sect_types.specs.{Sections.{SectionView, sections_of}, Traces.{Visit, visit, Rounds, IsTrace, node_count}}
+use Rattle.sect_types.specs.{declared.expansion.action.Action.{Action}, declared.expansion.action.Condition.{Condition}}
 use Rattle.sect_types.specs.declared.expansion.action.Label.{Label}
 use Rattle.sect_types.specs.declared.expansion.action.Label.TheVariants.{Act, Test, Section as WholeSection}
 use Rattle.sect_points.specs.Flow.{actions_of}
-use Rattle.sect_names.specs.declared.lock.Lock.{Lock}
-use Rattle.sect_names.specs.Schemes.{SchemeView, IsScheme}
-use Rattle.sect_names.specs.Needed.{IsNeeded}
-use Rattle.sect_names.specs.Laws.{IsProgramStep}
-use Rattle.sect_names.proofs.shared.SectionSteps.{section_placed}
-use Rattle.sect_names.specs.Walks.{labels_of, Turns, IsWalk, Leads, StandsInThread}
+use Rattle.sect_names.specs.{declared.lock.Lock.{Lock}, Schemes.{SchemeView, IsScheme}, Needed.{IsNeeded}}
+use Rattle.sect_names.specs.{Laws.{IsProgramStep}, Walks.{labels_of, Turns, IsWalk, Leads, StandsInThread}}
 use Rattle.sect_names.specs.Along.{NeededBefore, NeededAlong, NeededIn, AreProgramSteps, ReadsBeginnings}
+use Rattle.sect_names.proofs.shared.{SectionSteps.{section_placed}, Beginning.{reads_along}}
 use Rattle.sect_names.proofs.Splitting.{split_along}
-use Rattle.sect_names.proofs.shared.Beginning.{reads_along}
 
 labels_append : (xs ys : List Visit) → labels_of (xs ++ ys) ≡ labels_of xs ++ labels_of ys
 labels_append [] ys = refl

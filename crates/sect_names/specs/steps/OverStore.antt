@@ -2,9 +2,7 @@
 use Rattle.std.specs.Prelude.{◌≡◌, ◌⊎◌, List, Option, Some}
 use Rattle.sect_types.specs.declared.expansion.action.Field.{Field}
 use Rattle.sect_lemmas.specs.Lists.{Has}
-use Rattle.sect_points.specs.declared.holders.Variable.{Variable}
-use Rattle.sect_points.specs.Paths.{PathView, var}
-use Rattle.sect_points.specs.Partitions.{ClassesView}
+use Rattle.sect_points.specs.{declared.holders.Variable.{Variable}, Paths.{PathView, var}, Partitions.{ClassesView}}
 use Rattle.sect_names.specs.Carrying.{GoesOn, AreOfOneClass}
 
 -- q may denote before the store `z.f = w` what `p.g` denotes after it, where these paths may denote what p denotes

@@ -2,22 +2,13 @@
 
 ghost use Rattle.std.specs.Prelude.{◌≡◌, ◌≤◌, ◌↔◌, ◌⊎◌, ℕ, length, List, Some, slice_get};
 ghost use Rattle.sect_lemmas.specs.Lists.{Has};
-ghost use Rattle.sect_types.specs.Sections.{SectionView, sections_of};
-ghost use Rattle.sect_types.specs.Statements.{TextView, Stop};
-ghost use Rattle.sect_types.specs.Traces.{Visit};
-ghost use Rattle.sect_types.specs.declared.expansion.action.Field.{Field};
-ghost use Rattle.sect_types.specs.declared.expansion.action.Label.{Label};
-ghost use Rattle.sect_graph.specs.declared.flow.Node.{Node};
-ghost use Rattle.sect_graph.specs.Graphs.{IsGraphOf};
-ghost use Rattle.sect_graph.specs.Rests.{rest_at};
+ghost use Rattle.sect_types.specs.{Sections.{SectionView, sections_of}, Statements.{TextView, Stop}, Traces.{Visit}};
+ghost use Rattle.sect_types.specs.{declared.expansion.action.Field.{Field}, declared.expansion.action.Label.{Label}};
+ghost use Rattle.sect_graph.specs.{declared.flow.Node.{Node}, Graphs.{IsGraphOf}, Rests.{rest_at}};
 ghost use Rattle.sect_points.specs.Paths.{PathView};
-ghost use Rattle.sect_names.specs.declared.lock.Lock.{Lock};
-ghost use Rattle.sect_names.specs.Schemes.{SchemeView, IsScheme};
-ghost use Rattle.sect_names.specs.Locks.{PathTo, IsOwn};
-ghost use Rattle.sect_names.specs.Laws.{IsProgramStep};
-ghost use Rattle.sect_names.specs.Needed.{IsNeededOn, IsNeeded, IsNeededFrom};
-ghost use Rattle.sect_names.specs.Records.{IsTypedProgram, IsNeedable};
-ghost use Rattle.sect_names.specs.Walks.{labels_of, Leads, StandsInThread};
+ghost use Rattle.sect_names.specs.{declared.lock.Lock.{Lock}, Schemes.{SchemeView, IsScheme}, Locks.{PathTo, IsOwn}};
+ghost use Rattle.sect_names.specs.{Laws.{IsProgramStep}, Needed.{IsNeededOn, IsNeeded, IsNeededFrom}};
+ghost use Rattle.sect_names.specs.{Records.{IsTypedProgram, IsNeedable}, Walks.{labels_of, Leads, StandsInThread}};
 ghost use Rattle.sect_names.specs.Along.{NeededBefore, NeededAlong, NeededIn, AreProgramSteps, GoesBy, ReadsBeginnings};
 
 /// What is needed over steps that are split in two is what is needed step by step; what a section needs, some walk

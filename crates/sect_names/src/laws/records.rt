@@ -2,10 +2,8 @@
 
 ghost use Rattle.std.specs.Prelude.{ℕ};
 ghost use Rattle.sect_types.specs.declared.expansion.action.Label.{Label};
-ghost use Rattle.sect_names.specs.declared.lock.Lock.{Lock};
-ghost use Rattle.sect_names.specs.Schemes.{SchemeView, IsScheme};
-ghost use Rattle.sect_names.specs.Carrying.{Generated, CarriedBack};
-ghost use Rattle.sect_names.specs.Laws.{IsProgramStep, IsSoundStep};
+ghost use Rattle.sect_names.specs.{declared.lock.Lock.{Lock}, Schemes.{SchemeView, IsScheme}};
+ghost use Rattle.sect_names.specs.{Carrying.{Generated, CarriedBack}, Laws.{IsProgramStep, IsSoundStep}};
 ghost use Rattle.sect_names.specs.Records.{IsTypedProgram, LocalsFit, FieldsFit, PathsFit, ClassesHaveOneRecord};
 ghost use Rattle.sect_names.specs.Records.{KeepsItsRecord, IsNeedable};
 

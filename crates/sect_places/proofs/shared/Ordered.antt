@@ -1,8 +1,7 @@
 -- The bytes of tokens in a row lie in the text, and there are some.
 use Rattle.std.proofs.Common.{ℕ, zero, suc, ◌+◌, ◌-◌, ◌<◌, ◌≤◌, List, [], ◌∷◌, length, map, get_or, arith, take, drop}
 use Rattle.sect_front.specs.declared.span.Span.{Span}
-use Rattle.sect_places.specs.declared.range.TokenRange.{TokenRange}
-use Rattle.sect_places.specs.Ranges.{AreAmong}
+use Rattle.sect_places.specs.{declared.range.TokenRange.{TokenRange}, Ranges.{AreAmong}}
 use Rattle.sect_places.specs.Spans.{AreInOrder, IsProper, AreProper, span_in, no_span}
 
 -- the first byte of a token, and the one behind its last

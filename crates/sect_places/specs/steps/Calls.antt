@@ -1,7 +1,6 @@
 -- What stands for calls where a walk stands.
 use Rattle.std.specs.Prelude.{ℕ, List, Option}
-use Rattle.sect_places.specs.declared.inside.Inside.{Inside}
-use Rattle.sect_places.specs.declared.origin.Origin.{Origin}
+use Rattle.sect_places.specs.{declared.inside.Inside.{Inside}, declared.origin.Origin.{Origin}}
 use Rattle.sect_places.specs.Origins.{Expansion, origins_within, sections_within}
 use Rattle.sect_places.specs.steps.Ending.{EndsWithin}
 

@@ -1,6 +1,5 @@
 -- Line feeds.
-use Rattle.std.specs.Prelude.{◌==◌, ℕ, List}
-use Rattle.std.specs.List.{count_by}
+use Rattle.std.specs.{Prelude.{◌==◌, ℕ, List}, List.{count_by}}
 use Rattle.sect_front.specs.Gaps.{line_feed}
 
 -- how many line feeds these bytes have

@@ -1,8 +1,7 @@
 -- Lines and columns, byte by byte.
 use Rattle.std.specs.Prelude.{◌≡◌, ◌≤◌, ℕ, ◌+◌, ◌==◌, if◌then◌else◌, List, length}
 use Rattle.sect_front.specs.Gaps.{line_feed}
-use Rattle.sect_places.specs.Positions.{position}
-use Rattle.sect_places.specs.declared.position.Position.{Position}
+use Rattle.sect_places.specs.{Positions.{position}, declared.position.Position.{Position}}
 use Rattle.sect_places.specs.declared.positions.Cursor.{Cursor}
 
 -- the line and the column behind a byte

@@ -1,9 +1,6 @@
 -- Tokens that a text spells.
 use Rattle.std.specs.Prelude.{◌≡◌, ℕ, List}
-use Rattle.sect_front.specs.TokenAt.{TokenAt}
-use Rattle.sect_front.specs.Lexing.{Spells}
-use Rattle.sect_front.specs.Faults.{tokens_in}
-use Rattle.sect_front.specs.declared.token.Token.{Token}
+use Rattle.sect_front.specs.{TokenAt.{TokenAt}, Lexing.{Spells}, Faults.{tokens_in}, declared.token.Token.{Token}}
 
 -- the text spells these tokens
 pub record IsSpelledBy (bytes : List ℕ) (tokens : List Token) : Type 0 where

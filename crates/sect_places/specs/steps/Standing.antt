@@ -1,9 +1,6 @@
 -- Where a token of a text stands.
 use Rattle.std.specs.Prelude.{◌≡◌, ℕ, ◌+◌, List, length, drop}
-use Rattle.sect_front.specs.TreeView.{TreeView}
-use Rattle.sect_front.specs.Front.{IsSpelled}
-use Rattle.sect_front.specs.Gaps.{after_gap}
-use Rattle.sect_front.specs.LongGaps.{IsRestOf}
+use Rattle.sect_front.specs.{TreeView.{TreeView}, Front.{IsSpelled}, Gaps.{after_gap}, LongGaps.{IsRestOf}}
 use Rattle.sect_front.specs.Lexing.{Reaches}
 
 -- the text spells the tree, and the token of this number stands here, or where there is none so many have passed

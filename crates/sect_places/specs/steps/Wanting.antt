@@ -1,8 +1,6 @@
 -- Names of a tree that are kept as they go by.
 use Rattle.std.specs.Prelude.{◌≡◌, ℕ, ◌+◌, Bool, List, [], ◌∷◌, ◌++◌, length, filter, if◌then◌else◌}
-use Rattle.sect_places.specs.declared.name_use.NameUse.{NameUse}
-use Rattle.sect_places.specs.declared.wish.Wish.{Wish}
-use Rattle.sect_places.specs.Mattering.{is_wanted}
+use Rattle.sect_places.specs.{declared.name_use.NameUse.{NameUse}, declared.wish.Wish.{Wish}, Mattering.{is_wanted}}
 
 -- these are wanted; so many have gone by; those that are kept, with their numbers
 pub record KeptView : Type 0 where

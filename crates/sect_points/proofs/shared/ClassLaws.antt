@@ -1,24 +1,20 @@
 -- What holds of the classes of paths.
 use Rattle.std.proofs.Common.{◌≡◌, ℕ, ◌<◌, List, get_or, Some, refl, sym, ap, ◌∙◌, subst, arith}
-use Rattle.std.specs.Prelude.{slice_get, slice_index}
 use Rattle.std.proofs.lemmas.Option.{slice_get-get_or, get_or_from_slice_get}
+use Rattle.std.specs.Prelude.{slice_get, slice_index}
 use Rattle.sect_lemmas.specs.Lists.{Has}
-use Rattle.sect_types.specs.declared.expansion.action.Action.{Action}
-use Rattle.sect_types.specs.declared.expansion.action.Action.TheVariants as action
-use Rattle.sect_types.specs.declared.expansion.action.Value.{Value}
-use Rattle.sect_types.specs.declared.expansion.action.Value.TheVariants as value
-use Rattle.sect_types.specs.declared.expansion.action.Base.{Base}
-use Rattle.sect_types.specs.declared.expansion.action.Base.TheVariants as base
-use Rattle.sect_types.specs.declared.expansion.action.Field.{Field}
-use Rattle.sect_points.specs.declared.holders.ThreadAction.{ThreadAction}
-use Rattle.sect_points.specs.declared.holders.Variable.{Variable}
+use Rattle.sect_types.specs.{declared.expansion.action.Action.{Action}, declared.expansion.action.Value.{Value}}
+use Rattle.sect_types.specs.{declared.expansion.action.Base.{Base}, declared.expansion.action.Field.{Field}}
+use Rattle.sect_points.specs.{declared.holders.ThreadAction.{ThreadAction}, declared.holders.Variable.{Variable}}
 use Rattle.sect_points.specs.declared.holders.Variable.TheVariants.{Global, Local}
-use Rattle.sect_points.specs.declared.holders.Holder.TheVariants as holder
-use Rattle.sect_points.specs.Flow.{Family, ValueHas, BaseHas, Moved, Within, IsClosed}
-use Rattle.sect_points.specs.Sets.{InSets}
+use Rattle.sect_points.specs.{Flow.{Family, ValueHas, BaseHas, Moved, Within, IsClosed}, Sets.{InSets}}
 use Rattle.sect_points.specs.Paths.{PathView, var, dot, VariableHas, PathHas}
 use Rattle.sect_points.specs.Partitions.{ClassesView, IsParted, Together, Respects, HasClass}
 use Rattle.sect_points.specs.PathClasses.{ArePathClasses, KeepsClasses, variable_of, variable_in, Agree}
+use Rattle.sect_types.specs.declared.expansion.action.Action.TheVariants as action
+use Rattle.sect_types.specs.declared.expansion.action.Value.TheVariants as value
+use Rattle.sect_types.specs.declared.expansion.action.Base.TheVariants as base
+use Rattle.sect_points.specs.declared.holders.Holder.TheVariants as holder
 
 -- the sites of a path are together
 pub path_together : (F : Family) (numbers : List ℕ) → Respects F numbers → (p : PathView) (a b : ℕ) → PathHas F p a

@@ -1,11 +1,8 @@
 -- Past the last row no holder has a site.
-use Rattle.std.proofs.Common.{◌≡◌, ℕ, ◌≤◌, ◌%◌, List, length, subst, arith}
-use Rattle.std.proofs.lemmas.List.{get_or_past}
+use Rattle.std.proofs.{Common.{◌≡◌, ℕ, ◌≤◌, ◌%◌, List, length, subst, arith}, lemmas.List.{get_or_past}}
 use Rattle.std.proofs.lemmas.Nat.Bits.{bit_at-zero}
 use Rattle.std.specs.Int.{bit_at}
-use Rattle.sect_points.specs.Sites.{HasSite}
-use Rattle.sect_points.specs.Rows.{RowHas, no_sites}
-use Rattle.sect_points.specs.declared.sites.SiteSet.{SiteSet}
+use Rattle.sect_points.specs.{Sites.{HasSite}, Rows.{RowHas, no_sites}, declared.sites.SiteSet.{SiteSet}}
 
 -- past the last row there is nothing
 pub row_past : (rows : List SiteSet) (row s : ℕ) → length rows ≤ row → RowHas rows row s → ⊥

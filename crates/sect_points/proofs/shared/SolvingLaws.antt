@@ -1,12 +1,11 @@
 -- What a statement moves grows with the sets that it moves from.
 use Rattle.std.proofs.Common.{ℕ}
-use Rattle.sect_types.specs.declared.expansion.action.Value.{Value}
-use Rattle.sect_types.specs.declared.expansion.action.Value.TheVariants as value
-use Rattle.sect_types.specs.declared.expansion.action.Base.{Base}
-use Rattle.sect_types.specs.declared.expansion.action.Base.TheVariants as base
+use Rattle.sect_types.specs.{declared.expansion.action.Value.{Value}, declared.expansion.action.Base.{Base}}
 use Rattle.sect_types.specs.declared.expansion.action.Action.{Action}
-use Rattle.sect_types.specs.declared.expansion.action.Action.TheVariants as action
 use Rattle.sect_points.specs.Flow.{Family, ValueHas, BaseHas, Moved, Within}
+use Rattle.sect_types.specs.declared.expansion.action.Value.TheVariants as value
+use Rattle.sect_types.specs.declared.expansion.action.Base.TheVariants as base
+use Rattle.sect_types.specs.declared.expansion.action.Action.TheVariants as action
 
 -- more there, more is moved
 value_more : (F G : Family) (t : ℕ) (v : Value) (s : ℕ) → Within F G → ValueHas F t v s → ValueHas G t v s

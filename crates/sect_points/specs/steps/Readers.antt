@@ -1,17 +1,15 @@
 -- TextView in rows, by what they read.
 use Rattle.std.specs.Prelude.{◌≡◌, ◌⊎◌, ℕ, ◌+◌, ◌*◌, ◌%◌, List, [], ◌∷◌, ◌++◌, length, slice_index_or}
 use Rattle.sect_lemmas.specs.Lists.{Has}
-use Rattle.sect_types.specs.declared.expansion.action.Value.{Value}
-use Rattle.sect_types.specs.declared.expansion.action.Value.TheVariants as value
-use Rattle.sect_types.specs.declared.expansion.action.Base.{Base}
-use Rattle.sect_types.specs.declared.expansion.action.Base.TheVariants as base
+use Rattle.sect_types.specs.{declared.expansion.action.Value.{Value}, declared.expansion.action.Base.{Base}}
 use Rattle.sect_types.specs.declared.expansion.action.Action.{Action}
-use Rattle.sect_types.specs.declared.expansion.action.Action.TheVariants as action
 use Rattle.sect_types.specs.declared.declarations.limits.TheConstants.{MOST_FIELDS, MOST_LOCALS}
-use Rattle.sect_points.specs.declared.readers.TheConstants.{ROWS, ROWS_OF_LOCALS}
-use Rattle.sect_points.specs.declared.holders.Growth.{Growth}
-use Rattle.sect_points.specs.declared.holders.Growth.TheVariants as growth
+use Rattle.sect_points.specs.{declared.readers.TheConstants.{ROWS, ROWS_OF_LOCALS}, declared.holders.Growth.{Growth}}
 use Rattle.sect_points.specs.declared.holders.ThreadAction.{ThreadAction}
+use Rattle.sect_types.specs.declared.expansion.action.Value.TheVariants as value
+use Rattle.sect_types.specs.declared.expansion.action.Base.TheVariants as base
+use Rattle.sect_types.specs.declared.expansion.action.Action.TheVariants as action
+use Rattle.sect_points.specs.declared.holders.Growth.TheVariants as growth
 
 -- the rows for the locals, and those for the fields behind them
 abbrev pub local_row_of : ℕ → ℕ → ℕ

@@ -1,9 +1,7 @@
 -- What the workers of a run share. The private functions of the crate cite it.
 use Rattle.std.specs.Prelude.{◌≡◌, ◌<◌, ℕ, List, Option, Some, None, All, length}
 use Rattle.sect_emit.specs.Compiled.{CompiledView, program_of}
-use Rattle.sect_world.specs.declared.world.Moment.{Moment}
-use Rattle.sect_world.specs.Moments.{IsMoment}
-use Rattle.sect_world.specs.Worlds.{WorldView}
+use Rattle.sect_world.specs.{declared.world.Moment.{Moment}, Moments.{IsMoment}, Worlds.{WorldView}}
 
 -- both are of one compiled program, with the same fuel
 abbrev pub IsSameRun : WorldView → WorldView → Type 0

@@ -1,11 +1,8 @@
 -- Turns of one thread in a row. The private functions of the crate cite it.
 use Rattle.std.specs.Prelude.{◌≡◌, ◌≤◌, ◌-◌, ◌⊎◌, ⊤, ℕ, zero, suc, List, [], ◌∷◌, Option, Some, None}
 use Rattle.sect_emit.specs.Compiled.{CompiledView}
-use Rattle.sect_world.specs.declared.turned.Turned.{Turned}
-use Rattle.sect_world.specs.declared.turned.Turned.TheVariants.{Moved, Waits, Ended}
-use Rattle.sect_world.specs.declared.world.Moment.{Moment}
-use Rattle.sect_world.specs.Moments.{world_at}
-use Rattle.sect_world.specs.Worlds.{WorldView, IsTurned}
+use Rattle.sect_world.specs.{declared.turned.Turned.{Turned}, declared.turned.Turned.TheVariants.{Moved, Waits, Ended}}
+use Rattle.sect_world.specs.{declared.world.Moment.{Moment}, Moments.{world_at}, Worlds.{WorldView, IsTurned}}
 
 -- a thread whose turn came to this may make another at once: it has moved, and these, whom it has let in, are nobody
 abbrev pub MayGoOn : Turned → List ℕ → Type 0

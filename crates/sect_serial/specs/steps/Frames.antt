@@ -1,16 +1,12 @@
 -- Threads between their sections. The private methods of `Frame` and `Run` cite it.
 use Rattle.std.specs.Prelude.{◌≡◌, ⊤, ℕ, ◌+◌, Bool, true, false, List, [], ◌∷◌, ◌++◌, ℤ, Some, None, Result, Ok, Err}
 use Rattle.sect_types.specs.Statements.{TextView, Stop, Do, Choose, Loop, Section}
-use Rattle.sect_types.specs.Programs.{ProgramView, environment_at}
-use Rattle.sect_types.specs.Environments.{Environment}
-use Rattle.sect_types.specs.Sound.{IsSound}
-use Rattle.sect_types.specs.Store.{StoreView}
-use Rattle.sect_types.specs.Meaning.{WorkView}
+use Rattle.sect_types.specs.{Programs.{ProgramView, environment_at}, Environments.{Environment}, Sound.{IsSound}}
+use Rattle.sect_types.specs.{Store.{StoreView}, Meaning.{WorkView}}
 use Rattle.sect_types.specs.Whole.{FrameView, RunView, SerialEndView, body_of, ahead, frame_left, store_left}
 use Rattle.sect_types.specs.Whole.{printed_left, has_ended, begins_section, run_section, EndsAs}
 use Rattle.sect_serial.specs.steps.Rests.{is_stop}
-use Rattle.sect_serial.specs.Judging.{IsLeastLeft}
-use Rattle.sect_serial.specs.declared.whole.SerialFault.{SerialFault}
+use Rattle.sect_serial.specs.{Judging.{IsLeastLeft}, declared.whole.SerialFault.{SerialFault}}
 use Rattle.sect_serial.specs.declared.whole.SerialFault.TheVariants.{Memory, NoSection, SectionsLeft}
 
 -- statements k, which begin with a section, run it from this store, and leave frame g, a store, and numbers printed

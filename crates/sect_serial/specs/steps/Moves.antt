@@ -1,8 +1,6 @@
 -- What one step does. `step` cites it.
 use Rattle.std.specs.Prelude.{ℕ, Option, Some, None}
-use Rattle.sect_types.specs.Statements.{TextView}
-use Rattle.sect_types.specs.declared.meaning.store.Fault.{Fault}
-use Rattle.sect_types.specs.Store.{StoreView}
+use Rattle.sect_types.specs.{Statements.{TextView}, declared.meaning.store.Fault.{Fault}, Store.{StoreView}}
 use Rattle.sect_types.specs.Meaning.{WorkView, after_change, Next, On, Off}
 
 -- what a step leaves: what is still to run, what the thread works with, the store, and the fault, if it came to one

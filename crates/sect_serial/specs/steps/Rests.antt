@@ -1,7 +1,6 @@
 -- What is still to run, in parts. `Part` and `Rest` are seen so.
 use Rattle.std.specs.Prelude.{◌≡◌, ⊤, Bool, true, false, List, [], ◌∷◌, Option, Some, None}
-use Rattle.sect_types.specs.Statements.{TextView, Stop, Do, Choose, Loop, Section, joined}
-use Rattle.sect_types.specs.Texts.{step_then}
+use Rattle.sect_types.specs.{Statements.{TextView, Stop, Do, Choose, Loop, Section, joined}, Texts.{step_then}}
 use Rattle.sect_types.specs.declared.expansion.text.Step.{Step}
 
 -- the last part is run first

@@ -1,14 +1,10 @@
 -- States that are kept while outcomes are sought. The private functions of `exploring` and `states` cite it.
 use Rattle.std.specs.Prelude.{◌≡◌, ◌≤◌, ◌<◌, ◌++◌, ◌∷◌, [], ◌⊎◌, ℕ, Bool, true, false, List, Some, length, map}
-use Rattle.std.specs.Prelude.{slice_get, is_some}
-use Rattle.std.specs.Map.{lookup}
-use Rattle.sect_lemmas.specs.Lists.{Has}
-use Rattle.sect_lemmas.specs.Distinct.{AreDistinct}
+use Rattle.std.specs.{Prelude.{slice_get, is_some}, Map.{lookup}}
+use Rattle.sect_lemmas.specs.{Lists.{Has}, Distinct.{AreDistinct}}
 use Rattle.sect_types.specs.Programs.{ProgramView}
 use Rattle.sect_types.specs.Whole.{RunView, SerialEndView, begun, in_order, run_section, RunsWhole, EndsAs}
-use Rattle.sect_serial.specs.Comparing.{run_eq, end_eq}
-use Rattle.sect_serial.specs.Exploring.{Found, ends_in}
-use Rattle.sect_serial.specs.Trimming.{trimmed}
+use Rattle.sect_serial.specs.{Comparing.{run_eq, end_eq}, Exploring.{Found, ends_in}, Trimming.{trimmed}}
 use Rattle.sect_serial.specs.steps.Frames.{AreReady}
 
 -- states, each with an order of whole sections that leads to it

@@ -1,17 +1,10 @@
 -- Lists of claims and of holds: who is among them, and in which mode.
 use Rattle.std.proofs.Common.{◌≡◌, inl, inr, ℕ, zero, suc, ◌≤◌, List, [], ◌∷◌, ◌++◌, drop, Bool, true, false, not}
-use Rattle.std.proofs.Common.{Option, Some, None, refl, sym, ◌∙◌, ap, arith}
-use Rattle.std.specs.Prelude.{◌==◌, ◌||◌, if◌then◌else◌}
-use Rattle.std.specs.List.{find}
-use Rattle.std.specs.Option.{option_map}
-use Rattle.std.proofs.lemmas.Bool.{eqb-true, cases_Bool}
-use Rattle.sect_modes.specs.declared.mode.Mode.{Mode}
-use Rattle.sect_modes.specs.declared.key.Key.{Key}
-use Rattle.sect_modes.specs.Key.{is_same_key}
-use Rattle.sect_table.specs.declared.claims.Claim.{Claim}
-use Rattle.sect_table.specs.declared.claims.Hold.{Hold}
-use Rattle.sect_table.specs.Contents.{is_among, mode_in, mode_for, stay, AreApart}
-use Rattle.sect_table.specs.Sound.{claims_by, one_if}
+use Rattle.std.proofs.{Common.{Option, Some, None, refl, sym, ◌∙◌, ap, arith}, lemmas.Bool.{eqb-true, cases_Bool}}
+use Rattle.std.specs.{Prelude.{◌==◌, ◌||◌, if◌then◌else◌}, List.{find}, Option.{option_map}}
+use Rattle.sect_modes.specs.{declared.mode.Mode.{Mode}, declared.key.Key.{Key}, Key.{is_same_key}}
+use Rattle.sect_table.specs.{declared.claims.Claim.{Claim}, declared.claims.Hold.{Hold}}
+use Rattle.sect_table.specs.{Contents.{is_among, mode_in, mode_for, stay, AreApart}, Sound.{claims_by, one_if}}
 use Rattle.sect_lemmas.proofs.Booleans.{neither}
 
 pub true_or_false : (b : Bool) → b ≡ true → b ≡ false → ⊥

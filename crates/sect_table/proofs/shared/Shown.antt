@@ -1,9 +1,8 @@
 -- The entry of a key among others.
 use Rattle.std.proofs.Common.{◌≡◌, suc, List, ◌∷◌, get_or, true, false, refl, ◌∙◌, ap}
-use Rattle.std.specs.Prelude.{if◌then◌else◌, ◌==◌, ◌&&◌}
 use Rattle.std.proofs.lemmas.Bool.{eqb-true, eq-eqb, and_parts}
-use Rattle.sect_modes.specs.declared.key.Key.{Key}
-use Rattle.sect_modes.specs.declared.key.Key.TheVariants.{All, Class, Global, Made}
+use Rattle.std.specs.Prelude.{if◌then◌else◌, ◌==◌, ◌&&◌}
+use Rattle.sect_modes.specs.{declared.key.Key.{Key}, declared.key.Key.TheVariants.{All, Class, Global, Made}}
 use Rattle.sect_modes.specs.Key.{is_same_key}
 use Rattle.sect_table.specs.Contents.{Entry, number_of, entry_of, no_entry}
 

@@ -1,15 +1,11 @@
 -- How an arena of nodes shows a table.
 use Rattle.std.specs.Prelude.{◌≡◌, ◌⊎◌, ℕ, zero, suc, ◌+◌, ◌<◌, ◌^◌, List, [], ◌∷◌, ◌++◌, map, length, slice_index_or}
 use Rattle.std.specs.Prelude.{slice_set}
-use Rattle.sect_modes.specs.declared.mode.Mode.TheVariants.{Exclusive}
-use Rattle.sect_modes.specs.declared.key.Key.{Key}
+use Rattle.sect_modes.specs.{declared.mode.Mode.TheVariants.{Exclusive}, declared.key.Key.{Key}}
 use Rattle.sect_modes.specs.declared.key.Key.TheVariants.{Class}
-use Rattle.sect_table.specs.declared.claims.Hold.{Hold}
-use Rattle.sect_table.specs.declared.claims.Claim.{Claim}
-use Rattle.sect_table.specs.declared.claims.Grant.{Grant}
+use Rattle.sect_table.specs.{declared.claims.Hold.{Hold}, declared.claims.Claim.{Claim}, declared.claims.Grant.{Grant}}
 use Rattle.sect_table.specs.Contents.{Entry, Contents, hold_of, claim_of}
-use Rattle.sect_table.specs.steps.Keys.{place_in}
-use Rattle.sect_table.specs.steps.Links.{Shape, list_at, label_at, ArePlaced}
+use Rattle.sect_table.specs.steps.{Keys.{place_in}, Links.{Shape, list_at, label_at, ArePlaced}}
 
 abbrev pub no_node : Grant
 no_node = record { thread = 0; key = Class 0; mode = Exclusive }

@@ -1,7 +1,6 @@
 -- Keys by their numbers.
 use Rattle.std.specs.Prelude.{ℕ, suc, List, [], ◌∷◌, if◌then◌else◌}
-use Rattle.sect_modes.specs.declared.key.Key.{Key}
-use Rattle.sect_modes.specs.Key.{is_same_key}
+use Rattle.sect_modes.specs.{declared.key.Key.{Key}, Key.{is_same_key}}
 
 -- the number of a key, or how many there are
 abbrev pub place_in : Key → List Key → ℕ

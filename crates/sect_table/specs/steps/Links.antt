@@ -1,8 +1,7 @@
 -- Chains through an arena of links.
 use Rattle.std.specs.Prelude.{◌≡◌, ◌≢◌, ◌⊎◌, ℕ, zero, suc, ◌+◌, ◌<◌, List, [], ◌∷◌, ◌++◌, length, map, Option, Some}
 use Rattle.std.specs.Prelude.{None, ◌==◌, slice_index_or, slice_set, if◌then◌else◌}
-use Rattle.sect_table.specs.declared.links.Link.{Link}
-use Rattle.sect_table.specs.declared.links.Ends.{Ends}
+use Rattle.sect_table.specs.{declared.links.Link.{Link}, declared.links.Ends.{Ends}}
 
 abbrev pub no_link : Link
 no_link = record { list = 0; previous = None; next = None }

@@ -1,19 +1,16 @@
 -- What statements leave, step by step.
-use Rattle.std.proofs.Common.{◌≡◌, ℕ, ℤ, zero, suc, ◌<◌, ◌≤◌, Option, Some, None, Bool, true, false, refl, sym, ap}
-use Rattle.std.proofs.Common.{◌∙◌, arith, if◌then◌else◌}
-use Rattle.sect_types.specs.declared.expansion.action.Condition.{Condition}
-use Rattle.sect_types.specs.declared.expansion.action.Action.{Action}
-use Rattle.sect_types.specs.declared.expansion.action.Action.TheVariants as action
-use Rattle.sect_types.specs.Statements.{TextView, Stop, Do, Choose, Loop, Section, joined}
-use Rattle.sect_types.specs.Programs.{ProgramView}
+use Rattle.std.proofs.Common.{◌≡◌, ℕ, ℤ, zero, suc, ◌<◌, ◌≤◌, Option, Some, None, Bool, true, false, refl, sym, ap, ◌∙◌}
+use Rattle.std.proofs.Common.{arith, if◌then◌else◌}
+use Rattle.sect_types.specs.{declared.expansion.action.Condition.{Condition}, declared.expansion.action.Action.{Action}}
+use Rattle.sect_types.specs.{Statements.{TextView, Stop, Do, Choose, Loop, Section, joined}, Programs.{ProgramView}}
 use Rattle.sect_types.specs.declared.meaning.store.ObjectName.{ObjectName}
-use Rattle.sect_types.specs.declared.meaning.store.Datum.TheVariants.{Number}
-use Rattle.sect_types.specs.declared.meaning.store.Fault.TheVariants as fault
-use Rattle.sect_types.specs.Store.{ObjectView, StoreView}
-use Rattle.sect_types.specs.Meaning.{WorkView, Came, Went, Fell, Unchanged, after_change, assigned, name_in}
-use Rattle.sect_types.specs.Meaning.{base_datum, value_datum, integer_of, result_of, fits, computed, stored, done}
-use Rattle.sect_types.specs.Meaning.{paid, one, looked, looks, found_at, Next, On, Off, going, taken, next, is_true}
+use Rattle.sect_types.specs.{declared.meaning.store.Datum.TheVariants.{Number}, Store.{ObjectView, StoreView}}
+use Rattle.sect_types.specs.Meaning.{WorkView, Came, Went, Fell, Unchanged, after_change, assigned, name_in, base_datum}
+use Rattle.sect_types.specs.Meaning.{value_datum, integer_of, result_of, fits, computed, stored, done, paid, one}
+use Rattle.sect_types.specs.Meaning.{looked, looks, found_at, Next, On, Off, going, taken, next, is_true}
 use Rattle.sect_types.specs.Whole.{Left, Through, Broken, and_then, left_by, tested, turns, body_of}
+use Rattle.sect_types.specs.declared.expansion.action.Action.TheVariants as action
+use Rattle.sect_types.specs.declared.meaning.store.Fault.TheVariants as fault
 
 -- what a next step and all that comes after it leave
 abbrev pub left_after : ProgramView → ℕ → StoreView → Next → Left

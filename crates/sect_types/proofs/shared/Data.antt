@@ -2,11 +2,11 @@
 use Rattle.std.proofs.Common.{◌≡◌, ℕ, zero, suc, refl, ap, List, [], ◌∷◌, length, slice_get}
 use Rattle.std.specs.Prelude.{map, ℤ}
 use Rattle.sect_types.specs.declared.declarations.types.ValueType.{ValueType}
-use Rattle.sect_types.specs.declared.declarations.types.ValueType.TheVariants as type
 use Rattle.sect_types.specs.declared.meaning.store.ObjectName.{ObjectName}
 use Rattle.sect_types.specs.declared.meaning.store.Datum.TheVariants.{Number, Null, Refers}
 use Rattle.sect_types.specs.Meaning.{datum_or_null, first_datum, name_in}
 use Rattle.sect_lemmas.proofs.Options.{some_injective, none_or_some}
+use Rattle.sect_types.specs.declared.declarations.types.ValueType.TheVariants as type
 
 -- references to one object name it once
 pub refers_injective : (o q : ObjectName) → Refers o ≡ Refers q → o ≡ q

@@ -1,7 +1,6 @@
 -- Whole sections in an order come to one thing at most.
 use Rattle.std.proofs.Common.{◌≡◌, ℕ, List, [], ◌∷◌, map, Some, refl, sym, ◌∙◌, subst}
-use Rattle.sect_types.specs.Programs.{ProgramView}
-use Rattle.sect_types.specs.declared.meaning.store.End.{End}
+use Rattle.sect_types.specs.{Programs.{ProgramView}, declared.meaning.store.End.{End}}
 use Rattle.sect_types.specs.Whole.{RunView, SerialEndView, EndsAs, RunsWhole}
 use Rattle.sect_lemmas.proofs.Options.{some_injective}
 

@@ -1,7 +1,6 @@
 -- A statement weighs no more than the statements that it stands in.
 use Rattle.std.proofs.Common.{ℕ, zero, suc, ◌<◌, ◌≤◌, List, [], ◌∷◌, get_or, length, arith}
-use Rattle.sect_types.specs.Statements.{Stop, weight}
-use Rattle.sect_types.specs.Texts.{step_then, statements_of}
+use Rattle.sect_types.specs.{Statements.{Stop, weight}, Texts.{step_then, statements_of}}
 use Rattle.sect_types.specs.declared.expansion.text.Step.{Step}
 use Rattle.sect_types.specs.declared.expansion.text.Step.TheVariants as step
 

@@ -1,7 +1,6 @@
 -- Statements one after another.
 use Rattle.std.proofs.Common.{◌≡◌, Bool, refl, ap}
-use Rattle.sect_types.specs.Environments.{Environment}
-use Rattle.sect_types.specs.Statements.{TextView, Stop, Do, Choose, Loop, Section, joined}
+use Rattle.sect_types.specs.{Environments.{Environment}, Statements.{TextView, Stop, Do, Choose, Loop, Section, joined}}
 use Rattle.sect_types.specs.Sound.{IsSound}
 
 -- nothing comes behind them

@@ -1,34 +1,24 @@
 -- The locals of a thread are called differently, and none that is of no call as a global.
 use Rattle.std.proofs.Common.{◌≡◌, ◌≤◌, ◌<◌, ◌⊎◌, inl, inr, ℕ, zero, suc, ◌+◌, List, [], ◌∷◌, ◌++◌, map, Option, Some}
 use Rattle.std.proofs.Common.{None, true, false, refl, sym, ap, ◌∙◌, subst, length, arith, take}
-use Rattle.std.specs.Prelude.{nat_eq, slice_get, slice_index_or}
-use Rattle.std.specs.Cmp.Lexicographic.{pointwise}
-use Rattle.std.specs.Option.{option_map}
-use Rattle.std.proofs.lemmas.Bool.{eqb-true, and_parts}
-use Rattle.std.proofs.lemmas.List.{length-map}
+use Rattle.std.proofs.{lemmas.Bool.{eqb-true, and_parts}, lemmas.List.{length-map}}
 use Rattle.std.proofs.lemmas.Option.{slice_get-map as map_at}
-use Rattle.sect_front.specs.TreeView.{TreeView}
-use Rattle.sect_front.specs.declared.tree.Thread.{Thread}
-use Rattle.sect_front.specs.declared.tree.Procedure.{Procedure}
+use Rattle.std.specs.{Prelude.{nat_eq, slice_get, slice_index_or}, Cmp.Lexicographic.{pointwise}, Option.{option_map}}
+use Rattle.sect_front.specs.{TreeView.{TreeView}, declared.tree.Thread.{Thread}, declared.tree.Procedure.{Procedure}}
 use Rattle.sect_front.specs.declared.tree.Declaration.{Declaration}
-use Rattle.sect_types.specs.First.{IsTyped}
-use Rattle.sect_types.specs.Items.{variables}
+use Rattle.sect_front.specs.Syntax.{StatementView, Primitive, If, IfElse, While, Atomic, Call, BlockView, End, Then}
+use Rattle.sect_types.specs.{First.{IsTyped}, Items.{variables}}
 use Rattle.sect_types.specs.Sight.{has_name, place, names_of_globals, names_of_declared}
 use Rattle.sect_types.specs.declared.declarations.local_name.LocalName.{LocalName}
-use Rattle.sect_types.specs.declared.expansion.expand.Fresh.{Fresh}
-use Rattle.sect_types.specs.declared.counting.sums.Sums.{Sums}
+use Rattle.sect_types.specs.{declared.expansion.expand.Fresh.{Fresh}, declared.counting.sums.Sums.{Sums}}
 use Rattle.sect_types.specs.Sums.{sums, sums_at, sums_within, block_sums, procedure_sums, or_nothing, number_of}
 use Rattle.sect_types.specs.Sums.{statement_sums}
-use Rattle.sect_types.specs.Expanded.{Freshens, of_call, block_fresh, fresh_of, fresh_within, fresh_in}
-use Rattle.sect_types.specs.Expanded.{statement_fresh}
+use Rattle.sect_types.specs.Expanded.{Freshens, of_call, block_fresh, fresh_of, fresh_within, fresh_in, statement_fresh}
 use Rattle.sect_types.specs.LocalNames.{local_names_of, all_local_names, is_same_call, is_same_local}
 use Rattle.sect_lemmas.proofs.Replaced.{slice_get-map as mapped_at}
-use Rattle.sect_types.proofs.shared.Repeating.{locals_apart, variables_apart, no_local}
-use Rattle.sect_types.proofs.shared.Repeating.{own_place}
-use Rattle.sect_types.proofs.shared.SoundLemmas.{same_names}
-use Rattle.sect_types.proofs.shared.LocalRows.{own_name, fresh_name}
+use Rattle.sect_types.proofs.shared.Repeating.{locals_apart, variables_apart, no_local, own_place}
+use Rattle.sect_types.proofs.shared.{SoundLemmas.{same_names}, LocalRows.{own_name, fresh_name}}
 use Rattle.sect_types.proofs.LocalRows.{which}
-use Rattle.sect_front.specs.Syntax.{StatementView, Primitive, If, IfElse, While, Atomic, Call, BlockView, End, Then}
 
 one_place : (o : Option ℕ) (i j : ℕ) → o ≡ Some i → o ≡ Some j → i ≡ j
 one_place o i j e f = cc

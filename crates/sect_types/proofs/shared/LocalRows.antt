@@ -1,19 +1,14 @@
 -- A thread has as many names of locals as locals.
-use Rattle.std.proofs.Common.{◌≡◌, ℕ, zero, suc, List, [], ◌∷◌, map, Some, None, refl, sym, ap, ◌∙◌, length}
-use Rattle.std.proofs.Common.{arith}
-use Rattle.std.specs.Prelude.{slice_index_or}
+use Rattle.std.proofs.Common.{◌≡◌, ℕ, zero, suc, List, [], ◌∷◌, map, Some, None, refl, sym, ap, ◌∙◌, length, arith}
 use Rattle.std.proofs.lemmas.List.{length-map, length-append}
-use Rattle.sect_front.specs.TreeView.{TreeView}
-use Rattle.sect_front.specs.declared.tree.Thread.{Thread}
+use Rattle.std.specs.Prelude.{slice_index_or}
+use Rattle.sect_front.specs.{TreeView.{TreeView}, declared.tree.Thread.{Thread}}
 use Rattle.sect_front.specs.declared.tree.Declaration.{Declaration}
 use Rattle.sect_types.specs.declared.declarations.types.ValueType.{ValueType}
 use Rattle.sect_types.specs.declared.declarations.local_name.LocalName.{LocalName}
-use Rattle.sect_types.specs.declared.expansion.expand.Fresh.{Fresh}
-use Rattle.sect_types.specs.Sight.{names_of_records}
-use Rattle.sect_types.specs.Environments.{type_of, types_of}
-use Rattle.sect_types.specs.Expanded.{fresh_in, local_types_of}
-use Rattle.sect_types.specs.LocalNames.{local_names_of, all_local_names}
-use Rattle.sect_types.specs.Programs.{ProgramView, IsOfTree}
+use Rattle.sect_types.specs.{declared.expansion.expand.Fresh.{Fresh}, Sight.{names_of_records}}
+use Rattle.sect_types.specs.{Environments.{type_of, types_of}, Expanded.{fresh_in, local_types_of}}
+use Rattle.sect_types.specs.{LocalNames.{local_names_of, all_local_names}, Programs.{ProgramView, IsOfTree}}
 
 -- what a declared local is called
 abbrev pub own_name : Declaration → LocalName

@@ -1,15 +1,11 @@
 -- Places of names, and how many fields a record has.
 use Rattle.std.proofs.Common.{◌≡◌, ℕ, ◌<◌, ◌≤◌, List, [], Some, None, true, false, length, get_or, sym, ap, ◌∙◌, arith}
-use Rattle.std.specs.Prelude.{nat_eq, slice_get}
-use Rattle.std.specs.Cmp.Lexicographic.{pointwise}
-use Rattle.std.proofs.lemmas.List.{get_or-map, length-map}
-use Rattle.std.proofs.lemmas.List.Elements.{All-get_or}
+use Rattle.std.proofs.{lemmas.List.{get_or-map, length-map}, lemmas.List.Elements.{All-get_or}}
 use Rattle.std.proofs.lemmas.Option.{slice_get_within, get_or_from_slice_get}
+use Rattle.std.specs.{Prelude.{nat_eq, slice_get}, Cmp.Lexicographic.{pointwise}}
 use Rattle.sect_front.specs.declared.tree.Record.{Record}
-use Rattle.sect_types.specs.Limits.{most_fields}
-use Rattle.sect_types.specs.declared.declarations.types.ValueType.{ValueType}
-use Rattle.sect_types.specs.Sight.{place, names_of_records}
-use Rattle.sect_types.specs.Environments.{types_of, type_of}
+use Rattle.sect_types.specs.{Limits.{most_fields}, declared.declarations.types.ValueType.{ValueType}}
+use Rattle.sect_types.specs.{Sight.{place, names_of_records}, Environments.{types_of, type_of}}
 use Rattle.sect_types.specs.Programs.{ProgramView, IsOfTree, IsWithinLimits}
 use Rattle.sect_lemmas.proofs.Positions.{first_position, no_position}
 

@@ -1,15 +1,14 @@
 -- Worked examples by numbers, on which definitions are tested.
 use Rattle.std.specs.Prelude.{ℕ, List, [], ◌∷◌}
-use Rattle.sect_front.specs.declared.tree.Operator.TheVariants as operator
-use Rattle.sect_front.specs.declared.tree.Comparison.TheVariants as comparison
 use Rattle.sect_types.specs.declared.declarations.types.ValueType.{ValueType}
 use Rattle.sect_types.specs.declared.declarations.types.ValueType.TheVariants.{Int, Refers}
 use Rattle.sect_types.specs.declared.expansion.action.Field.{Field}
+use Rattle.sect_types.specs.declared.expansion.action.Action.TheVariants.{Assign, Compute, New, Load, Store, Print}
+use Rattle.sect_types.specs.{Statements.{TextView, Stop, Do, Loop, Section}, Programs.{ProgramView}}
+use Rattle.sect_front.specs.declared.tree.Operator.TheVariants as operator
+use Rattle.sect_front.specs.declared.tree.Comparison.TheVariants as comparison
 use Rattle.sect_types.specs.declared.expansion.action.Base.TheVariants as base
 use Rattle.sect_types.specs.declared.expansion.action.Value.TheVariants as value
-use Rattle.sect_types.specs.declared.expansion.action.Action.TheVariants.{Assign, Compute, New, Load, Store, Print}
-use Rattle.sect_types.specs.Statements.{TextView, Stop, Do, Loop, Section}
-use Rattle.sect_types.specs.Programs.{ProgramView}
 
 -- a program by its records, globals, locals and texts
 abbrev pub numbered : List (List ValueType) → List ℕ → List (List ValueType) → List TextView → ProgramView

@@ -1,33 +1,25 @@
 -- In a typed tree no declaration repeats a name.
 use Rattle.std.proofs.Common.{◌≡◌, ℕ, zero, suc, ◌+◌, ◌≤◌, Bool, true, false, true≢false, List, [], ◌∷◌, ◌++◌, Some}
 use Rattle.std.proofs.Common.{take, length, get_or, refl, sym, ap, ◌∙◌, subst, append_assoc, arith, Option, None}
-use Rattle.std.specs.Prelude.{◌||◌, nat_eq, slice_get, is_some}
-use Rattle.std.specs.Cmp.Lexicographic.{pointwise}
-use Rattle.std.proofs.lemmas.Bool.Decides.{Decides-eqb}
-use Rattle.std.proofs.lemmas.List.{append-nil}
-use Rattle.std.proofs.lemmas.Option.{slice_get_within, get_or_from_slice_get}
-use Rattle.std.proofs.lemmas.Slice.Eq.{slice_eq-Decides}
-use Rattle.sect_front.specs.declared.tree.Record.{Record}
-use Rattle.sect_front.specs.declared.tree.GlobalObject.{GlobalObject}
-use Rattle.sect_front.specs.declared.tree.Declaration.{Declaration}
-use Rattle.sect_front.specs.declared.tree.Thread.{Thread}
+use Rattle.std.proofs.{lemmas.Bool.Decides.{Decides-eqb}, lemmas.List.{append-nil}}
+use Rattle.std.proofs.{lemmas.Option.{slice_get_within, get_or_from_slice_get}, lemmas.Slice.Eq.{slice_eq-Decides}}
+use Rattle.std.specs.{Prelude.{◌||◌, nat_eq, slice_get, is_some}, Cmp.Lexicographic.{pointwise}}
+use Rattle.sect_front.specs.{declared.tree.Record.{Record}, declared.tree.GlobalObject.{GlobalObject}}
+use Rattle.sect_front.specs.{declared.tree.Declaration.{Declaration}, declared.tree.Thread.{Thread}}
 use Rattle.sect_front.specs.Syntax.{StatementView, Primitive, If, IfElse, While, Atomic, Call, BlockView, End, Then}
-use Rattle.sect_front.specs.TreeView.{TreeView}
+use Rattle.sect_front.specs.{TreeView.{TreeView}, declared.tree.Procedure.{Procedure}}
 use Rattle.sect_lemmas.proofs.Booleans.{neither}
 use Rattle.sect_types.specs.declared.rules.rule.Rule.TheVariants.{Twice}
 use Rattle.sect_types.specs.Sight.{has_name, same_name, place, names_of_globals, names_of_declared}
-use Rattle.sect_front.specs.declared.tree.Procedure.{Procedure}
 use Rattle.sect_types.specs.declared.rules.place.Place.{Place}
 use Rattle.sect_types.specs.declared.rules.place.Place.TheVariants.{InThread, InProcedure}
 use Rattle.sect_types.specs.Items.{items, variables, deeper, in_section, procedure_items, CallHead, AProcedure, Item}
 use Rattle.sect_types.specs.Items.{PrimitiveHead, TestHead, AtomicHead, AThread, ALocal, AField, AGlobal, ARecord}
 use Rattle.sect_types.specs.Items.{AStatement, statement_items, block_items, field_items, record_items, global_items}
-use Rattle.sect_types.specs.Items.{local_items, thread_items}
-use Rattle.sect_types.specs.Rules.{Declared, declared_in, Counts, after}
+use Rattle.sect_types.specs.{Items.{local_items, thread_items}, Rules.{Declared, declared_in, Counts, after}}
 use Rattle.sect_types.specs.First.{BreaksFrom, none_yet, IsTyped}
-use Rattle.sect_types.proofs.shared.Naming.{NoneBefore, place_found}
+use Rattle.sect_types.proofs.shared.{Naming.{NoneBefore, place_found}, SoundLemmas.{same_names}}
 use Rattle.sect_types.proofs.Heads.{placed}
-use Rattle.sect_types.proofs.shared.SoundLemmas.{same_names}
 
 -- some item repeats a name, whatever was counted before
 pub HasTwice : Declared → List Item → Type 0

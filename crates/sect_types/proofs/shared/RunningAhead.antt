@@ -2,13 +2,9 @@
 use Rattle.std.proofs.Common.{true≢false, ◌≡◌, ◌⊎◌, inl, inr, ℕ, ℤ, zero, suc, List, [], ◌∷◌, Option, Some, None, Bool}
 use Rattle.std.proofs.Common.{true, false, refl, sym, ap, ◌∙◌, arith, if◌then◌else◌, slice_get, ◌+◌}
 use Rattle.sect_types.specs.declared.expansion.action.Action.{Action}
-use Rattle.sect_types.specs.declared.expansion.action.Action.TheVariants as action
-use Rattle.sect_types.specs.Statements.{TextView, Stop, Do, Choose, Loop, Section, joined}
-use Rattle.sect_types.specs.Programs.{ProgramView}
+use Rattle.sect_types.specs.{Statements.{TextView, Stop, Do, Choose, Loop, Section, joined}, Programs.{ProgramView}}
 use Rattle.sect_types.specs.declared.meaning.store.ObjectName.{ObjectName}
-use Rattle.sect_types.specs.declared.meaning.store.Datum.TheVariants.{Number}
-use Rattle.sect_types.specs.declared.meaning.store.Fault.TheVariants as fault
-use Rattle.sect_types.specs.declared.meaning.store.End.{End}
+use Rattle.sect_types.specs.{declared.meaning.store.Datum.TheVariants.{Number}, declared.meaning.store.End.{End}}
 use Rattle.sect_types.specs.Store.{ObjectView}
 use Rattle.sect_types.specs.Meaning.{WorkView, Came, Went, Fell, Unchanged, assigned, name_in, base_datum, value_datum}
 use Rattle.sect_types.specs.Meaning.{integer_of, result_of, fits, computed, stored, done, paid, going, taken, next}
@@ -17,6 +13,8 @@ use Rattle.sect_types.specs.Whole.{FrameView, frame_after, local_step, begins_se
 use Rattle.sect_types.specs.Whole.{ahead, all_ahead}
 use Rattle.sect_lemmas.proofs.Options.{mapped}
 use Rattle.sect_types.proofs.shared.Starts.{settled_work}
+use Rattle.sect_types.specs.declared.expansion.action.Action.TheVariants as action
+use Rattle.sect_types.specs.declared.meaning.store.Fault.TheVariants as fault
 
 -- where it goes on, this much fuel is left
 abbrev pub LeavesFuel : ℕ → Came → Type 0

@@ -5,8 +5,7 @@ use Rattle.std.specs.Prelude.{slice_get}
 use Rattle.sect_lemmas.specs.Lists.{Has}
 use Rattle.sect_types.specs.Environments.{Environment}
 use Rattle.sect_types.specs.Statements.{TextView, Stop, Do, Choose, Loop, Section, section_bodies}
-use Rattle.sect_types.specs.Sections.{SectionView, sections_from, sections_of}
-use Rattle.sect_types.specs.Sound.{IsSound, AreSound}
+use Rattle.sect_types.specs.{Sections.{SectionView, sections_from, sections_of}, Sound.{IsSound, AreSound}}
 use Rattle.sect_types.specs.declared.declarations.types.ValueType.{ValueType}
 use Rattle.sect_lemmas.proofs.Membership.{Has-cases, Has-slice_get, Has-unmap}
 

@@ -1,6 +1,5 @@
 -- Names that the test of names finds equal are equal.
-use Rattle.std.proofs.Common.{◌≡◌, ℕ, nat_eq, true, List, refl}
-use Rattle.std.proofs.lemmas.Slice.Eq.{slice_eq-Decides}
+use Rattle.std.proofs.{Common.{◌≡◌, ℕ, nat_eq, true, List, refl}, lemmas.Slice.Eq.{slice_eq-Decides}}
 use Rattle.std.proofs.lemmas.Bool.Decides.{Decides-eqb}
 use Rattle.std.specs.Cmp.Lexicographic.{pointwise}
 use Rattle.sect_types.specs.Sight.{same_name}

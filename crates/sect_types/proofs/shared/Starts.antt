@@ -3,8 +3,7 @@ use Rattle.std.proofs.Common.{◌≡◌, ℕ, zero, suc, ◌+◌, ◌<◌, refl,
 use Rattle.std.proofs.Common.{arith}
 use Rattle.std.specs.Prelude.{slice_index_or, replicate}
 use Rattle.sect_types.specs.declared.declarations.types.ValueType.{ValueType}
-use Rattle.sect_types.specs.Statements.{TextView, Stop, Do, Choose, Loop, Section}
-use Rattle.sect_types.specs.Store.{ObjectView, row_in}
+use Rattle.sect_types.specs.{Statements.{TextView, Stop, Do, Choose, Loop, Section}, Store.{ObjectView, row_in}}
 use Rattle.sect_types.specs.Meaning.{WorkView, fresh}
 use Rattle.sect_types.specs.Whole.{FrameView, settled, global_objects, first_work, first_frames}
 use Rattle.sect_lemmas.proofs.Options.{some_injective, none_or_some}

@@ -1,19 +1,17 @@
 -- What a store holds after a write, or after one more object.
 use Rattle.std.proofs.Common.{true≢false, ◌≡◌, ◌≢◌, ℕ, suc, ◌<◌, List, [], ◌∷◌, ◌++◌, length, Option, Some, None, Bool}
 use Rattle.std.proofs.Common.{true, false, ◌&&◌, refl, sym, ap, ◌∙◌, subst, arith, slice_get, if◌then◌else◌}
+use Rattle.std.proofs.lemmas.Bool.{and_parts}
 use Rattle.sect_types.specs.declared.meaning.store.ObjectName.{ObjectName}
 use Rattle.sect_types.specs.declared.meaning.store.ObjectName.TheVariants.{Global, Made}
 use Rattle.sect_types.specs.declared.meaning.store.Datum.{Datum}
 use Rattle.sect_types.specs.Store.{ObjectView, StoreView, same_name, row_in, row, count, object_at, with_field, write}
 use Rattle.sect_types.specs.Store.{add}
-use Rattle.sect_lemmas.specs.Lists.{changed_at}
-use Rattle.sect_lemmas.specs.Numbers.{same_number}
-use Rattle.sect_lemmas.proofs.Booleans.{either_way}
-use Rattle.sect_lemmas.proofs.Elements.{is_there, is_past, get-last, same_elements}
+use Rattle.sect_lemmas.specs.{Lists.{changed_at}, Numbers.{same_number}}
+use Rattle.sect_lemmas.proofs.{Booleans.{either_way}, Elements.{is_there, is_past, get-last, same_elements}}
 use Rattle.sect_lemmas.proofs.Options.{mapped}
 use Rattle.sect_lemmas.proofs.Replaced.{get-changed_at, length-changed_at, same_number-true, same_number-refl}
 use Rattle.sect_lemmas.proofs.Replaced.{same_number-false}
-use Rattle.std.proofs.lemmas.Bool.{and_parts}
 
 -- the test of names says that they are equal
 pub same_name-true : (n m : ObjectName) → same_name n m ≡ true → n ≡ m

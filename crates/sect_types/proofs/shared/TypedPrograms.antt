@@ -1,18 +1,11 @@
 -- What the typing of its tree means for the numbers of a program.
-use Rattle.std.proofs.Common.{ℕ, length, sym, ap, ◌∙◌, subst}
-use Rattle.std.proofs.lemmas.List.{length-map}
+use Rattle.std.proofs.{Common.{ℕ, length, sym, ap, ◌∙◌, subst}, lemmas.List.{length-map}}
 use Rattle.sect_front.specs.declared.tree.GlobalObject.{GlobalObject}
-use Rattle.sect_types.specs.Sight.{names_of_records}
-use Rattle.sect_types.specs.First.{IsTyped}
-use Rattle.sect_types.specs.Expanded.{all_local_types}
-use Rattle.sect_types.specs.Environments.{record_number, global_records}
-use Rattle.sect_types.specs.Sound.{AreSound}
-use Rattle.sect_types.specs.Sections.{AllNumbered, AllSited}
-use Rattle.sect_types.specs.Programs.{ProgramView, IsOfTree}
+use Rattle.sect_types.specs.{Sight.{names_of_records}, First.{IsTyped}, Expanded.{all_local_types}}
+use Rattle.sect_types.specs.{Environments.{record_number, global_records}, Sound.{AreSound}}
+use Rattle.sect_types.specs.{Sections.{AllNumbered, AllSited}, Programs.{ProgramView, IsOfTree}}
 use Rattle.sect_types.specs.steps.Written.{written_texts}
-use Rattle.sect_types.proofs.ByNumbers.{texts_written}
-use Rattle.sect_types.proofs.SectionLaws.{typed_sections}
-use Rattle.sect_types.proofs.SiteLaws.{typed_sites}
+use Rattle.sect_types.proofs.{ByNumbers.{texts_written}, SectionLaws.{typed_sections}, SiteLaws.{typed_sites}}
 use Rattle.sect_types.proofs.TypeLaws.{typed_sound}
 
 module _ (p : ProgramView) (typed : IsTyped p.source) (of : IsOfTree p) where

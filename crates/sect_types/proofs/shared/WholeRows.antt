@@ -1,11 +1,8 @@
 -- The objects and the ends of worked examples, on which definitions are tested.
 use Rattle.std.proofs.Common.{ℕ, List}
 use Rattle.std.specs.Prelude.{pos, map}
-use Rattle.sect_types.specs.declared.meaning.store.Datum.{Datum}
-use Rattle.sect_types.specs.declared.meaning.store.Datum.TheVariants.{Number}
-use Rattle.sect_types.specs.declared.meaning.store.End.{End}
-use Rattle.sect_types.specs.Store.{ObjectView}
-use Rattle.sect_types.specs.Whole.{SerialEndView}
+use Rattle.sect_types.specs.{declared.meaning.store.Datum.{Datum}, declared.meaning.store.Datum.TheVariants.{Number}}
+use Rattle.sect_types.specs.{declared.meaning.store.End.{End}, Store.{ObjectView}, Whole.{SerialEndView}}
 
 -- a number as a datum
 abbrev pub int : ℕ → Datum

@@ -1,7 +1,6 @@
 -- Which procedures call which, and which reach one.
 use Rattle.std.specs.Prelude.{◌≡◌, ◌<◌, ◌+◌, ◌⊎◌, ℕ, Bool, true, false, List, [], ◌∷◌, ◌++◌, length, Some, slice_get}
-use Rattle.std.specs.Prelude.{slice_index_or, eqb}
-use Rattle.std.specs.List.{list_any}
+use Rattle.std.specs.{Prelude.{slice_index_or, eqb}, List.{list_any}}
 use Rattle.sect_front.specs.declared.tree.Procedure.{Procedure}
 use Rattle.sect_lemmas.specs.Lists.{put_at}
 use Rattle.sect_types.specs.Sums.{calls_in}

@@ -1,9 +1,7 @@
 -- The sums as the code keeps them: counting stops one past each limit.
-use Rattle.std.specs.Prelude.{◌≤◌, ◌+◌, min, List, length}
-use Rattle.std.specs.List.{AllByRecursion}
+use Rattle.std.specs.{Prelude.{◌≤◌, ◌+◌, min, List, length}, List.{AllByRecursion}}
 use Rattle.sect_front.specs.declared.tree.Procedure.{Procedure}
-use Rattle.sect_types.specs.Limits.{most_locals}
-use Rattle.sect_types.specs.declared.counting.sums.Sums.{Sums}
+use Rattle.sect_types.specs.{Limits.{most_locals}, declared.counting.sums.Sums.{Sums}}
 use Rattle.sect_types.specs.declared.counting.sums.TheConstants.{PAST_STATEMENTS, PAST_SITES, PAST_CALLS, PAST_DEPTH}
 
 abbrev pub capped : Sums → Sums

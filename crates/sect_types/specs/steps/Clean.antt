@@ -2,11 +2,9 @@
 use Rattle.std.specs.Prelude.{◌≡◌, ⊤, ◌+◌, false, ℕ, List, [], ◌∷◌}
 use Rattle.sect_front.specs.declared.tree.Declaration.{Declaration}
 use Rattle.sect_front.specs.Syntax.{StatementView, Primitive, If, IfElse, While, Atomic, Call, BlockView, End, Then}
-use Rattle.sect_front.specs.declared.tree.Procedure.{Procedure}
-use Rattle.sect_front.specs.declared.tree.Thread.{Thread}
-use Rattle.sect_types.specs.Items.{PrimitiveHead, TestHead, AtomicHead, CallHead, deeper, in_section, Item}
-use Rattle.sect_types.specs.Items.{AStatement, variables}
-use Rattle.sect_types.specs.declared.rules.place.Place.{Place}
+use Rattle.sect_front.specs.{declared.tree.Procedure.{Procedure}, declared.tree.Thread.{Thread}}
+use Rattle.sect_types.specs.Items.{PrimitiveHead, TestHead, AtomicHead, CallHead, deeper, in_section, Item, AStatement}
+use Rattle.sect_types.specs.{Items.{variables}, declared.rules.place.Place.{Place}}
 use Rattle.sect_types.specs.declared.rules.place.Place.TheVariants.{InThread, InProcedure}
 use Rattle.sect_types.specs.Rules.{Declared, unknown, twice, mistyped, outside, nested, miscounted}
 use Rattle.sect_types.specs.steps.Search.{recursive}

@@ -1,15 +1,9 @@
 -- What a walk through a whole tree tells.
 use Rattle.std.specs.Prelude.{◌≡◌, ◌≤◌, true, length}
-use Rattle.sect_front.specs.TreeView.{TreeView}
-use Rattle.sect_front.specs.Depth.{threads_depth}
-use Rattle.sect_front.specs.Limits.{most_depth}
+use Rattle.sect_front.specs.{TreeView.{TreeView}, Depth.{threads_depth}, Limits.{most_depth}}
 use Rattle.sect_types.specs.Limits.{most_globals, most_procedures, most_records, most_threads}
-use Rattle.sect_types.specs.Sight.{names_of_records}
-use Rattle.sect_types.specs.Items.{items}
-use Rattle.sect_types.specs.Rules.{Counts, declared_in}
-use Rattle.sect_types.specs.steps.Judging.{judge, Fine}
-use Rattle.sect_types.specs.First.{none_yet}
-use Rattle.sect_types.specs.steps.Listing.{fields_fine, globals_known, locals_fine}
+use Rattle.sect_types.specs.{Sight.{names_of_records}, Items.{items}, Rules.{Counts, declared_in}, First.{none_yet}}
+use Rattle.sect_types.specs.steps.{Judging.{judge, Fine}, Listing.{fields_fine, globals_known, locals_fine}}
 use Rattle.sect_types.specs.steps.Threads.{variables_fine}
 
 -- what a walk through all items has told: that none breaks a rule, the counts at the end, and that all is few, known

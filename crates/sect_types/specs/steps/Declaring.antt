@@ -2,12 +2,11 @@
 use Rattle.std.specs.Prelude.{◌≡◌, ◌<◌, ◌+◌, ℕ, ⊤, Bool, true, false, List}
 use Rattle.sect_front.specs.TreeView.{TreeView}
 use Rattle.sect_types.specs.Limits.{most_records, most_fields, most_globals, most_procedures, most_threads, most_locals}
-use Rattle.sect_types.specs.Limits.{most_sites}
-use Rattle.sect_types.specs.declared.declarations.declare.Declared.{Declared}
-use Rattle.sect_types.specs.declared.declarations.declare.Declared.TheVariants as declared
+use Rattle.sect_types.specs.{Limits.{most_sites}, declared.declarations.declare.Declared.{Declared}}
 use Rattle.sect_types.specs.Sight.{has_name, names_of_globals}
 use Rattle.sect_types.specs.Items.{Item, ARecord, AField, AGlobal, AProcedure, AThread, ALocal}
 use Rattle.sect_types.specs.Rules.{Counts, knows_kind}
+use Rattle.sect_types.specs.declared.declarations.declare.Declared.TheVariants as declared
 
 -- its name
 abbrev pub name_of : Declared → List ℕ

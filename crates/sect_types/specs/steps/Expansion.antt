@@ -1,27 +1,18 @@
 -- What is written while a text is expanded.
-use Rattle.std.specs.Prelude.{◌≡◌, ◌≤◌, ℕ, Bool, true, ◌&&◌, ◌+◌, List, [], ◌∷◌, ◌++◌, ⊤, length, slice_get}
-use Rattle.std.specs.Prelude.{Option, Some, None}
-use Rattle.sect_front.specs.declared.tree.Operand.{Operand}
-use Rattle.sect_front.specs.declared.tree.Procedure.{Procedure}
-use Rattle.sect_front.specs.declared.tree.Thread.{Thread}
-use Rattle.sect_front.specs.TreeView.{TreeView}
-use Rattle.sect_front.specs.Syntax.{StatementView, BlockView}
+use Rattle.std.specs.Prelude.{◌≡◌, ◌≤◌, ℕ, Bool, true, ◌&&◌, ◌+◌, List, [], ◌∷◌, ◌++◌, ⊤, length, slice_get, Option}
+use Rattle.std.specs.Prelude.{Some, None}
+use Rattle.sect_front.specs.{declared.tree.Operand.{Operand}, declared.tree.Procedure.{Procedure}}
+use Rattle.sect_front.specs.{declared.tree.Thread.{Thread}, TreeView.{TreeView}, Syntax.{StatementView, BlockView}}
 use Rattle.sect_front.specs.Trees.{block_size}
-use Rattle.sect_types.specs.Limits.{most_calls, most_locals, most_all_locals, most_sites}
-use Rattle.sect_types.specs.Limits.{most_sections}
-use Rattle.sect_types.specs.declared.counting.sums.Sums.{Sums}
-use Rattle.sect_types.specs.declared.expansion.action.Value.{Value}
-use Rattle.sect_types.specs.declared.expansion.action.Value.TheVariants as value
+use Rattle.sect_types.specs.Limits.{most_calls, most_locals, most_all_locals, most_sites, most_sections}
+use Rattle.sect_types.specs.{declared.counting.sums.Sums.{Sums}, declared.expansion.action.Value.{Value}}
+use Rattle.sect_types.specs.{Sight.{Sight, operand_of}, Rules.{knows_kind}, Sums.{sums, sums_within, block_sums}}
+use Rattle.sect_types.specs.{Statements.{TextView, joined}, declared.expansion.expand.Fresh.{Fresh}}
+use Rattle.sect_types.specs.Expanded.{Scene, NextNumbers, block_sections, fresh_in, past_thread}
 use Rattle.sect_types.specs.steps.Listing.{all_known}
-use Rattle.sect_types.specs.Sight.{Sight, operand_of}
-use Rattle.sect_types.specs.Rules.{knows_kind}
-use Rattle.sect_types.specs.Sums.{sums, sums_within, block_sums}
-use Rattle.sect_types.specs.Statements.{TextView, joined}
-use Rattle.sect_types.specs.declared.expansion.expand.Fresh.{Fresh}
-use Rattle.sect_types.specs.Expanded.{Scene, NextNumbers, block_sections}
 use Rattle.sect_types.specs.steps.Written.{Writer, argument_in, written_statement, written_block, written_within}
 use Rattle.sect_types.specs.steps.Written.{written_threads, written_texts}
-use Rattle.sect_types.specs.Expanded.{fresh_in, past_thread}
+use Rattle.sect_types.specs.declared.expansion.action.Value.TheVariants as value
 
 -- the new text is the old one, then what the function puts before what follows
 abbrev pub Appends : TextView → TextView → (TextView → TextView) → Type 0

@@ -1,7 +1,6 @@
 -- What was found.
 use Rattle.std.specs.Prelude.{Option, Some, None}
-use Rattle.sect_types.specs.declared.counting.section.Section.{Section}
-use Rattle.sect_types.specs.Sections.{SectionView, section_shown}
+use Rattle.sect_types.specs.{declared.counting.section.Section.{Section}, Sections.{SectionView, section_shown}}
 
 abbrev pub section_in : Option Section → Option SectionView
 section_in None = None

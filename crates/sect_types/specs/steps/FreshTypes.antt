@@ -1,10 +1,8 @@
 -- The types of fresh locals.
 use Rattle.std.specs.Prelude.{ℕ, Bool, true, ◌&&◌, List, [], ◌∷◌, ◌++◌, map}
 use Rattle.sect_front.specs.declared.tree.Thread.{Thread}
-use Rattle.sect_types.specs.declared.declarations.types.ValueType.{ValueType}
-use Rattle.sect_types.specs.declared.expansion.expand.Fresh.{Fresh}
-use Rattle.sect_types.specs.Rules.{knows_kind}
-use Rattle.sect_types.specs.Environments.{type_of, types_of}
+use Rattle.sect_types.specs.{declared.declarations.types.ValueType.{ValueType}, declared.expansion.expand.Fresh.{Fresh}}
+use Rattle.sect_types.specs.{Rules.{knows_kind}, Environments.{type_of, types_of}}
 
 abbrev pub fresh_types : List (List ℕ) → List Fresh → List ValueType
 fresh_types records fs = map (λ (f : Fresh). type_of records f.declared.kind) fs

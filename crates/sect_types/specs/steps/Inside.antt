@@ -1,12 +1,9 @@
 -- What is expanded in one body.
 use Rattle.std.specs.Prelude.{Option}
 use Rattle.sect_front.specs.Syntax.{StatementView, BlockView}
-use Rattle.sect_types.specs.declared.expansion.inside.Inside.{Inside}
-use Rattle.sect_types.specs.Statements.{TextView}
+use Rattle.sect_types.specs.{declared.expansion.inside.Inside.{Inside}, Statements.{TextView}, Expanded.{Scene}}
 use Rattle.sect_types.specs.steps.Expanding.{FrontView, front_past_statement, front_past_block, expanded_there}
-use Rattle.sect_types.specs.steps.Expanding.{block_there, numbered_there, numbered_block}
-use Rattle.sect_types.specs.Expanded.{Scene}
-use Rattle.sect_types.specs.steps.Expansion.{view_of}
+use Rattle.sect_types.specs.steps.{Expanding.{block_there, numbered_there, numbered_block}, Expansion.{view_of}}
 
 -- what the statements see
 abbrev pub scene_in : Inside → Scene

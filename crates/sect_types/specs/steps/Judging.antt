@@ -3,9 +3,7 @@ use Rattle.std.specs.Prelude.{◌≤◌, ℕ, Bool, List, [], ◌∷◌, Option,
 use Rattle.sect_types.specs.Limits.{most_statements, most_sites, most_sections, most_calls}
 use Rattle.sect_types.specs.declared.rules.rule.Rule.{Rule}
 use Rattle.sect_types.specs.declared.rules.rule.Rule.TheVariants.{Unknown, Twice, WrongType, SharedOutside, Nested}
-use Rattle.sect_types.specs.declared.rules.rule.Rule.TheVariants.{TooMany}
-use Rattle.sect_types.specs.declared.rules.rule.Rule.TheVariants.{Recursion, Arguments}
-use Rattle.sect_types.specs.Items.{Item}
+use Rattle.sect_types.specs.{declared.rules.rule.Rule.TheVariants.{TooMany, Recursion, Arguments}, Items.{Item}}
 use Rattle.sect_types.specs.Rules.{Declared, Counts, after, unknown, twice, mistyped, outside, nested, too_many}
 use Rattle.sect_types.specs.Rules.{miscounted}
 use Rattle.sect_types.specs.steps.Search.{recursive}

@@ -1,8 +1,7 @@
 -- Declarations of which the first have been passed.
 use Rattle.std.specs.Prelude.{◌≡◌, ◌≤◌, ℕ, ◌+◌, Bool, true, ◌&&◌, nat_le, List, [], ◌∷◌, ◌++◌, length}
-use Rattle.sect_front.specs.declared.tree.Record.{Record}
-use Rattle.sect_front.specs.declared.tree.GlobalObject.{GlobalObject}
-use Rattle.sect_front.specs.declared.tree.Declaration.{Declaration}
+use Rattle.sect_front.specs.{declared.tree.Record.{Record}, declared.tree.GlobalObject.{GlobalObject}}
+use Rattle.sect_front.specs.{declared.tree.Declaration.{Declaration}, declared.tree.Thread.{Thread}}
 use Rattle.sect_types.specs.Limits.{most_fields, most_globals, most_locals, most_records}
 use Rattle.sect_types.specs.Sight.{has_name, names_of_records, names_of_globals, names_of_declared, all_fields}
 use Rattle.sect_types.specs.declared.declarations.types.ValueType.{ValueType}
@@ -10,7 +9,6 @@ use Rattle.sect_types.specs.Environments.{types_of, field_types, global_records}
 use Rattle.sect_types.specs.Items.{Item, record_items, field_items, global_items, local_items}
 use Rattle.sect_types.specs.Rules.{Declared, Counts, knows_kind}
 use Rattle.sect_types.specs.steps.Judging.{judge}
-use Rattle.sect_front.specs.declared.tree.Thread.{Thread}
 
 -- the set has the names of these records
 abbrev pub Knows : List (List ℕ) → List Record → Type 0

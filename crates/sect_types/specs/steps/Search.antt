@@ -2,11 +2,8 @@
 use Rattle.std.specs.Prelude.{ℕ, zero, suc, Bool, false, ◌||◌, List, length, nat_eq, Option, Some, slice_get}
 use Rattle.std.specs.List.{list_any}
 use Rattle.sect_front.specs.declared.tree.Procedure.{Procedure}
-use Rattle.sect_types.specs.declared.rules.place.Place.{Place}
-use Rattle.sect_types.specs.declared.rules.place.Place.TheVariants.{InProcedure}
-use Rattle.sect_types.specs.Items.{Item, CallHead, AStatement}
-use Rattle.sect_types.specs.Sums.{calls_in, number_of}
-use Rattle.sect_types.specs.Rules.{Declared}
+use Rattle.sect_types.specs.{declared.rules.place.Place.{Place}, declared.rules.place.Place.TheVariants.{InProcedure}}
+use Rattle.sect_types.specs.{Items.{Item, CallHead, AStatement}, Sums.{calls_in, number_of}, Rules.{Declared}}
 
 -- procedure q reaches p by at least one call and at most n
 abbrev pub reaches : ℕ → List Procedure → ℕ → ℕ → Bool

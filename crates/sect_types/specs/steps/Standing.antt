@@ -3,12 +3,8 @@ use Rattle.std.specs.Prelude.{◌≡◌, ◌<◌, ℕ, Bool, List, length, map, 
 use Rattle.sect_front.specs.declared.tree.Procedure.{Procedure}
 use Rattle.sect_types.specs.declared.rules.place.Place.{Place}
 use Rattle.sect_types.specs.declared.rules.place.Place.TheVariants.{InThread, InProcedure}
-use Rattle.sect_types.specs.declared.counting.sums.Sums.{Sums}
-use Rattle.sect_types.specs.Sums.{sums}
-use Rattle.sect_types.specs.steps.Search.{returns}
-use Rattle.sect_types.specs.Sight.{Sight}
-use Rattle.sect_types.specs.Rules.{Declared}
-use Rattle.sect_types.specs.steps.Capped.{capped}
+use Rattle.sect_types.specs.{declared.counting.sums.Sums.{Sums}, Sums.{sums}, Sight.{Sight}, Rules.{Declared}}
+use Rattle.sect_types.specs.steps.{Search.{returns}, Capped.{capped}}
 
 pub record StandingView : Type 0 where
   pub procedures : List Procedure

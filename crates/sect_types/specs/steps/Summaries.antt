@@ -1,11 +1,8 @@
 -- What a call of a procedure comes to, as the code keeps it: the calls in its body apart from the rest.
-use Rattle.std.specs.Prelude.{◌≡◌, ℕ, ◌+◌, List, [], ◌∷◌, Some, map}
-use Rattle.std.specs.List.{AllByRecursion}
+use Rattle.std.specs.{Prelude.{◌≡◌, ℕ, ◌+◌, List, [], ◌∷◌, Some, map}, List.{AllByRecursion}}
 use Rattle.sect_front.specs.declared.tree.Procedure.{Procedure}
-use Rattle.sect_types.specs.Sums.{nothing, both, sums_at, procedure_sums}
-use Rattle.sect_types.specs.declared.counting.sums.Sums.{Sums}
-use Rattle.sect_types.specs.declared.counting.sums.Met.{Met}
-use Rattle.sect_types.specs.declared.counting.sums.Summary.{Summary}
+use Rattle.sect_types.specs.{Sums.{nothing, both, sums_at, procedure_sums}, declared.counting.sums.Sums.{Sums}}
+use Rattle.sect_types.specs.{declared.counting.sums.Met.{Met}, declared.counting.sums.Summary.{Summary}}
 use Rattle.sect_types.specs.steps.Capped.{capped, IsSmall}
 
 -- the same in n blocks

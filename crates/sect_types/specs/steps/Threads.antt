@@ -1,14 +1,11 @@
 -- Procedures and threads of which the first have been passed.
 use Rattle.std.specs.Prelude.{◌≡◌, ◌≤◌, ℕ, ◌+◌, Bool, true, ◌&&◌, nat_le, List, [], ◌∷◌, ◌++◌, map, length}
-use Rattle.sect_front.specs.declared.tree.Declaration.{Declaration}
-use Rattle.sect_front.specs.declared.tree.Procedure.{Procedure}
+use Rattle.sect_front.specs.{declared.tree.Declaration.{Declaration}, declared.tree.Procedure.{Procedure}}
 use Rattle.sect_front.specs.declared.tree.Thread.{Thread}
 use Rattle.sect_types.specs.Limits.{most_locals, most_procedures, most_threads}
 use Rattle.sect_types.specs.Sight.{names_of_records, names_of_declared}
-use Rattle.sect_types.specs.Items.{Item, variables, procedure_items, thread_items}
-use Rattle.sect_types.specs.Rules.{Declared, Counts}
-use Rattle.sect_types.specs.steps.Judging.{judge}
-use Rattle.sect_types.specs.steps.Listing.{all_known, locals_fine}
+use Rattle.sect_types.specs.{Items.{Item, variables, procedure_items, thread_items}, Rules.{Declared, Counts}}
+use Rattle.sect_types.specs.steps.{Judging.{judge}, Listing.{all_known, locals_fine}}
 
 -- the variables of a procedure with their names
 pub record VariablesView : Type 0 where

@@ -2,11 +2,9 @@
 use Rattle.std.specs.Prelude.{◌≡◌, Bool, true, false, if◌then◌else◌, List, Result, Ok, Err, ⊤, Option, Some, None}
 use Rattle.sect_types.specs.declared.rules.rule.Rule.{Rule}
 use Rattle.sect_types.specs.declared.rules.rule.Rule.TheVariants.{Unknown, Twice, WrongType, SharedOutside, TooMany}
-use Rattle.sect_types.specs.declared.rules.rule.WalkFault.{WalkFault}
-use Rattle.sect_types.specs.declared.rules.rule.WalkFault.TheVariants as fault
-use Rattle.sect_types.specs.Items.{Item}
-use Rattle.sect_types.specs.Rules.{Declared, Counts}
+use Rattle.sect_types.specs.{declared.rules.rule.WalkFault.{WalkFault}, Items.{Item}, Rules.{Declared, Counts}}
 use Rattle.sect_types.specs.steps.Judging.{judge, Faulty}
+use Rattle.sect_types.specs.declared.rules.rule.WalkFault.TheVariants as fault
 
 -- these items, given before those of what follows, lead from the old counts to the new ones, or to the fault
 abbrev pub Walks : {A : Type 0} → Declared → (List Item → List Item) → Counts → Counts → Result A WalkFault → Type 0

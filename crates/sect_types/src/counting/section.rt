@@ -1,8 +1,7 @@
 //! Sections.
 
-ghost use Rattle.sect_types.specs.Limits.{most_threads};
+ghost use Rattle.sect_types.specs.{Limits.{most_threads}, Sections.{section_from}};
 ghost use Rattle.std.specs.Prelude.{◌≡◌, ◌≤◌, length};
-ghost use Rattle.sect_types.specs.Sections.{section_from};
 ghost use Rattle.sect_types.specs.steps.Found.{section_in};
 
 use crate::expansion::text::Text;

@@ -1,16 +1,13 @@
 //! What the expansion of a call comes to, found without expanding. Counting stops one past each limit.
 
-ghost use Rattle.std.specs.Prelude.{◌≡◌, ◌+◌, ◌≤◌, IfOk, OnOk, Some, length, map, min};
-ghost use Rattle.std.specs.List.{AllByRecursion};
+ghost use Rattle.std.specs.{Prelude.{◌≡◌, ◌+◌, ◌≤◌, IfOk, OnOk, Some, length, map, min}, List.{AllByRecursion}};
 ghost use Rattle.sect_front.specs.Trees.{statement_of};
-ghost use Rattle.sect_types.specs.Sums.{nothing as nothing_by, both, around};
-ghost use Rattle.sect_types.specs.Sums.{primitive_sums as primitive_sums_by, sums_at as sums_at_by};
-ghost use Rattle.sect_types.specs.Sums.{statement_sums as statement_sums_by, block_sums as block_sums_by, call_sums};
-ghost use Rattle.sect_types.specs.Sums.{sums};
+ghost use Rattle.sect_types.specs.Sums.{nothing as nothing_by, both, around, primitive_sums as primitive_sums_by};
+ghost use Rattle.sect_types.specs.Sums.{sums_at as sums_at_by, statement_sums as statement_sums_by};
+ghost use Rattle.sect_types.specs.{Sums.{block_sums as block_sums_by, call_sums, sums}, Limits.{most_locals}};
 ghost use Rattle.sect_types.specs.steps.Capped.{capped, IsSmall, AreSmall, HaveFewVariables};
-ghost use Rattle.sect_types.specs.steps.Summaries.{deeper as deeper_by, summary_sums as summary_sums_by};
-ghost use Rattle.sect_types.specs.steps.Summaries.{HasMore, IsSummary, AreSummaries};
-ghost use Rattle.sect_types.specs.Limits.{most_locals};
+ghost use Rattle.sect_types.specs.steps.Summaries.{deeper as deeper_by, summary_sums as summary_sums_by, HasMore};
+ghost use Rattle.sect_types.specs.steps.Summaries.{IsSummary, AreSummaries};
 
 use crate::declarations::limits::{MOST_CALLS, MOST_SITES, MOST_STATEMENTS};
 use crate::rules::called::Called;

@@ -1,19 +1,16 @@
 //! A walk through the declarations.
 
-ghost use Rattle.std.specs.Prelude.{◌≡◌, ◌≤◌, ◌<◌, ◌+◌, ◌++◌, ◌∷◌, [], ◌||◌, not, true, false, IfOk, OnOk};
-ghost use Rattle.std.specs.Prelude.{nat_le, length};
+ghost use Rattle.std.specs.Prelude.{◌≡◌, ◌≤◌, ◌<◌, ◌+◌, ◌++◌, ◌∷◌, [], ◌||◌, not, true, false, IfOk, OnOk, nat_le};
+ghost use Rattle.std.specs.Prelude.{length};
 ghost use Rattle.sect_types.specs.Sight.{has_name, names_of_records, names_of_globals, names_of_declared, all_fields};
-ghost use Rattle.sect_types.specs.Items.{ARecord, record_items};
-ghost use Rattle.sect_types.specs.Items.{field_items};
-ghost use Rattle.sect_types.specs.Items.{global_items, local_items};
+ghost use Rattle.sect_types.specs.Items.{ARecord, record_items, field_items, global_items, local_items};
 ghost use Rattle.sect_types.specs.Rules.{knows_kind as knows, declared_in};
+ghost use Rattle.sect_types.specs.Limits.{most_fields, most_globals, most_locals, most_procedures, most_records};
+ghost use Rattle.sect_types.specs.Limits.{most_sites, most_threads};
 ghost use Rattle.sect_types.specs.steps.Walks.{Walks, rule_in, declared_rule};
 ghost use Rattle.sect_types.specs.steps.Declaring.{name_of, item_of, most_of, is_known as is_known_by};
 ghost use Rattle.sect_types.specs.steps.Declaring.{is_taken as is_taken_by, behind, HasSite, IsToldOf};
-ghost use Rattle.sect_types.specs.steps.Listing.{Knows, all_known, fields_fine, globals_known};
-ghost use Rattle.sect_types.specs.steps.Shown.{Shows};
-ghost use Rattle.sect_types.specs.Limits.{most_fields, most_globals, most_locals, most_procedures, most_records};
-ghost use Rattle.sect_types.specs.Limits.{most_sites, most_threads};
+ghost use Rattle.sect_types.specs.steps.{Listing.{Knows, all_known, fields_fine, globals_known}, Shown.{Shows}};
 
 use crate::declarations::limits::{
     MOST_FIELDS, MOST_GLOBALS, MOST_LOCALS, MOST_PROCEDURES, MOST_RECORDS, MOST_THREADS,

@@ -1,12 +1,11 @@
 //! Types by number.
 
 ghost use Rattle.std.specs.Prelude.{◌≡◌, ◌++◌, ◌∷◌, [], true, IfOk, OnOk, OnErr, length};
-ghost use Rattle.sect_types.specs.Rules.{knows_kind};
-ghost use Rattle.sect_types.specs.steps.Listing.{all_known, fields_fine, globals_known, locals_fine};
-ghost use Rattle.sect_types.specs.Sight.{has_name};
+ghost use Rattle.sect_types.specs.{Rules.{knows_kind}, Sight.{has_name}};
 ghost use Rattle.sect_types.specs.Environments.{record_number as record_number_by, type_of as type_by};
 ghost use Rattle.sect_types.specs.Environments.{types_of as types_by, field_types as field_types_by};
 ghost use Rattle.sect_types.specs.Environments.{global_records as global_records_by};
+ghost use Rattle.sect_types.specs.steps.Listing.{all_known, fields_fine, globals_known, locals_fine};
 ghost use Rattle.sect_types.specs.steps.FreshTypes.{fresh_types as fresh_types_by, local_types as local_types_by};
 ghost use Rattle.sect_types.specs.steps.FreshTypes.{fresh_known, all_fresh_known};
 

@@ -3,24 +3,17 @@
 
 ghost use Rattle.std.specs.Prelude.{◌≡◌, ◌+◌, ◌≤◌, ◌<◌, ◌++◌, List, IfOk, OnOk, IsSome, Some, true, length, map};
 ghost use Rattle.std.specs.Prelude.{slice_get};
-ghost use Rattle.sect_front.specs.Trees.{statement_of};
-ghost use Rattle.sect_types.specs.Statements.{TextView, joined};
-ghost use Rattle.sect_types.specs.Sight.{names_of_declared};
-ghost use Rattle.sect_types.specs.Rules.{sight, knows_operands};
-ghost use Rattle.sect_types.specs.Sums.{primitive_sums, number_of as number_by};
-ghost use Rattle.sect_front.specs.declared.tree.Procedure.{Procedure as Spec};
-ghost use Rattle.sect_types.specs.Expanded.{of_call, texts_of, fresh_in};
-ghost use Rattle.sect_types.specs.Limits.{most_all_locals, most_sites, most_sections};
-ghost use Rattle.sect_types.specs.Limits.{most_calls, most_locals, most_globals};
-ghost use Rattle.sect_front.specs.Syntax.{Call};
+ghost use Rattle.sect_front.specs.{Trees.{statement_of}, declared.tree.Procedure.{Procedure as Spec}, Syntax.{Call}};
+ghost use Rattle.sect_types.specs.{Statements.{TextView, joined}, Sight.{names_of_declared}};
+ghost use Rattle.sect_types.specs.{Rules.{sight, knows_operands}, Sums.{primitive_sums, number_of as number_by}};
+ghost use Rattle.sect_types.specs.Expanded.{of_call, texts_of, fresh_in, cleared as cleared_by};
+ghost use Rattle.sect_types.specs.Limits.{most_all_locals, most_sites, most_sections, most_calls, most_locals};
+ghost use Rattle.sect_types.specs.Limits.{most_globals};
 ghost use Rattle.sect_types.specs.steps.Threads.{variables_shown, local_names as names_of_locals};
-ghost use Rattle.sect_types.specs.steps.Expanding.{Fits};
-ghost use Rattle.sect_types.specs.steps.Inside.{scene_in, past_in, past_block_in, text_in, block_text_in};
-ghost use Rattle.sect_types.specs.steps.Inside.{numbered_in, numbered_block_in};
-ghost use Rattle.sect_types.specs.steps.Written.{write_parameters, write_locals};
-ghost use Rattle.sect_types.specs.Expanded.{cleared as cleared_by};
-ghost use Rattle.sect_types.specs.steps.Expanding.{AreFlat, AllFit, thread_end, thread_text, numbered_thread};
+ghost use Rattle.sect_types.specs.steps.Expanding.{Fits, AreFlat, AllFit, thread_end, thread_text, numbered_thread};
 ghost use Rattle.sect_types.specs.steps.Expanding.{setting_of, tree_of};
+ghost use Rattle.sect_types.specs.steps.Inside.{scene_in, past_in, past_block_in, text_in, block_text_in, numbered_in};
+ghost use Rattle.sect_types.specs.steps.{Inside.{numbered_block_in}, Written.{write_parameters, write_locals}};
 ghost use Rattle.sect_types.specs.steps.Shown.{Shows};
 
 use crate::declarations::names::Names;

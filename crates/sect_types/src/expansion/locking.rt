@@ -1,8 +1,7 @@
 //! Which locks each section takes.
 
 ghost use Rattle.std.specs.Prelude.{◌≡◌, ◌++◌, List, IfOk, OnOk};
-ghost use Rattle.sect_front.specs.Trees.{statement_of};
-ghost use Rattle.sect_front.specs.declared.tree.Locking.{Locking};
+ghost use Rattle.sect_front.specs.{Trees.{statement_of}, declared.tree.Locking.{Locking}};
 ghost use Rattle.sect_types.specs.Lockings.{statement_lockings, block_lockings, threads_lockings, lockings_of};
 
 use sect_front::{Block, Locking, Statement, Thread, Tree};

@@ -1,15 +1,12 @@
 //! The procedures of a text by name, and which of them call which.
 
 ghost use Rattle.std.specs.Prelude.{◌≡◌, ◌<◌, ◌++◌, ◌+◌, IfOk, OnOk, OnErr, List, ℕ, [], ◌∷◌, length, slice_get};
-ghost use Rattle.std.specs.Prelude.{nat_eq};
-ghost use Rattle.std.specs.Prelude.{option_copied};
-ghost use Rattle.std.specs.Cmp.Lexicographic.{pointwise};
+ghost use Rattle.std.specs.{Prelude.{nat_eq, option_copied}, Cmp.Lexicographic.{pointwise}};
 ghost use Rattle.indexmap.specs.IndexMap.{get};
 ghost use Rattle.sect_front.specs.Trees.{statement_of};
 ghost use Rattle.sect_types.specs.Sums.{number_of as number_by, statement_calls, block_calls};
-ghost use Rattle.sect_types.specs.steps.Called.{AreCallers, AreCallersBefore, AreMarked, AreFound};
-ghost use Rattle.sect_types.specs.steps.Called.{IsMarked, Marks, Grows, Calls};
-ghost use Rattle.sect_types.specs.steps.Standing.{AreReturning};
+ghost use Rattle.sect_types.specs.steps.Called.{AreCallers, AreCallersBefore, AreMarked, AreFound, IsMarked, Marks};
+ghost use Rattle.sect_types.specs.steps.{Called.{Grows, Calls}, Standing.{AreReturning}};
 
 use indexmap::IndexMap;
 use sect_front::{Block, Name, Procedure, Statement};

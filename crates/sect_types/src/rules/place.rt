@@ -2,13 +2,10 @@
 
 ghost use Rattle.std.specs.Prelude.{◌≡◌, ◌<◌, ◌≤◌, map, length, true, false, Some, OnOk, OnErr};
 ghost use Rattle.sect_types.specs.Items.{deeper as deeper_place, in_section as in_section_place};
-ghost use Rattle.sect_types.specs.Items.{is_inside as inside_at};
-ghost use Rattle.sect_types.specs.Sums.{number_of as number_by, sums, sums_at};
+ghost use Rattle.sect_types.specs.{Items.{is_inside as inside_at}, Sums.{number_of as number_by, sums, sums_at}};
 ghost use Rattle.sect_types.specs.Rules.{by_place, depth_at, passes_by, plus_sums, after_item};
-ghost use Rattle.sect_types.specs.steps.Search.{returns_to};
-ghost use Rattle.sect_types.specs.steps.Capped.{capped};
-ghost use Rattle.sect_types.specs.steps.Standing.{AreReturning, AreTogether};
 ghost use Rattle.sect_types.specs.declared.rules.place.Place.TheVariants.{InThread, InProcedure};
+ghost use Rattle.sect_types.specs.steps.{Search.{returns_to}, Capped.{capped}, Standing.{AreReturning, AreTogether}};
 ghost use Rattle.sect_front.specs.Limits.{most_depth};
 
 use crate::counting::sums::Sums;

@@ -2,14 +2,12 @@
 
 ghost use Rattle.std.specs.Prelude.{◌≡◌, ◌≤◌, ◌+◌, IsSome, length, option_map};
 ghost use Rattle.sect_types.specs.Sight.{base_of, operand_of, field_of, looked_of, names_of_declared};
-ghost use Rattle.sect_types.specs.Numbered.{target_of, base_by, field_by, value_of, action_of};
-ghost use Rattle.sect_types.specs.Numbered.{condition_of};
+ghost use Rattle.sect_types.specs.Numbered.{target_of, base_by, field_by, value_of, action_of, condition_of};
 ghost use Rattle.sect_types.specs.Expanded.{moved_action as moved_action_by, moved_condition as moved_condition_by};
 ghost use Rattle.sect_types.specs.Limits.{most_all_locals};
-ghost use Rattle.sect_types.specs.Rules.{knows_primitive, primitive_agrees, knows_test, test_agrees};
-ghost use Rattle.sect_types.specs.Rules.{sight, knows_operands, kind_accepts, all_accept};
-ghost use Rattle.sect_types.specs.steps.Shown.{Shows};
-ghost use Rattle.sect_types.specs.steps.Walks.{rule_in, of_types};
+ghost use Rattle.sect_types.specs.Rules.{knows_primitive, primitive_agrees, knows_test, test_agrees, sight};
+ghost use Rattle.sect_types.specs.Rules.{knows_operands, kind_accepts, all_accept};
+ghost use Rattle.sect_types.specs.steps.{Shown.{Shows}, Walks.{rule_in, of_types}};
 ghost use Rattle.sect_types.specs.steps.Written.{action_in, condition_in, argument_in};
 
 use crate::declarations::names::Names;

@@ -3,10 +3,9 @@
 ghost use Rattle.std.specs.Prelude.{◌≡◌, ◌+◌, ◌<◌, ◌≤◌, OnOk, OnErr, false, nat_le};
 ghost use Rattle.sect_types.specs.Items.{PrimitiveHead, TestHead, AtomicHead};
 ghost use Rattle.sect_types.specs.Rules.{passes_by, after_item, after_primitive, plus_sums};
-ghost use Rattle.sect_types.specs.steps.Spots.{full_for, full_for_section};
-ghost use Rattle.sect_types.specs.steps.Capped.{IsSmall};
-ghost use Rattle.sect_front.specs.Limits.{most_depth};
 ghost use Rattle.sect_types.specs.Limits.{most_sections, most_sites, most_statements};
+ghost use Rattle.sect_types.specs.steps.{Spots.{full_for, full_for_section}, Capped.{IsSmall}};
+ghost use Rattle.sect_front.specs.Limits.{most_depth};
 
 use crate::counting::sums::Sums;
 use crate::declarations::limits::{

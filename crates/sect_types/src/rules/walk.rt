@@ -1,19 +1,14 @@
 //! A walk through the statements of a thread or a procedure.
 
 ghost use Rattle.std.specs.Prelude.{◌≡◌, ◌∷◌, ◌+◌, ◌≤◌, ◌&&◌, IfOk, Some, false, not, nat_le};
-ghost use Rattle.sect_types.specs.Sums.{number_of};
-ghost use Rattle.sect_types.specs.Limits.{most_statements};
+ghost use Rattle.sect_types.specs.{Sums.{number_of}, Limits.{most_statements}};
 ghost use Rattle.sect_types.specs.Items.{PrimitiveHead, TestHead, AtomicHead, CallHead, AStatement, is_inside};
 ghost use Rattle.sect_types.specs.Items.{statement_items, block_items};
-ghost use Rattle.sect_types.specs.Rules.{shares, by_place, depth_at};
-ghost use Rattle.sect_types.specs.Rules.{knows_primitive, primitive_agrees, knows_test, test_agrees};
-ghost use Rattle.sect_types.specs.steps.Judging.{rule_of};
-ghost use Rattle.sect_types.specs.steps.Spots.{full_for, full_for_section};
-ghost use Rattle.sect_types.specs.steps.Walks.{Walks, rule_in, of_types, then_rest};
-ghost use Rattle.sect_types.specs.steps.Standing.{declared_by};
-ghost use Rattle.sect_front.specs.Depth.{statement_depth, block_depth};
-ghost use Rattle.sect_front.specs.Trees.{statement_of};
-ghost use Rattle.sect_front.specs.Limits.{most_depth};
+ghost use Rattle.sect_types.specs.Rules.{shares, by_place, depth_at, knows_primitive, primitive_agrees, knows_test};
+ghost use Rattle.sect_types.specs.Rules.{test_agrees};
+ghost use Rattle.sect_types.specs.steps.{Judging.{rule_of}, Spots.{full_for, full_for_section}};
+ghost use Rattle.sect_types.specs.steps.{Walks.{Walks, rule_in, of_types, then_rest}, Standing.{declared_by}};
+ghost use Rattle.sect_front.specs.{Depth.{statement_depth, block_depth}, Trees.{statement_of}, Limits.{most_depth}};
 
 use crate::rules::place::Standing;
 use crate::rules::rule::{Rule, WalkFault};

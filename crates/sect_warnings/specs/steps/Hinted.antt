@@ -1,9 +1,8 @@
 -- What comes of a text with a hint.
 use Rattle.std.specs.Prelude.{◌≢◌, ℕ, List, Option, Some, None}
-use Rattle.sect_names.specs.declared.refusal.SourceRefusal.{SourceRefusal}
-use Rattle.sect_names.specs.declared.refusal.SourceRefusal.TheVariants as refusal
-use Rattle.sect_names.specs.Sources.{IsDue}
+use Rattle.sect_names.specs.{declared.refusal.SourceRefusal.{SourceRefusal}, Sources.{IsDue}}
 use Rattle.sect_emit.specs.Compiled.{CompiledView, IsCompiledFrom}
+use Rattle.sect_names.specs.declared.refusal.SourceRefusal.TheVariants as refusal
 
 -- the compiled program of the text, or none, where it is refused
 abbrev pub IsHinted : List ℕ → ℕ → Option CompiledView → Type 0

@@ -2,21 +2,13 @@
 use Rattle.std.specs.Prelude.{◌≡◌, ◌<◌, ◌↔◌, ℕ, suc, ◌-◌, Bool, true, false, List, length, Some, slice_get, position}
 use Rattle.sect_lemmas.specs.Lists.{Has}
 use Rattle.sect_types.specs.Sections.{sections_of}
-use Rattle.sect_points.specs.Paths.{PathView}
-use Rattle.sect_points.specs.Partitions.{HasClass}
-use Rattle.sect_graph.specs.declared.flow.Node.{Node}
-use Rattle.sect_graph.specs.Layout.{flow_nodes}
-use Rattle.sect_names.specs.declared.link.Link.{Link}
-use Rattle.sect_names.specs.declared.lock.Effect.{Effect}
-use Rattle.sect_names.specs.declared.lock.Lock.{Lock}
-use Rattle.sect_names.specs.declared.lock.Lock.TheVariants as lock
-use Rattle.sect_names.specs.Carrying.{Before}
-use Rattle.sect_names.specs.Locks.{depth}
-use Rattle.sect_names.specs.Schemes.{SchemeView}
-use Rattle.sect_emit.specs.Compiled.{CompiledView}
-use Rattle.sect_emit.specs.Explaining.{IsChained, section_at}
-use Rattle.sect_emit.specs.Words.{IsChainNamed}
+use Rattle.sect_points.specs.{Paths.{PathView}, Partitions.{HasClass}}
+use Rattle.sect_graph.specs.{declared.flow.Node.{Node}, Layout.{flow_nodes}}
+use Rattle.sect_names.specs.{declared.link.Link.{Link}, declared.lock.Effect.{Effect}, declared.lock.Lock.{Lock}}
+use Rattle.sect_names.specs.{Carrying.{Before}, Locks.{depth}, Schemes.{SchemeView}}
+use Rattle.sect_emit.specs.{Compiled.{CompiledView}, Explaining.{IsChained, section_at}, Words.{IsChainNamed}}
 use Rattle.sect_warnings.specs.ClassLocks.{class_label, IsTooLong}
+use Rattle.sect_names.specs.declared.lock.Lock.TheVariants as lock
 
 pub record ReasonsView : Type 0 where
   pub section : ℕ

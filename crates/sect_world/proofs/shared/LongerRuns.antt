@@ -1,10 +1,7 @@
 -- Runs that go on: events after events, and one event more.
 use Rattle.std.proofs.Common.{◌++◌, List, [], ◌∷◌, refl, sym, subst}
-use Rattle.sect_emit.specs.Compiled.{CompiledView}
-use Rattle.sect_emit.specs.State.{State}
-use Rattle.sect_world.specs.declared.event.Event.{Event}
-use Rattle.sect_world.specs.Events.{Happens}
-use Rattle.sect_world.specs.Runs.{RunsTo}
+use Rattle.sect_emit.specs.{Compiled.{CompiledView}, State.{State}}
+use Rattle.sect_world.specs.{declared.event.Event.{Event}, Events.{Happens}, Runs.{RunsTo}}
 
 -- what follows events goes on from their end
 pub leads_on : (c : CompiledView) (s a b : State) (es fs : List Event) → RunsTo c s es a → RunsTo c a fs b

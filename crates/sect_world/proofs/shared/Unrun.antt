@@ -3,8 +3,7 @@ use Rattle.std.proofs.Common.{◌≡◌, ℕ, ◌+◌, ◌<◌, ◌≤◌, ◌++
 use Rattle.std.proofs.lemmas.List.{drop_more, take-append-drop}
 use Rattle.sect_lemmas.specs.Lists.{Has}
 use Rattle.sect_world.specs.declared.turned.WorldFault.{WorldFault}
-use Rattle.sect_world.specs.declared.turned.WorldFault.TheVariants.{NoSuchThread, Memory}
-use Rattle.sect_world.specs.Schedules.{IsUnrun}
+use Rattle.sect_world.specs.{declared.turned.WorldFault.TheVariants.{NoSuchThread, Memory}, Schedules.{IsUnrun}}
 use Rattle.sect_world.specs.Worlds.{IsRefused}
 
 -- a refused turn is why a schedule isn't run whose earlier entries are threads

@@ -1,19 +1,13 @@
 -- How a lock table agrees with a state of the machine.
 use Rattle.std.specs.Prelude.{◌≡◌, ◌≤◌, ℕ, List, [], ◌∷◌, ◌++◌, length, map, drop}
-use Rattle.sect_modes.specs.declared.mode.Mode.{Mode}
-use Rattle.sect_modes.specs.declared.key.Key.{Key}
-use Rattle.sect_table.specs.declared.claims.Hold.{Hold}
-use Rattle.sect_table.specs.declared.claims.Grant.{Grant}
+use Rattle.sect_modes.specs.{declared.mode.Mode.{Mode}, declared.key.Key.{Key}}
+use Rattle.sect_table.specs.{declared.claims.Hold.{Hold}, declared.claims.Grant.{Grant}}
 use Rattle.sect_table.specs.Contents.{Entry, Contents, entry_of, put, mode_for, stay, held_by, let_in, let_through}
-use Rattle.sect_table.specs.Contents.{without_holder, give, grant_of, AreApart}
-use Rattle.sect_table.specs.Sound.{waits_of}
-use Rattle.sect_world.specs.declared.event.Event.{Event}
-use Rattle.sect_world.specs.declared.event.Deed.TheVariants.{Take}
-use Rattle.sect_lemmas.specs.Lists.{changed_at}
-use Rattle.sect_emit.specs.Plan.{held_mode}
-use Rattle.sect_emit.specs.State.{ThreadState, State, IsThread}
-use Rattle.sect_world.specs.Events.{taking}
+use Rattle.sect_table.specs.{Contents.{without_holder, give, grant_of, AreApart}, Sound.{waits_of}}
+use Rattle.sect_world.specs.{declared.event.Event.{Event}, declared.event.Deed.TheVariants.{Take}, Events.{taking}}
 use Rattle.sect_world.specs.Waiting.{grips, AllWaitersAsk}
+use Rattle.sect_lemmas.specs.Lists.{changed_at}
+use Rattle.sect_emit.specs.{Plan.{held_mode}, State.{ThreadState, State, IsThread}}
 
 -- between turns: the threads hold what the table says, and who waits there wants that key first
 pub record Fits (c : Contents) (s : State) : Type 0 where

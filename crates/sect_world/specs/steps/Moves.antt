@@ -4,26 +4,18 @@ use Rattle.std.specs.Prelude.{◌≡◌, ◌<◌, ⊤, ℕ, Bool, true, false, L
 use Rattle.std.specs.Prelude.{slice_index_or}
 use Rattle.sect_types.specs.declared.expansion.action.Label.{Label}
 use Rattle.sect_types.specs.declared.expansion.action.Label.TheVariants.{Act, Test, Section}
-use Rattle.sect_types.specs.declared.expansion.action.Action.TheVariants.{New}
-use Rattle.sect_types.specs.declared.meaning.store.Fault.{Fault}
-use Rattle.sect_types.specs.Programs.{ProgramView}
-use Rattle.sect_types.specs.Statements.{TextView, Section as Whole}
+use Rattle.sect_types.specs.{declared.expansion.action.Action.TheVariants.{New}, declared.meaning.store.Fault.{Fault}}
+use Rattle.sect_types.specs.{Programs.{ProgramView}, Statements.{TextView, Section as Whole}}
 use Rattle.sect_types.specs.Store.{ObjectView, StoreView}
 use Rattle.sect_types.specs.Meaning.{WorkView, Next, On, Off, after_change, fresh, next, begins_step}
 use Rattle.sect_types.specs.Whole.{settled, failed, frame_after}
 use Rattle.sect_graph.specs.declared.flow.Successors.{Successors}
-use Rattle.sect_graph.specs.declared.flow.Successors.TheVariants.{Next as To, Branch}
-use Rattle.sect_graph.specs.Rests.{rest_at}
+use Rattle.sect_graph.specs.{declared.flow.Successors.TheVariants.{Next as To, Branch}, Rests.{rest_at}}
 use Rattle.sect_names.specs.Schemes.{guard_of}
-use Rattle.sect_table.specs.declared.claims.Answer.TheVariants.{Granted}
-use Rattle.sect_table.specs.Contents.{Contents}
-use Rattle.sect_table.specs.Answers.{IsAnswered}
+use Rattle.sect_table.specs.{declared.claims.Answer.TheVariants.{Granted}, Contents.{Contents}, Answers.{IsAnswered}}
 use Rattle.sect_table.specs.Sound.{IsKept}
-use Rattle.sect_emit.specs.declared.plan.Grip.{Grip}
-use Rattle.sect_emit.specs.Compiled.{CompiledView, program_of}
-use Rattle.sect_world.specs.declared.inside.Making.{Making}
-use Rattle.sect_world.specs.Events.{grips_of}
-use Rattle.sect_world.specs.Viewing.{text_at}
+use Rattle.sect_emit.specs.{declared.plan.Grip.{Grip}, Compiled.{CompiledView, program_of}}
+use Rattle.sect_world.specs.{declared.inside.Making.{Making}, Events.{grips_of}, Viewing.{text_at}}
 
 -- where control goes on; from a test by whether it holds
 abbrev pub chosen : Successors → Bool → ℕ

@@ -1,19 +1,14 @@
 -- What taking keys makes of the runners. `ask`, `take` and `give_back` cite it.
 use Rattle.std.specs.Prelude.{◌≡◌, ◌⊎◌, ⊤, ℕ, ◌+◌, ◌<◌, ◌^◌, true, false, List, [], ◌∷◌, ◌++◌, Some, map, slice_get}
 use Rattle.sect_lemmas.specs.Lists.{changed_at}
-use Rattle.sect_table.specs.declared.claims.Answer.{Answer}
-use Rattle.sect_table.specs.declared.claims.Answer.TheVariants.{Granted, Queued}
-use Rattle.sect_table.specs.declared.claims.Grant.{Grant}
-use Rattle.sect_table.specs.Contents.{Contents, is_waiting}
-use Rattle.sect_table.specs.Answers.{IsAnswered}
+use Rattle.sect_table.specs.{declared.claims.Answer.{Answer}, declared.claims.Answer.TheVariants.{Granted, Queued}}
+use Rattle.sect_table.specs.{declared.claims.Grant.{Grant}, Contents.{Contents, is_waiting}, Answers.{IsAnswered}}
 use Rattle.sect_emit.specs.declared.plan.Grip.{Grip}
-use Rattle.sect_world.specs.declared.event.Event.{Event}
-use Rattle.sect_world.specs.declared.runner.Phase.TheVariants as phase
-use Rattle.sect_world.specs.declared.runner.Runner.{Runner}
-use Rattle.sect_world.specs.declared.turned.EventKind.TheVariants as kind
-use Rattle.sect_world.specs.declared.turned.Turned.{Turned}
-use Rattle.sect_world.specs.declared.turned.Turned.TheVariants.{Moved, Waits}
+use Rattle.sect_world.specs.{declared.event.Event.{Event}, declared.runner.Runner.{Runner}}
+use Rattle.sect_world.specs.{declared.turned.Turned.{Turned}, declared.turned.Turned.TheVariants.{Moved, Waits}}
 use Rattle.sect_world.specs.steps.Fits.{take_of}
+use Rattle.sect_world.specs.declared.runner.Phase.TheVariants as phase
+use Rattle.sect_world.specs.declared.turned.EventKind.TheVariants as kind
 
 -- a runner that has entered, and this is the first key that it wants
 pub record Wishes (r : Runner) (g : Grip) : Type 0 where

@@ -2,11 +2,10 @@ use Rattle.std.proofs.Common.{subst, length, ◌≡◌, ◌<◌, ℕ, ap}
 use Rattle.sect_lemmas.proofs.Results.{given}
 use Rattle.sect_lemmas.specs.Lists.{Has}
 use Rattle.sect_types.specs.Programs.{ProgramView}
-use Rattle.sect_answers.specs.declared.refusal.Refusal.TheVariants as refusal
-use Rattle.sect_answers.specs.Answers.{of_source}
-use Rattle.sect_answers.specs.Scheduling.{IsScheduleDue, of_world}
+use Rattle.sect_answers.specs.{Answers.{of_source}, Scheduling.{IsScheduleDue, of_world}}
 use Rattle.sect_world.specs.Schedules.{IsUnrun}
 use Rattle.sect_answers.proofs.Refusing.{schedule_source_due, schedule_due, schedule_runs}
+use Rattle.sect_answers.specs.declared.refusal.Refusal.TheVariants as refusal
 use Rattle.sect_answers.proofs.chart.schedule_chart.Goals as goal
 
 pub returns-in_err-compiled-clause-refuses : goal.returns-in_err-compiled-clause-refuses

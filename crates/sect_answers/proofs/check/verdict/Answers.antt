@@ -1,11 +1,9 @@
 use Rattle.std.proofs.Common.{◌≡◌, List, ℕ, ap, subst}
-use Rattle.sect_check.specs.Valid.{IsValid}
-use Rattle.sect_check.specs.Verdicts.{IsRead}
+use Rattle.sect_check.specs.{Valid.{IsValid}, Verdicts.{IsRead}}
 use Rattle.sect_lemmas.proofs.Results.{given}
-use Rattle.sect_answers.specs.declared.refusal.Refusal.TheVariants as refusal
 use Rattle.sect_answers.specs.Checking.{IsCheckDue, of_check}
-use Rattle.sect_answers.proofs.Cutting.{split_once}
-use Rattle.sect_answers.proofs.Refusing.{check_due}
+use Rattle.sect_answers.proofs.{Cutting.{split_once}, Refusing.{check_due}}
+use Rattle.sect_answers.specs.declared.refusal.Refusal.TheVariants as refusal
 use Rattle.sect_answers.proofs.check.verdict.Goals as goal
 
 pub returns-in_err-check-clause-only : goal.returns-in_err-check-clause-only

@@ -1,7 +1,5 @@
 use Rattle.std.proofs.Common.{◌≡◌, ◌++◌, take}
-use Rattle.std.specs.Prelude.{codes}
-use Rattle.std.specs.List.{flat_map}
-use Rattle.std.specs.String.{string_bytes}
+use Rattle.std.specs.{Prelude.{codes}, List.{flat_map}, String.{string_bytes}}
 use Rattle.sect_answers.specs.Conflicting.{path_pair_text}
 use Rattle.sect_answers.proofs.conflicts.put_path_pairs.Given as goal
 

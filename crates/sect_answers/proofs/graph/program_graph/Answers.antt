@@ -1,6 +1,5 @@
 use Rattle.std.proofs.Common.{◌≡◌, ◌≤◌, ◌<◌, length, subst, ap, ◌∙◌, arith}
-use Rattle.sect_types.specs.Programs.{ProgramView}
-use Rattle.sect_types.specs.Sections.{sections_of}
+use Rattle.sect_types.specs.{Programs.{ProgramView}, Sections.{sections_of}}
 use Rattle.sect_names.specs.Schemes.{SchemeView}
 use Rattle.sect_answers.specs.Graphing.{HasSection}
 use Rattle.sect_answers.proofs.graph.program_graph.Goals as goal

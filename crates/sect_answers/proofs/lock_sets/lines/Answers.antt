@@ -1,9 +1,7 @@
 use Rattle.std.proofs.Common.{◌≡◌, ℕ, sym, ap, ◌∙◌, subst, arith}
-use Rattle.std.specs.Prelude.{length}
-use Rattle.std.specs.String.{string_bytes}
+use Rattle.std.specs.{Prelude.{length}, String.{string_bytes}}
 use Rattle.sect_lemmas.proofs.Places.{at_of}
-use Rattle.sect_types.specs.Programs.{ProgramView}
-use Rattle.sect_types.specs.Sections.{sections_of}
+use Rattle.sect_types.specs.{Programs.{ProgramView}, Sections.{sections_of}}
 use Rattle.sect_names.specs.Schemes.{SchemeView}
 use Rattle.sect_answers.specs.Listing.{IsListing}
 use Rattle.sect_answers.proofs.Lines.{no_line, line_more}

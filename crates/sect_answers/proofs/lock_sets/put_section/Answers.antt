@@ -1,11 +1,7 @@
-use Rattle.std.proofs.Common.{◌≡◌, ◌++◌, List, ℕ, ap, ◌∙◌, sym, subst}
-use Rattle.std.specs.Prelude.{codes}
-use Rattle.std.specs.Fmt.{decimal}
-use Rattle.std.specs.String.{string_bytes}
-use Rattle.std.proofs.lemmas.List.{append_assoc}
+use Rattle.std.proofs.{Common.{◌≡◌, ◌++◌, List, ℕ, ap, ◌∙◌, sym, subst}, lemmas.List.{append_assoc}}
+use Rattle.std.specs.{Prelude.{codes}, Fmt.{decimal}, String.{string_bytes}}
 use Rattle.sect_types.specs.Programs.{ProgramView}
-use Rattle.sect_names.specs.Schemes.{SchemeView}
-use Rattle.sect_names.specs.Printing.{AreNamed, locks_text}
+use Rattle.sect_names.specs.{Schemes.{SchemeView}, Printing.{AreNamed, locks_text}}
 use Rattle.sect_emit.proofs.shared.Sets.{set_named}
 use Rattle.sect_answers.proofs.lock_sets.put_section.Goals as goal
 

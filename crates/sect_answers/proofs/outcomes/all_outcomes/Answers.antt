@@ -2,9 +2,9 @@ use Rattle.std.proofs.Common.{◌≡◌, sym, subst}
 use Rattle.sect_lemmas.proofs.Results.{given}
 use Rattle.sect_types.specs.Programs.{ProgramView}
 use Rattle.sect_serial.specs.Exploring.{HasStates}
-use Rattle.sect_answers.specs.declared.refusal.Refusal.TheVariants as refusal
 use Rattle.sect_answers.specs.Outcomes.{of_outcomes}
 use Rattle.sect_answers.proofs.Outcoming.{ends_of_runs, listed_gives}
+use Rattle.sect_answers.specs.declared.refusal.Refusal.TheVariants as refusal
 use Rattle.sect_answers.proofs.outcomes.all_outcomes.Goals as goal
 
 pub returns-in_err-all-clause-only : goal.returns-in_err-all-clause-only

@@ -1,7 +1,5 @@
-use Rattle.std.proofs.Common.{◌≡◌, ◌+◌, ◌++◌, ◌∙◌, sym, ap, drop}
-use Rattle.std.specs.Map.Iter.{deref_pair}
-use Rattle.std.specs.String.{string_bytes}
-use Rattle.std.proofs.lemmas.List.{append_assoc}
+use Rattle.std.proofs.{Common.{◌≡◌, ◌+◌, ◌++◌, ◌∙◌, sym, ap, drop}, lemmas.List.{append_assoc}}
+use Rattle.std.specs.{Map.Iter.{deref_pair}, String.{string_bytes}}
 use Rattle.sect_store.specs.Printing.{by_place, numbered_text}
 use Rattle.sect_serial.specs.Judging.{outcome_of}
 use Rattle.sect_answers.specs.Outcomes.{one_text}

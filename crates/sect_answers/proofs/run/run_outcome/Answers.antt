@@ -3,10 +3,8 @@ use Rattle.sect_lemmas.proofs.Results.{given}
 use Rattle.sect_types.specs.Whole.{SerialEndView}
 use Rattle.sect_store.specs.Outcomes.{OutcomeView}
 use Rattle.sect_serial.specs.Judging.{outcome_of}
-use Rattle.sect_emit.specs.Compiled.{program_of}
-use Rattle.sect_emit.specs.State.{State}
-use Rattle.sect_world.specs.Runs.{IsComplete, order_of}
-use Rattle.sect_world.specs.Worlds.{outcome_at}
+use Rattle.sect_emit.specs.{Compiled.{program_of}, State.{State}}
+use Rattle.sect_world.specs.{Runs.{IsComplete, order_of}, Worlds.{outcome_at}}
 use Rattle.sect_answers.specs.Formats.{outcome_in}
 use Rattle.sect_answers.specs.declared.refusal.Refusal.TheVariants as refusal
 use Rattle.sect_answers.proofs.run.run_outcome.Goals as goal

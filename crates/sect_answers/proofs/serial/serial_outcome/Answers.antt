@@ -1,10 +1,9 @@
 use Rattle.std.proofs.Common.{◌≡◌, List, ℕ, refl, sym, subst}
-use Rattle.sect_types.specs.Programs.{ProgramView}
-use Rattle.sect_types.specs.Whole.{RunsWhole}
-use Rattle.sect_answers.specs.declared.refusal.Refusal.TheVariants as refusal
+use Rattle.sect_types.specs.{Programs.{ProgramView}, Whole.{RunsWhole}}
 use Rattle.sect_answers.specs.Serial.{of_serial}
 use Rattle.sect_lemmas.proofs.Results.{given}
 use Rattle.sect_answers.proofs.Refusing.{ended_gives}
+use Rattle.sect_answers.specs.declared.refusal.Refusal.TheVariants as refusal
 use Rattle.sect_answers.proofs.serial.serial_outcome.Goals as goal
 
 pub returns-in_err-end-clause-only : goal.returns-in_err-end-clause-only

@@ -1,13 +1,9 @@
-use Rattle.std.proofs.Common.{◌≡◌, ◌<◌, ◌≤◌, ◌+◌, ◌-◌, List, ℕ, Bool, true, false, drop, take, length, arith, refl}
-use Rattle.std.proofs.Common.{sym, ap, ◌∙◌, subst, true≢false, get_or}
-use Rattle.std.specs.Prelude.{codes, nat_eq}
-use Rattle.std.specs.Bool.{Decides}
-use Rattle.std.proofs.lemmas.Bool.{eqb-true}
-use Rattle.std.proofs.lemmas.Bool.Decides.{Decides-eqb}
-use Rattle.std.proofs.lemmas.List.{get_or-drop, length-drop, take_all}
-use Rattle.memchr.specs.Find.{is_byte, Passes, NoneBefore, Nowhere}
-use Rattle.std.specs.List.{slice_range}
+use Rattle.std.proofs.Common.{◌≡◌, ◌<◌, ◌≤◌, ◌+◌, ◌-◌, List, ℕ, Bool, true, false, drop, take, length, arith, refl, sym}
+use Rattle.std.proofs.{Common.{ap, ◌∙◌, subst, true≢false, get_or}, lemmas.Bool.{eqb-true}}
+use Rattle.std.proofs.{lemmas.Bool.Decides.{Decides-eqb}, lemmas.List.{get_or-drop, length-drop, take_all}}
+use Rattle.std.specs.{Prelude.{codes, nat_eq}, Bool.{Decides}, List.{slice_range}}
 use Rattle.std.specs.Cmp.Lexicographic.{pointwise, pointwise_decides}
+use Rattle.memchr.specs.Find.{is_byte, Passes, NoneBefore, Nowhere}
 use Rattle.sect_answers.proofs.Cutting.{IsCutSo, cut_begins, cut_over, passed_over, cut_line, cut_end, cut_none}
 use Rattle.sect_answers.proofs.splitting.source_start.Goals.{In-Some}
 use Rattle.sect_answers.proofs.splitting.source_start.Goals as goal

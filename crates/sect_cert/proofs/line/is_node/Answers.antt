@@ -1,8 +1,6 @@
-use Rattle.std.proofs.Common.{◌≡◌, ◌∙◌, ℕ, Bool, true, false, not, List, refl, sym}
+use Rattle.std.proofs.{Common.{◌≡◌, ◌∙◌, ℕ, Bool, true, false, not, List, refl, sym}, lemmas.Bool.{eqb-true}}
 use Rattle.std.specs.Str.{bytes_eq}
-use Rattle.std.proofs.lemmas.Bool.{eqb-true}
-use Rattle.sect_cert.proofs.CutTexts.{same_bytes}
-use Rattle.sect_cert.proofs.AgainLaws.{node_head}
+use Rattle.sect_cert.proofs.{CutTexts.{same_bytes}, AgainLaws.{node_head}}
 use Rattle.sect_cert.proofs.line.is_node.Goals as goal
 
 same_word : (a b : List ℕ) → not (bytes_eq a b) ≡ false → a ≡ b

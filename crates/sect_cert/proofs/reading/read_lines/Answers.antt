@@ -1,7 +1,6 @@
 use Rattle.std.proofs.Common.{inr, sym, ◌+◌, ◌∷◌, arith, length-append, ap, subst, length}
+use Rattle.std.proofs.{lemmas.List.Splits.{length-slice_split}, lemmas.List.Sums.{count_by-le-length}}
 use Rattle.std.specs.Prelude.{◌==◌}
-use Rattle.std.proofs.lemmas.List.Splits.{length-slice_split}
-use Rattle.std.proofs.lemmas.List.Sums.{count_by-le-length}
 use Rattle.sect_cert.specs.Parts.{parts}
 use Rattle.sect_cert.proofs.AgainLaws.{after_line}
 use Rattle.sect_cert.proofs.Verdict.{IsReading, reading_more, reading_goes_on, reading_fails, reading_closes}

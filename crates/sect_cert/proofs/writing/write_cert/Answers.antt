@@ -1,5 +1,4 @@
-use Rattle.sect_cert.proofs.WriteLaws.{cert_written}
-use Rattle.sect_cert.proofs.Versions.{only}
+use Rattle.sect_cert.proofs.{WriteLaws.{cert_written}, Versions.{only}}
 use Rattle.sect_cert.proofs.writing.write_cert.Goals as goal
 
 pub returns-clause-text : goal.returns-clause-text

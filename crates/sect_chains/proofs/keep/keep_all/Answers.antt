@@ -1,5 +1,4 @@
-use Rattle.std.proofs.Common.{◌<◌, length, get_or, take, ap, ◌∙◌, arith}
-use Rattle.std.proofs.lemmas.List.{get_or_default}
+use Rattle.std.proofs.{Common.{◌<◌, length, get_or, take, ap, ◌∙◌, arith}, lemmas.List.{get_or_default}}
 use Rattle.sect_lemmas.proofs.Membership.{Has-get_or}
 use Rattle.sect_chains.specs.steps.Keeping.{KeptView, kept}
 use Rattle.sect_chains.proofs.Keeping.{each_count, each_next}

@@ -1,12 +1,9 @@
 use Rattle.std.proofs.Common.{◌≡◌, ◌<◌, Some, length, sym, ap, ◌∙◌, subst, arith}
-use Rattle.std.specs.Prelude.{slice_get}
 use Rattle.std.proofs.lemmas.Option.{slice_get_within, get_or_from_slice_get}
-use Rattle.std.specs.Option.{is_some}
+use Rattle.std.specs.{Prelude.{slice_get}, Option.{is_some}}
 use Rattle.sect_lemmas.specs.Lists.{Has}
-use Rattle.sect_chains.specs.steps.Trails.{AreFrom}
-use Rattle.sect_chains.specs.steps.Working.{links_of, nexts_of}
-use Rattle.sect_chains.proofs.Places.{read_at}
-use Rattle.sect_chains.proofs.Chaining.{some_found, found_is, lock_there, start_there, start_is}
+use Rattle.sect_chains.specs.steps.{Trails.{AreFrom}, Working.{links_of, nexts_of}}
+use Rattle.sect_chains.proofs.{Places.{read_at}, Chaining.{some_found, found_is, lock_there, start_there, start_is}}
 use Rattle.sect_chains.proofs.section.chain_of.Goals as goal
 
 pub unwrap-number-requires : goal.unwrap-number-requires

@@ -1,14 +1,12 @@
 use Rattle.std.proofs.Common.{◌≡◌, ◌≤◌, Some, length, sym, ap, ◌∙◌, subst, arith}
 use Rattle.std.specs.Prelude.{slice_get}
-use Rattle.sect_types.specs.Sections.{sections_of}
-use Rattle.sect_types.specs.Sections.{section_shown}
+use Rattle.sect_types.specs.Sections.{sections_of, section_shown}
 use Rattle.sect_front.specs.declared.tree.Locking.{Locking}
-use Rattle.sect_front.specs.declared.tree.Locking.TheVariants as locking
-use Rattle.sect_names.specs.Needed.{end_of, end_locks}
+use Rattle.sect_names.specs.{Needed.{end_of, end_locks}, Laws.{AreLawful}}
 use Rattle.sect_names.proofs.shared.Ending.{section_read, end_is}
-use Rattle.sect_names.specs.Laws.{AreLawful}
 use Rattle.sect_chains.specs.steps.Trails.{AreTops}
 use Rattle.sect_chains.proofs.section.chains.Goals.{After-entry}
+use Rattle.sect_front.specs.declared.tree.Locking.TheVariants as locking
 use Rattle.sect_chains.proofs.section.chains.Goals as goal
 
 -- the end generates one lock at most

@@ -1,13 +1,10 @@
 use Rattle.std.proofs.Common.{◌<◌, length, subst, sym, arith}
 use Rattle.sect_lemmas.specs.Lists.{Has}
-use Rattle.sect_lemmas.proofs.Membership.{Has-get_or}
-use Rattle.sect_lemmas.proofs.Places.{zip_more}
+use Rattle.sect_lemmas.proofs.{Membership.{Has-get_or}, Places.{zip_more}}
 use Rattle.sect_names.specs.Chains.{link}
 use Rattle.sect_chains.specs.Chains.{IsFirstChain}
-use Rattle.sect_chains.proofs.Firsts.{first_chain}
+use Rattle.sect_chains.proofs.{Firsts.{first_chain}, Growing.{kept_numbers, kept_trail}, Trails.{go_back}}
 use Rattle.sect_chains.specs.steps.Working.{links_of, nexts_of, kept_of}
-use Rattle.sect_chains.proofs.Growing.{kept_numbers, kept_trail}
-use Rattle.sect_chains.proofs.Trails.{go_back}
 use Rattle.sect_chains.proofs.section.found.Goals as goal
 
 pub starts_of-requires : goal.starts_of-requires

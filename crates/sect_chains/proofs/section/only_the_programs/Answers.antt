@@ -1,7 +1,6 @@
 use Rattle.std.proofs.Common.{◌≡◌, ℕ, Some, subst}
 use Rattle.std.specs.Prelude.{slice_get}
-use Rattle.sect_types.specs.Programs.{ProgramView}
-use Rattle.sect_types.specs.Sound.{AreSound}
+use Rattle.sect_types.specs.{Programs.{ProgramView}, Sound.{AreSound}}
 use Rattle.sect_graph.specs.declared.flow.Node.{Node}
 use Rattle.sect_names.specs.Laws.{IsSoundStep}
 use Rattle.sect_names.proofs.shared.Ends.{ended_lawful}

@@ -1,10 +1,9 @@
-use Rattle.std.proofs.Common.{◌≡◌, ◌<◌, Some, length, sym, ap, ◌∙◌, arith}
+use Rattle.std.proofs.{Common.{◌≡◌, ◌<◌, Some, length, sym, ap, ◌∙◌, arith}, lemmas.Option.{slice_get-get_or}}
 use Rattle.std.specs.Prelude.{slice_get}
-use Rattle.std.proofs.lemmas.Option.{slice_get-get_or}
 use Rattle.sect_lemmas.proofs.Membership.{Has-slice_get}
 use Rattle.sect_chains.proofs.Starting.{starts_none, starts_put, starts_skip}
-use Rattle.sect_chains.proofs.starts.starts_of.Goals as goal
 use Rattle.sect_chains.proofs.starts.starts_of.Goals.{then-step-eq0, else-step-eq0}
+use Rattle.sect_chains.proofs.starts.starts_of.Goals as goal
 
 pub index_mut-requires : goal.index_mut-requires
 index_mut-requires c =

@@ -1,10 +1,7 @@
-use Rattle.std.proofs.Common.{◌≡◌, ◌∷◌, [], Some, None, arith, sym, ap, ◌∙◌, subst}
+use Rattle.std.proofs.{Common.{◌≡◌, ◌∷◌, [], Some, None, arith, sym, ap, ◌∙◌, subst}, lemmas.Option.{slice_get-get_or}}
 use Rattle.std.specs.Prelude.{slice_get}
-use Rattle.std.proofs.lemmas.Option.{slice_get-get_or}
-use Rattle.sect_chains.specs.steps.Trails.{AreFrom}
-use Rattle.sect_chains.specs.steps.Working.{links_of, nexts_of}
-use Rattle.sect_chains.proofs.Growing.{next_is}
-use Rattle.sect_chains.proofs.Trails.{LeadTo, lead_next}
+use Rattle.sect_chains.specs.steps.{Trails.{AreFrom}, Working.{links_of, nexts_of}}
+use Rattle.sect_chains.proofs.{Growing.{next_is}, Trails.{LeadTo, lead_next}}
 use Rattle.sect_chains.proofs.trail.links_from.Goals as goal
 
 pub loop-next-preserved : goal.loop-next-preserved

@@ -1,9 +1,7 @@
-use Rattle.std.proofs.Common.{◌≡◌, ◌<◌, Some, arith, sym, ap, ◌∙◌}
+use Rattle.std.proofs.{Common.{◌≡◌, ◌<◌, Some, arith, sym, ap, ◌∙◌}, lemmas.Option.{slice_get-get_or}}
 use Rattle.std.specs.Prelude.{slice_get}
-use Rattle.std.proofs.lemmas.Option.{slice_get-get_or}
 use Rattle.sect_chains.specs.steps.Working.{nexts_of}
-use Rattle.sect_chains.proofs.Growing.{next_is}
-use Rattle.sect_chains.proofs.trail.steps_behind.Goals.{In-Some}
+use Rattle.sect_chains.proofs.{Growing.{next_is}, trail.steps_behind.Goals.{In-Some}}
 use Rattle.sect_chains.proofs.trail.steps_behind.Goals as goal
 
 -- the next step stands before this one

@@ -1,14 +1,11 @@
-use Rattle.std.proofs.Common.{◌≡◌, ◌<◌, ◌≤◌, [], Some, length, sym, ap, ◌∙◌, subst, arith}
-use Rattle.std.specs.Prelude.{slice_get, slice_index_or}
-use Rattle.std.proofs.lemmas.List.{length-map}
+use Rattle.std.proofs.{Common.{◌≡◌, ◌<◌, ◌≤◌, [], Some, length, sym, ap, ◌∙◌, subst, arith}, lemmas.List.{length-map}}
 use Rattle.std.proofs.lemmas.Option.{slice_get-get_or, slice_get_within, get_or_from_slice_get}
+use Rattle.std.specs.Prelude.{slice_get, slice_index_or}
 use Rattle.sect_lemmas.proofs.Membership.{Has-slice_get}
 use Rattle.sect_chains.specs.declared.keep.KeptLink.{KeptLink}
 use Rattle.sect_graph.specs.Predecessors.{AreBefore, IsAscending}
-use Rattle.sect_chains.specs.steps.Working.{link_of, links_of, kept_of}
-use Rattle.sect_chains.specs.steps.Ordering.{links_in}
-use Rattle.sect_chains.proofs.Spreading.{orderly_begin, orderly_next}
-use Rattle.sect_chains.proofs.Growing.{kept_trail, link_at}
+use Rattle.sect_chains.specs.steps.{Working.{link_of, links_of, kept_of}, Ordering.{links_in}}
+use Rattle.sect_chains.proofs.{Spreading.{orderly_begin, orderly_next}, Growing.{kept_trail, link_at}}
 use Rattle.sect_chains.proofs.Working.{work_next, work_ends, trail_lock, few}
 use Rattle.sect_chains.proofs.trail.trail_of.Goals as goal
 

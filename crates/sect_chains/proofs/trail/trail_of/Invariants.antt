@@ -1,7 +1,6 @@
 use Rattle.std.proofs.Common.{◌-◌, length}
 use Rattle.sect_chains.specs.steps.Working.{kept_of}
-use Rattle.sect_chains.proofs.Spreading.{IsOrderly}
-use Rattle.sect_chains.proofs.Working.{IsWorklist, all_steps}
+use Rattle.sect_chains.proofs.{Spreading.{IsOrderly}, Working.{IsWorklist, all_steps}}
 use Rattle.sect_chains.proofs.trail.trail_of.Given as goal
 
 abbrev pub invariant-loop-done : goal.invariant-loop-done

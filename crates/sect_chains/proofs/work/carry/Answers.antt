@@ -1,17 +1,13 @@
 use Rattle.std.proofs.Common.{◌≡◌, ◌<◌, ◌≤◌, Some, length, length-append, get_or, take, sym, ap, subst, arith}
+use Rattle.std.proofs.{lemmas.List.{get_or_default}, lemmas.Option.{slice_get_within}}
 use Rattle.std.specs.Prelude.{slice_get}
-use Rattle.std.proofs.lemmas.List.{get_or_default}
-use Rattle.std.proofs.lemmas.Option.{slice_get_within}
-use Rattle.sect_lemmas.proofs.Membership.{Has-get_or, Has-slice_get}
-use Rattle.sect_lemmas.proofs.Places.{at_of, one_at}
+use Rattle.sect_lemmas.proofs.{Membership.{Has-get_or, Has-slice_get}, Places.{at_of, one_at}}
 use Rattle.sect_lemmas.specs.Lists.{Has}
-use Rattle.sect_graph.specs.Paths.{LeadsTo}
+use Rattle.sect_graph.specs.{Paths.{LeadsTo}, Predecessors.{AreBefore}}
 use Rattle.sect_names.specs.Chains.{LinksTo}
 use Rattle.sect_chains.specs.declared.keep.KeptLink.{KeptLink}
-use Rattle.sect_graph.specs.Predecessors.{AreBefore}
 use Rattle.sect_chains.specs.steps.Working.{kept_of}
-use Rattle.sect_chains.proofs.Growing.{kept_numbers, link_at, lock_is, grows_none, grows_at}
-use Rattle.sect_chains.proofs.Places.{in_front}
+use Rattle.sect_chains.proofs.{Growing.{kept_numbers, link_at, lock_is, grows_none, grows_at}, Places.{in_front}}
 use Rattle.sect_chains.proofs.Carrying.{carry_next, carry_done}
 use Rattle.sect_chains.proofs.Spreading.{first_begin, first_before, first_next, first_done}
 use Rattle.sect_chains.proofs.work.carry.Goals as goal

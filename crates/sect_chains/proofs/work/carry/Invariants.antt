@@ -1,8 +1,7 @@
 use Rattle.std.proofs.Common.{◌≡◌, Some, take}
 use Rattle.std.specs.Prelude.{slice_get}
 use Rattle.sect_lemmas.specs.Lists.{Has}
-use Rattle.sect_names.specs.declared.link.Link.{Link}
-use Rattle.sect_names.specs.Chains.{LinksTo}
+use Rattle.sect_names.specs.{declared.link.Link.{Link}, Chains.{LinksTo}}
 use Rattle.sect_chains.specs.steps.Working.{links_of, GoesOn}
 use Rattle.sect_chains.proofs.Spreading.{AddsFirst}
 use Rattle.sect_chains.proofs.work.carry.Given as goal

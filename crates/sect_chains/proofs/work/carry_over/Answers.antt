@@ -1,23 +1,14 @@
-use Rattle.std.proofs.Common.{◌≡◌, [], Some, sym, ap, ◌∙◌, subst}
-use Rattle.std.specs.Prelude.{slice_get}
-use Rattle.std.proofs.lemmas.Option.{slice_get-get_or}
+use Rattle.std.proofs.{Common.{◌≡◌, [], Some, sym, ap, ◌∙◌, subst}, lemmas.Option.{slice_get-get_or}}
 use Rattle.std.proofs.lemmas.Result.{on_ok_weaker}
-use Rattle.sect_lemmas.proofs.Membership.{Has-slice_get}
-use Rattle.sect_lemmas.proofs.Places.{told_of, at_of}
-use Rattle.sect_graph.specs.declared.flow.Node.{Node}
-use Rattle.sect_graph.specs.Paths.{LeadsTo}
-use Rattle.sect_names.specs.Carrying.{CarriedBack}
-use Rattle.sect_names.specs.Chains.{link}
+use Rattle.std.specs.Prelude.{slice_get}
+use Rattle.sect_lemmas.proofs.{Membership.{Has-slice_get}, Places.{told_of, at_of}}
+use Rattle.sect_graph.specs.{declared.flow.Node.{Node}, Paths.{LeadsTo}}
+use Rattle.sect_names.specs.{Carrying.{CarriedBack}, Chains.{link}, declared.link.Link.{Link}}
 use Rattle.sect_infer.specs.Numberings.{Finds, IsFinding}
-use Rattle.sect_names.specs.declared.link.Link.{Link}
-use Rattle.sect_chains.specs.steps.Keeping.{KeptView}
-use Rattle.sect_chains.specs.steps.Working.{links_of, nexts_of, kept_of, Grows}
+use Rattle.sect_chains.specs.steps.{Keeping.{KeptView}, Working.{links_of, nexts_of, kept_of, Grows}}
 use Rattle.sect_chains.specs.steps.Ordering.{links_in, nexts_in, Adds}
-use Rattle.sect_chains.proofs.Adding.{carried_adds}
-use Rattle.sect_chains.proofs.Growing.{kept_numbers, step_found, lock_is}
-use Rattle.sect_chains.proofs.Working.{trail_lock}
-use Rattle.sect_chains.proofs.Carrying.{carried_to}
-use Rattle.sect_chains.proofs.work.carry_over.Goals.{In_ok-carry_one}
+use Rattle.sect_chains.proofs.{Adding.{carried_adds}, Growing.{kept_numbers, step_found, lock_is}, Working.{trail_lock}}
+use Rattle.sect_chains.proofs.{Carrying.{carried_to}, work.carry_over.Goals.{In_ok-carry_one}}
 use Rattle.sect_chains.proofs.work.carry_over.Goals as goal
 
 pub carry_one-requires-clause-number : goal.carry_one-requires-clause-number

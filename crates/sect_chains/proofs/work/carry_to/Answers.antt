@@ -1,20 +1,13 @@
-use Rattle.std.proofs.Common.{◌≡◌, Some, sym, ap, ◌∙◌, subst, refl, arith, [], ◌∷◌}
-use Rattle.std.specs.Prelude.{slice_get}
-use Rattle.std.proofs.lemmas.Option.{slice_get-get_or}
+use Rattle.std.proofs.{Common.{◌≡◌, Some, sym, ap, ◌∙◌, subst, refl, arith, [], ◌∷◌}, lemmas.Option.{slice_get-get_or}}
 use Rattle.std.proofs.lemmas.Result.{on_ok_weaker}
-use Rattle.sect_lemmas.proofs.Membership.{Has-slice_get}
-use Rattle.sect_lemmas.proofs.Places.{told_of}
-use Rattle.sect_graph.specs.declared.flow.Node.{Node}
-use Rattle.sect_graph.specs.Paths.{LeadsTo}
+use Rattle.std.specs.Prelude.{slice_get}
+use Rattle.sect_lemmas.proofs.{Membership.{Has-slice_get}, Places.{told_of}}
+use Rattle.sect_graph.specs.{declared.flow.Node.{Node}, Paths.{LeadsTo}}
 use Rattle.sect_names.specs.Carrying.{CarriedBack}
-use Rattle.sect_chains.specs.steps.Keeping.{KeptView}
-use Rattle.sect_chains.specs.steps.Working.{links_of, nexts_of, kept_of, Grows}
+use Rattle.sect_chains.specs.steps.{Keeping.{KeptView}, Working.{links_of, nexts_of, kept_of, Grows}}
 use Rattle.sect_chains.specs.steps.Ordering.{links_in, nexts_in, Adds}
-use Rattle.sect_chains.proofs.Adding.{carried_adds}
-use Rattle.sect_chains.proofs.Carrying.{carried_to}
-use Rattle.sect_chains.proofs.Growing.{kept_numbers}
-use Rattle.sect_chains.proofs.Listing.{few_in_order}
-use Rattle.sect_chains.proofs.Staying.{stayed}
+use Rattle.sect_chains.proofs.{Adding.{carried_adds}, Carrying.{carried_to}, Growing.{kept_numbers}}
+use Rattle.sect_chains.proofs.{Listing.{few_in_order}, Staying.{stayed}}
 use Rattle.sect_chains.proofs.work.carry_to.Goals as goal
 
 pub lock-requires : goal.lock-requires

@@ -3,9 +3,7 @@ use Rattle.sect_lemmas.specs.Lists.{Has}
 use Rattle.sect_names.specs.declared.link.Link.{Link}
 use Rattle.sect_chains.specs.declared.work.Trail.{Trail}
 use Rattle.sect_chains.specs.steps.Working.{kept_of, IsGeneratedBelow}
-use Rattle.sect_chains.proofs.Spreading.{below_before, begins}
-use Rattle.sect_chains.proofs.Growing.{grows_found}
-use Rattle.sect_chains.proofs.Carrying.{generated_all}
+use Rattle.sect_chains.proofs.{Spreading.{below_before, begins}, Growing.{grows_found}, Carrying.{generated_all}}
 use Rattle.sect_chains.proofs.work.generated.Goals as goal
 
 pub returns-clause-all : goal.returns-clause-all

@@ -1,12 +1,9 @@
-use Rattle.std.proofs.Common.{◌≡◌, None, sym, subst, arith}
-use Rattle.std.proofs.lemmas.Option.{slice_get_within}
+use Rattle.std.proofs.{Common.{◌≡◌, None, sym, subst, arith}, lemmas.Option.{slice_get_within}}
 use Rattle.std.proofs.lemmas.Result.{on_ok_weaker}
 use Rattle.sect_names.specs.Chains.{link}
-use Rattle.sect_chains.specs.steps.Keeping.{KeptView}
-use Rattle.sect_chains.specs.steps.Working.{links_of, nexts_of, kept_of, Grows}
+use Rattle.sect_chains.specs.steps.{Keeping.{KeptView}, Working.{links_of, nexts_of, kept_of, Grows}}
 use Rattle.sect_chains.specs.steps.Ordering.{links_in, nexts_in, Adds}
-use Rattle.sect_chains.proofs.Adding.{put_adds}
-use Rattle.sect_chains.proofs.Carrying.{put_one, generated_within}
+use Rattle.sect_chains.proofs.{Adding.{put_adds}, Carrying.{put_one, generated_within}}
 use Rattle.sect_chains.proofs.work.put.Goals as goal
 
 pub keep-requires-clause-node : goal.keep-requires-clause-node

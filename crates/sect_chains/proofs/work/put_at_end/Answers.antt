@@ -1,10 +1,8 @@
-use Rattle.std.proofs.Common.{◌<◌, ◌≤◌, None, length, inr, sym, subst, arith}
-use Rattle.std.proofs.lemmas.List.{take_all}
+use Rattle.std.proofs.{Common.{◌<◌, ◌≤◌, None, length, inr, sym, subst, arith}, lemmas.List.{take_all}}
 use Rattle.sect_lemmas.specs.Lists.{Has}
 use Rattle.sect_lemmas.proofs.Membership.{Has-get_or}
 use Rattle.sect_names.specs.Chains.{link}
-use Rattle.sect_chains.specs.steps.Working.{kept_of, GoesOn}
-use Rattle.sect_chains.specs.steps.Ordering.{AllBefore}
+use Rattle.sect_chains.specs.steps.{Working.{kept_of, GoesOn}, Ordering.{AllBefore}}
 use Rattle.sect_chains.proofs.Carrying.{IsOfEnd, end_none, end_next}
 use Rattle.sect_chains.proofs.Spreading.{end_begin, end_before, end_more, end_done}
 use Rattle.sect_chains.proofs.work.put_at_end.Goals as goal

@@ -1,7 +1,6 @@
 use Rattle.std.proofs.Common.{take}
 use Rattle.sect_chains.specs.steps.Working.{GoesOn}
-use Rattle.sect_chains.proofs.Carrying.{IsOfEnd}
-use Rattle.sect_chains.proofs.Spreading.{AddsAtEnd}
+use Rattle.sect_chains.proofs.{Carrying.{IsOfEnd}, Spreading.{AddsAtEnd}}
 use Rattle.sect_chains.proofs.work.put_at_end.Given as goal
 
 abbrev pub invariant-loop-lock : goal.invariant-loop-lock

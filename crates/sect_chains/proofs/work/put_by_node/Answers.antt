@@ -1,13 +1,8 @@
-use Rattle.std.proofs.Common.{◌≡◌, ◌↔◌, Some, None, sym, ap, subst}
-use Rattle.std.proofs.lemmas.Result.{on_ok_weaker}
-use Rattle.sect_names.specs.declared.lock.Lock.{Lock}
-use Rattle.sect_names.specs.Carrying.{Generated}
+use Rattle.std.proofs.{Common.{◌≡◌, ◌↔◌, Some, None, sym, ap, subst}, lemmas.Result.{on_ok_weaker}}
+use Rattle.sect_names.specs.{declared.lock.Lock.{Lock}, Carrying.{Generated}, Chains.{link}, declared.link.Link.{Link}}
 use Rattle.sect_graph.specs.declared.flow.Node.{Node}
 use Rattle.sect_lemmas.proofs.Places.{told_at}
-use Rattle.sect_names.specs.Chains.{link}
-use Rattle.sect_names.specs.declared.link.Link.{Link}
-use Rattle.sect_chains.specs.steps.Working.{kept_of, IsGeneratedBy}
-use Rattle.sect_chains.specs.steps.Ordering.{links_in, nexts_in}
+use Rattle.sect_chains.specs.steps.{Working.{kept_of, IsGeneratedBy}, Ordering.{links_in, nexts_in}}
 use Rattle.sect_chains.proofs.Adding.{adds_none, adds_as}
 use Rattle.sect_chains.proofs.Carrying.{by_node_none, by_node_one, by_node_nothing, by_node_is, generated_here}
 use Rattle.sect_chains.proofs.work.put_by_node.Goals as goal

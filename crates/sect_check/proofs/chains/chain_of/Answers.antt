@@ -1,7 +1,6 @@
-use Rattle.std.proofs.Common.{length, sym, arith, refl}
-use Rattle.std.proofs.lemmas.Bool.{ltb-false, ltb-true}
-use Rattle.sect_lemmas.proofs.Membership.{Has-slice_get}
+use Rattle.std.proofs.{Common.{length, sym, arith, refl}, lemmas.Bool.{ltb-false, ltb-true}}
 use Rattle.std.proofs.lemmas.Option.{slice_get_read}
+use Rattle.sect_lemmas.proofs.Membership.{Has-slice_get}
 use Rattle.sect_check.proofs.Numbering.{no_more, another_there}
 use Rattle.sect_check.proofs.chains.chain_of.Goals as goal
 

@@ -1,10 +1,8 @@
 use Rattle.std.proofs.Common.{◌≡◌, ◌≤◌, List, Some, length, ap, sym, subst, arith, refl}
+use Rattle.std.proofs.{lemmas.Bool.{ltb-false, ltb-true}, lemmas.Option.{slice_get_read}}
 use Rattle.std.specs.Prelude.{slice_get}
-use Rattle.std.proofs.lemmas.Bool.{ltb-false, ltb-true}
-use Rattle.sect_names.specs.declared.lock.Lock.{Lock}
-use Rattle.sect_names.specs.Needed.{end_locks}
+use Rattle.sect_names.specs.{declared.lock.Lock.{Lock}, Needed.{end_locks}}
 use Rattle.sect_check.specs.declared.claims.ChainClaim.{ChainClaim}
-use Rattle.std.proofs.lemmas.Option.{slice_get_read}
 use Rattle.sect_check.proofs.Chaining.{numbers_below, chain_passed, chains_more, chains_done, no_others, stray_breaks}
 use Rattle.sect_check.proofs.chains.judge_chains.Goals as goal
 

@@ -1,13 +1,9 @@
 use Rattle.std.proofs.Common.{◌≡◌, ◌<◌, List, length, arith, ap, ◌∙◌, subst}
-use Rattle.sect_types.specs.Programs.{ProgramView}
-use Rattle.sect_types.specs.Sections.{sections_of}
+use Rattle.sect_types.specs.{Programs.{ProgramView}, Sections.{sections_of}, Sight.{names_of_globals}}
 use Rattle.sect_cert.specs.declared.certificate.CertSection.{CertSection}
-use Rattle.sect_check.specs.declared.claims.Claims.{Claims}
-use Rattle.sect_check.specs.Meaning.{DenotesAll}
+use Rattle.sect_check.specs.{declared.claims.Claims.{Claims}, Meaning.{DenotesAll}}
 use Rattle.sect_check.specs.steps.Resolving.{DenotesAt}
-use Rattle.sect_check.proofs.Resolving.{passes}
-use Rattle.sect_check.proofs.Judging.{first_more, denotes_all, none_denoted}
-use Rattle.sect_types.specs.Sight.{names_of_globals}
+use Rattle.sect_check.proofs.{Resolving.{passes}, Judging.{first_more, denotes_all, none_denoted}}
 use Rattle.sect_types.proofs.shared.Repeating.{globals_apart}
 use Rattle.sect_hints.specs.Names.{AreDifferent}
 use Rattle.sect_check.proofs.checking.all_claims.Goals as goal

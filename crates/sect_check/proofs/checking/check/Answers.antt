@@ -1,8 +1,8 @@
 use Rattle.std.proofs.Common.{ap}
 use Rattle.sect_check.specs.Verdicts.{of_source}
 use Rattle.sect_check.proofs.Answering.{source_refused, text_refused, cert_judged, cert_least, only_memory, text_given}
-use Rattle.sect_check.proofs.shared.Answering.{valid_for}
 use Rattle.sect_check.proofs.Unique.{ok_unless}
+use Rattle.sect_check.proofs.shared.Answering.{valid_for}
 use Rattle.sect_check.proofs.checking.check.Goals as goal
 
 pub returns-in_err-scheme-clause-judges : goal.returns-in_err-scheme-clause-judges

@@ -1,5 +1,4 @@
-use Rattle.std.proofs.Common.{length, refl, subst}
-use Rattle.std.proofs.lemmas.Option.{slice_get_read}
+use Rattle.std.proofs.{Common.{length, refl, subst}, lemmas.Option.{slice_get_read}}
 use Rattle.sect_types.specs.Sections.{section_shown}
 use Rattle.sect_names.proofs.shared.Ending.{section_read}
 use Rattle.sect_check.specs.Meaning.{DenotesSection}

@@ -1,13 +1,9 @@
 use Rattle.std.proofs.Common.{◌≡◌, List, sym, subst}
 use Rattle.sect_types.specs.Sections.{section_shown}
-use Rattle.sect_names.specs.declared.lock.Lock.{Lock}
-use Rattle.sect_names.specs.Needed.{end_locks, end_of}
-use Rattle.sect_check.specs.Meaning.{IsSectionAt}
-use Rattle.sect_check.specs.Valid.{IsValidSection}
-use Rattle.sect_check.specs.Faults.{IsFaultOf}
+use Rattle.sect_names.specs.{declared.lock.Lock.{Lock}, Needed.{end_locks, end_of}}
+use Rattle.sect_check.specs.{Meaning.{IsSectionAt}, Valid.{IsValidSection}, Faults.{IsFaultOf}}
 use Rattle.sect_names.proofs.shared.Ending.{section_read, end_is}
-use Rattle.sect_check.proofs.Judging.{judged_ok, judged_err}
-use Rattle.sect_check.proofs.checking.judge_at.Goals.{After-section-flow}
+use Rattle.sect_check.proofs.{Judging.{judged_ok, judged_err}, checking.judge_at.Goals.{After-section-flow}}
 use Rattle.sect_check.proofs.checking.judge_at.Goals as goal
 
 -- the section and its graph are those of this number

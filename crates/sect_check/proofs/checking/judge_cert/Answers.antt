@@ -1,11 +1,9 @@
 use Rattle.std.proofs.Common.{◌≡◌, ◌<◌, ◌≤◌, Some, length, arith, sym, ap, ◌∙◌, subst, refl}
-use Rattle.std.specs.Prelude.{slice_get}
 use Rattle.std.proofs.lemmas.Option.{slice_get_read}
-use Rattle.sect_types.specs.Programs.{ProgramView}
-use Rattle.sect_types.specs.Sections.{sections_of}
+use Rattle.std.specs.Prelude.{slice_get}
+use Rattle.sect_types.specs.{Programs.{ProgramView}, Sections.{sections_of}}
 use Rattle.sect_check.specs.Meaning.{DenotesAll}
-use Rattle.sect_check.proofs.Judging.{passes_on, valid_more, all_valid}
-use Rattle.sect_check.proofs.Denoting.{all_lawful, all_lawful_chains}
+use Rattle.sect_check.proofs.{Judging.{passes_on, valid_more, all_valid}, Denoting.{all_lawful, all_lawful_chains}}
 use Rattle.sect_check.proofs.Numbering.{all_shaped}
 use Rattle.sect_check.proofs.checking.judge_cert.Goals.{After-section_count-section-end, After-index-claims-section}
 use Rattle.sect_check.proofs.checking.judge_cert.Goals as goal

@@ -1,7 +1,6 @@
-use Rattle.std.proofs.Common.{List, take, subst, refl, arith}
-use Rattle.std.specs.List.{AllZip}
-use Rattle.std.proofs.lemmas.List.{length-take-le}
+use Rattle.std.proofs.{Common.{List, take, subst, refl, arith}, lemmas.List.{length-take-le}}
 use Rattle.std.proofs.lemmas.Slice.Zip.{AllZip-long}
+use Rattle.std.specs.List.{AllZip}
 use Rattle.sect_cert.specs.declared.lock.CertLock.{CertLock}
 use Rattle.sect_names.specs.declared.lock.Lock.{Lock}
 use Rattle.sect_check.specs.Names.{Denotes}

@@ -1,5 +1,4 @@
-use Rattle.std.proofs.Common.{◌∙◌, rules, sym, subst, arith}
-use Rattle.std.proofs.lemmas.Option.{get_or_from_slice_get}
+use Rattle.std.proofs.{Common.{◌∙◌, rules, sym, subst, arith}, lemmas.Option.{get_or_from_slice_get}}
 use Rattle.std.proofs.lemmas.Slice.Zip.{AllZip-long}
 use Rattle.sect_lemmas.proofs.Places.{at_of}
 use Rattle.sect_check.specs.Names.{Denotes}

@@ -1,6 +1,5 @@
 use Rattle.std.proofs.Common.{◌≡◌, ◌<◌, length, arith, true, false, sym, ◌∙◌, true≢false, rules}
-use Rattle.sect_names.specs.declared.lock.Lock.{Lock}
-use Rattle.sect_names.specs.Locks.{CoveredBy}
+use Rattle.sect_names.specs.{declared.lock.Lock.{Lock}, Locks.{CoveredBy}}
 use Rattle.sect_check.proofs.Scanning.{each_more, item_has}
 use Rattle.sect_check.proofs.covering.are_covered.Goals as goal
 

@@ -1,7 +1,6 @@
 use Rattle.std.proofs.Common.{take}
 use Rattle.sect_lemmas.specs.Lists.{Has}
-use Rattle.sect_names.specs.declared.lock.Lock.{Lock}
-use Rattle.sect_names.specs.Locks.{CoveredBy}
+use Rattle.sect_names.specs.{declared.lock.Lock.{Lock}, Locks.{CoveredBy}}
 use Rattle.sect_check.proofs.covering.are_covered.Given as goal
 
 abbrev pub invariant-loop-lock : goal.invariant-loop-lock

@@ -2,8 +2,7 @@ use Rattle.std.proofs.Common.{◌≡◌, ◌↔◌, ◌⊎◌, ◌<◌, length, 
 use Rattle.sect_lemmas.specs.Lists.{Has}
 use Rattle.sect_names.specs.contracts.lock.LockPartialEq.TheImpl.{ghosts as the_lock_eq}
 use Rattle.sect_names.proofs.shared.Telling.{lock_tells}
-use Rattle.sect_lemmas.proofs.Making.{last_of, so_far}
-use Rattle.sect_lemmas.proofs.Inserting.{inserted}
+use Rattle.sect_lemmas.proofs.{Making.{last_of, so_far}, Inserting.{inserted}}
 use Rattle.sect_check.proofs.covering.set_of.Goals as goal
 
 pub loop-lock-preserved : goal.loop-lock-preserved

@@ -1,8 +1,7 @@
 use Rattle.std.proofs.Common.{arith, sym, ◌∙◌, true≢false}
 use Rattle.sect_names.specs.Needed.{end_locks}
 use Rattle.sect_check.specs.Faults.{ComesRight, EndsRight}
-use Rattle.sect_check.proofs.Scanning.{below_next}
-use Rattle.sect_check.proofs.Stepping.{chain_when}
+use Rattle.sect_check.proofs.{Scanning.{below_next}, Stepping.{chain_when}}
 use Rattle.sect_check.proofs.links.first_wrong.Goals as goal
 
 pub returns-then-not-branch : goal.returns-then-not-branch

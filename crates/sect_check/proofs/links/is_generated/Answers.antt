@@ -1,6 +1,5 @@
 use Rattle.std.proofs.Common.{sym, ◌∙◌, true≢false}
-use Rattle.sect_names.specs.Chains.{link}
-use Rattle.sect_names.specs.Needed.{end_locks}
+use Rattle.sect_names.specs.{Chains.{link}, Needed.{end_locks}}
 use Rattle.sect_names.proofs.shared.Telling.{lock_tells}
 use Rattle.sect_check.proofs.Generating.{generated_one, generated_none}
 use Rattle.sect_check.proofs.links.is_generated.Goals as goal

@@ -2,9 +2,7 @@ use Rattle.std.proofs.Common.{◌≡◌, Some, refl, sym, subst}
 use Rattle.std.specs.Prelude.{slice_get}
 use Rattle.sect_lemmas.proofs.Places.{told_at, told_of}
 use Rattle.sect_types.specs.declared.expansion.action.Label.{Label}
-use Rattle.sect_graph.specs.declared.flow.Node.{Node}
-use Rattle.sect_graph.specs.declared.flow.Successors.{Successors}
-use Rattle.sect_graph.specs.Paths.{IsSuccessor}
+use Rattle.sect_graph.specs.{declared.flow.Node.{Node}, declared.flow.Successors.{Successors}, Paths.{IsSuccessor}}
 use Rattle.sect_names.specs.Carrying.{CarriedBack}
 use Rattle.sect_check.proofs.links.links_to.Goals as goal
 

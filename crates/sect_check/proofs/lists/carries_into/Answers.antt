@@ -1,9 +1,7 @@
-use Rattle.std.proofs.Common.{subst}
+use Rattle.std.proofs.Common.{subst, ◌<◌, length, arith, sym, ◌∙◌, true≢false}
 use Rattle.sect_names.specs.Locks.{CoveredBy}
 use Rattle.sect_names.proofs.shared.Covering.{covers_refl}
-use Rattle.std.proofs.Common.{◌<◌, length, arith, sym, ◌∙◌, true≢false}
-use Rattle.sect_check.proofs.Scanning.{item_has}
-use Rattle.sect_check.proofs.Generating.{carried_more}
+use Rattle.sect_check.proofs.{Scanning.{item_has}, Generating.{carried_more}}
 use Rattle.sect_check.proofs.lists.carries_into.Goals as goal
 
 pub is_carried_into-requires : goal.is_carried_into-requires

@@ -1,6 +1,5 @@
 use Rattle.std.proofs.Common.{◌≡◌, ◌↔◌, true, refl, subst}
-use Rattle.sect_names.specs.Locks.{CoveredBy}
-use Rattle.sect_names.specs.Needed.{end_locks}
+use Rattle.sect_names.specs.{Locks.{CoveredBy}, Needed.{end_locks}}
 use Rattle.sect_check.proofs.Generating.{covers_one, covers_none}
 use Rattle.sect_check.proofs.lists.covers_generated.Goals as goal
 

@@ -1,8 +1,7 @@
 use Rattle.std.proofs.Common.{◌<◌, length, arith}
 use Rattle.sect_names.specs.Needed.{end_locks}
 use Rattle.sect_check.specs.Valid.{CoversGenerated}
-use Rattle.sect_check.proofs.Scanning.{below_next}
-use Rattle.sect_check.proofs.Generating.{all_covered}
+use Rattle.sect_check.proofs.{Scanning.{below_next}, Generating.{all_covered}}
 use Rattle.sect_check.proofs.lists.first_ungenerated.Goals as goal
 
 pub loop-node-preserved : goal.loop-node-preserved

@@ -1,10 +1,7 @@
-use Rattle.std.proofs.Common.{◌↔◌, Bool, refl, sym, subst}
+use Rattle.std.proofs.{Common.{◌↔◌, Bool, refl, sym, subst}, lemmas.Result.{IfOk-weaker}}
 use Rattle.std.specs.Prelude.{IsTrue}
-use Rattle.std.proofs.lemmas.Result.{IfOk-weaker}
 use Rattle.sect_lemmas.specs.Lists.{Has}
-use Rattle.sect_names.specs.declared.lock.Lock.{Lock}
-use Rattle.sect_names.specs.Locks.{CoveredBy}
-use Rattle.sect_names.specs.Carrying.{CarriedBack}
+use Rattle.sect_names.specs.{declared.lock.Lock.{Lock}, Locks.{CoveredBy}, Carrying.{CarriedBack}}
 use Rattle.sect_check.specs.Valid.{AreCovered}
 use Rattle.sect_check.proofs.lists.is_carried_into.Goals as goal
 

@@ -1,7 +1,5 @@
-use Rattle.std.proofs.Common.{◌≡◌, ℕ, refl, sym, ◌∙◌}
-use Rattle.std.specs.Prelude.{nat_eq}
-use Rattle.std.specs.Bool.{Decides}
-use Rattle.std.proofs.lemmas.Bool.Decides.{Decides-eqb}
+use Rattle.std.proofs.{Common.{◌≡◌, ℕ, refl, sym, ◌∙◌}, lemmas.Bool.Decides.{Decides-eqb}}
+use Rattle.std.specs.{Prelude.{nat_eq}, Bool.{Decides}}
 use Rattle.sect_lemmas.proofs.Finding.{any_tells}
 use Rattle.sect_check.proofs.locks.class_in.Goals as goal
 

@@ -1,10 +1,9 @@
 use Rattle.std.proofs.Common.{◌≡◌, ◌≤◌, ◌∙◌, true, ap, subst, sym}
 use Rattle.std.specs.Option.{option_map}
 use Rattle.sect_lemmas.proofs.Options.{some_injective}
-use Rattle.sect_names.specs.declared.lock.Lock.TheVariants as lock
-use Rattle.sect_names.specs.Locks.{depth, IsClassed, IsLockOf}
-use Rattle.sect_names.specs.Schemes.{SchemeView}
+use Rattle.sect_names.specs.{Locks.{depth, IsClassed, IsLockOf}, Schemes.{SchemeView}}
 use Rattle.sect_check.proofs.Resolving.{lock_there}
+use Rattle.sect_names.specs.declared.lock.Lock.TheVariants as lock
 use Rattle.sect_check.proofs.locks.path_lock.Goals as goal
 
 pub returns-then-not-is_offered : goal.returns-then-not-is_offered

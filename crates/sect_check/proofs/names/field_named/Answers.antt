@@ -1,9 +1,7 @@
-use Rattle.std.proofs.Common.{◌≡◌, List, Some, length, ap, sym, ◌∙◌, subst, arith, refl}
-use Rattle.std.specs.Prelude.{slice_get}
-use Rattle.std.proofs.lemmas.Bool.{ltb-true}
-use Rattle.sect_front.specs.TreeView.{TreeView}
-use Rattle.sect_front.specs.declared.tree.Record.{Record}
+use Rattle.std.proofs.{Common.{◌≡◌, List, Some, length, ap, sym, ◌∙◌, subst, arith, refl}, lemmas.Bool.{ltb-true}}
 use Rattle.std.proofs.lemmas.Option.{slice_get_read}
+use Rattle.std.specs.Prelude.{slice_get}
+use Rattle.sect_front.specs.{TreeView.{TreeView}, declared.tree.Record.{Record}}
 use Rattle.sect_types.proofs.shared.Naming.{few_fields}
 use Rattle.sect_check.proofs.names.field_named.Goals as goal
 

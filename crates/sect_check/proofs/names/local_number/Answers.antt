@@ -1,10 +1,9 @@
 use Rattle.std.proofs.Common.{◌≡◌, [], false, length, get_or, sym, ap, ◌∙◌, arith}
-use Rattle.std.specs.Prelude.{slice_index_or}
 use Rattle.std.proofs.lemmas.Option.{slice_get_within, get_or_from_slice_get}
+use Rattle.std.specs.Prelude.{slice_index_or}
 use Rattle.sect_types.specs.LocalNames.{all_local_names, is_same_local}
 use Rattle.sect_lemmas.proofs.Positions.{first_position, no_position}
-use Rattle.sect_check.proofs.Scanning.{below_next}
-use Rattle.sect_check.proofs.LocalLaws.{unnamed, counted}
+use Rattle.sect_check.proofs.{Scanning.{below_next}, LocalLaws.{unnamed, counted}}
 use Rattle.sect_check.proofs.names.local_number.Goals as goal
 
 pub returns-then-is_same_local : goal.returns-then-is_same_local

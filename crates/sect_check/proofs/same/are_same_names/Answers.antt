@@ -1,8 +1,5 @@
-use Rattle.std.proofs.Common.{refl}
-use Rattle.std.specs.Prelude.{nat_eq}
-use Rattle.std.specs.Cmp.Lexicographic.{pointwise}
-use Rattle.std.proofs.lemmas.Bool.Decides.{Decides-eqb}
-use Rattle.std.proofs.lemmas.Slice.Eq.{slice_eq-Decides}
+use Rattle.std.proofs.{Common.{refl}, lemmas.Bool.Decides.{Decides-eqb}, lemmas.Slice.Eq.{slice_eq-Decides}}
+use Rattle.std.specs.{Prelude.{nat_eq}, Cmp.Lexicographic.{pointwise}}
 use Rattle.sect_check.proofs.same.are_same_names.Goals as goal
 
 pub returns : goal.returns

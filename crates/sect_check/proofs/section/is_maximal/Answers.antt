@@ -1,8 +1,7 @@
 use Rattle.std.proofs.Common.{List, sym, ◌∙◌, subst}
 use Rattle.std.specs.Cmp.Lexicographic.{pointwise_decides}
 use Rattle.sect_lemmas.specs.Lists.{Has}
-use Rattle.sect_names.specs.declared.lock.Lock.{Lock}
-use Rattle.sect_names.specs.Order.{AreMaximal}
+use Rattle.sect_names.specs.{declared.lock.Lock.{Lock}, Order.{AreMaximal}}
 use Rattle.sect_names.proofs.shared.Telling.{lock_tells}
 use Rattle.sect_check.proofs.Entries.{kept_when}
 use Rattle.sect_check.proofs.section.is_maximal.Goals as goal

@@ -1,9 +1,7 @@
 -- An answer that is told is right for the words; or a session was served.
 use Rattle.std.proofs.Common.{◌≡◌, IfOk, IfSome, Result, inl, inr, subst}
-use Rattle.sect_command.specs.declared.dispatch.Answer.{Answer}
-use Rattle.sect_command.specs.declared.dispatch.Failure.{Failure}
-use Rattle.sect_command.specs.declared.dispatch.TheConstants.{WRONG_WORDS}
-use Rattle.sect_command.specs.Requests.{IsRight}
+use Rattle.sect_command.specs.{declared.dispatch.Answer.{Answer}, declared.dispatch.Failure.{Failure}}
+use Rattle.sect_command.specs.{declared.dispatch.TheConstants.{WRONG_WORDS}, Requests.{IsRight}}
 use Rattle.sect_command.proofs.dispatch.command.Goals as goal
 
 pub returns-in-Ok-Session : goal.returns-in-Ok-Session

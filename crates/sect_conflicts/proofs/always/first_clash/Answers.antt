@@ -2,13 +2,11 @@ use Rattle.std.proofs.Common.{◌≡◌, ◌<◌, length, get_or, false, arith, 
 use Rattle.std.proofs.lemmas.List.{get_or_default, take_all}
 use Rattle.sect_lemmas.specs.Lists.{Has}
 use Rattle.sect_lemmas.proofs.Membership.{Has-get_or}
-use Rattle.sect_modes.specs.declared.mode.Mode.TheVariants.{IntentionShared}
-use Rattle.sect_modes.specs.declared.key.Key.TheVariants as key
-use Rattle.sect_modes.specs.Mode.{are_compatible}
-use Rattle.sect_emit.specs.declared.plan.Grip.{Grip}
-use Rattle.sect_emit.specs.Plan.{grip}
+use Rattle.sect_modes.specs.{declared.mode.Mode.TheVariants.{IntentionShared}, Mode.{are_compatible}}
+use Rattle.sect_emit.specs.{declared.plan.Grip.{Grip}, Plan.{grip}}
 use Rattle.sect_conflicts.proofs.Firsts.{none_below}
 use Rattle.sect_conflicts.proofs.shared.Selecting.{more_at}
+use Rattle.sect_modes.specs.declared.key.Key.TheVariants as key
 use Rattle.sect_conflicts.proofs.always.first_clash.Goals as goal
 
 pub returns-in-Some-clause-some : goal.returns-in-Some-clause-some

@@ -2,9 +2,9 @@ use Rattle.std.proofs.Common.{◌≡◌, ◌+◌, ◌-◌, ◌<◌, ◌++◌, �
 use Rattle.std.proofs.lemmas.List.{append-nil}
 use Rattle.sect_lemmas.proofs.Elements.{drop_next}
 use Rattle.sect_names.specs.declared.lock.Lock.{Lock}
-use Rattle.sect_names.specs.declared.lock.Lock.TheVariants as lock
 use Rattle.sect_emit.specs.Plan.{gathered}
 use Rattle.sect_conflicts.specs.steps.Steady.{global_wish, global_wishes}
+use Rattle.sect_names.specs.declared.lock.Lock.TheVariants as lock
 use Rattle.sect_conflicts.proofs.always.globals_of.Goals as goal
 
 -- the global of a lock comes before those of the others

@@ -1,13 +1,11 @@
 use Rattle.std.proofs.Common.{◌≡◌, ◌<◌, ◌∙◌, length, get_or, false, arith, sym, subst, true≢false}
 use Rattle.sect_lemmas.specs.Lists.{Has}
 use Rattle.sect_lemmas.proofs.Membership.{Has-get_or}
-use Rattle.sect_modes.specs.declared.mode.Mode.TheVariants.{IntentionShared}
-use Rattle.sect_modes.specs.declared.key.Key.TheVariants as key
-use Rattle.sect_modes.specs.Mode.{are_compatible}
-use Rattle.sect_emit.specs.declared.plan.Grip.{Grip}
-use Rattle.sect_emit.specs.Plan.{grip}
+use Rattle.sect_modes.specs.{declared.mode.Mode.TheVariants.{IntentionShared}, Mode.{are_compatible}}
+use Rattle.sect_emit.specs.{declared.plan.Grip.{Grip}, Plan.{grip}}
 use Rattle.sect_conflicts.proofs.Firsts.{clash_tells, tells_clash}
 use Rattle.sect_conflicts.proofs.shared.Selecting.{more_at}
+use Rattle.sect_modes.specs.declared.key.Key.TheVariants as key
 use Rattle.sect_conflicts.proofs.always.mode_against.Goals as goal
 
 pub returns-then-clashes-clause-some : goal.returns-then-clashes-clause-some

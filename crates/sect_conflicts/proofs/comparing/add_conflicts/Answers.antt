@@ -1,15 +1,13 @@
 use Rattle.std.proofs.Common.{◌≡◌, ℕ, ◌<◌, ◌≤◌, ◌∷◌, ◌++◌, [], length, get_or, refl, sym, ap, ◌∙◌, arith}
 use Rattle.sect_lemmas.proofs.Places.{at_of}
-use Rattle.sect_types.specs.Programs.{ProgramView}
-use Rattle.sect_types.specs.Sections.{sections_of}
+use Rattle.sect_types.specs.{Programs.{ProgramView}, Sections.{sections_of}}
 use Rattle.sect_names.specs.Schemes.{SchemeView}
-use Rattle.sect_conflicts.specs.declared.profile.Profile.{Profile}
-use Rattle.sect_conflicts.specs.declared.conflict.SectionPair.{SectionPair}
+use Rattle.sect_conflicts.specs.{declared.profile.Profile.{Profile}, declared.conflict.SectionPair.{SectionPair}}
 use Rattle.sect_conflicts.proofs.Profiling.{profile_here, one_thread, two_threads}
 use Rattle.sect_conflicts.proofs.Progressing.{passed, compared, row_begins, row_ends}
-use Rattle.sect_conflicts.proofs.comparing.add_conflicts.Goals as goal
 use Rattle.sect_conflicts.proofs.comparing.add_conflicts.Goals.{then-profiles-first+in_ok-conflict+in_ok-push}
 use Rattle.sect_conflicts.proofs.comparing.add_conflicts.Goals.{else-profiles-first}
+use Rattle.sect_conflicts.proofs.comparing.add_conflicts.Goals as goal
 
 -- the sections are as many as the compiled program has
 counted : (s : SchemeView) (p : ProgramView) (n : ℕ) → p ≡ s.program → n ≡ length (sections_of p.texts)

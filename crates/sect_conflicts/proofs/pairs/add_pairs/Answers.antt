@@ -1,8 +1,6 @@
-use Rattle.std.proofs.Common.{◌<◌, length, take, arith, subst}
-use Rattle.std.proofs.lemmas.List.{take_all}
-use Rattle.sect_conflicts.specs.Conflicts.{MayBeOne, paths_with}
+use Rattle.std.proofs.{Common.{◌<◌, length, take, arith, subst}, lemmas.List.{take_all}}
+use Rattle.sect_conflicts.specs.{Conflicts.{MayBeOne, paths_with}, Selecting.{Adds}}
 use Rattle.sect_conflicts.specs.steps.Profiles.{AreSitesOfLock}
-use Rattle.sect_conflicts.specs.Selecting.{Adds}
 use Rattle.sect_conflicts.proofs.shared.Selecting.{adds_nothing}
 use Rattle.sect_conflicts.proofs.PathPairs.{zipped_here, with_next}
 use Rattle.sect_conflicts.proofs.pairs.add_pairs.Goals as goal

@@ -1,8 +1,7 @@
 use Rattle.std.proofs.Common.{take}
 use Rattle.sect_names.specs.Schemes.{SchemeView}
-use Rattle.sect_conflicts.specs.Conflicts.{MayBeOne, paths_with}
+use Rattle.sect_conflicts.specs.{Conflicts.{MayBeOne, paths_with}, Selecting.{Adds}}
 use Rattle.sect_conflicts.specs.steps.Profiles.{AreSitesOfLock, AreSitesOfLocks}
-use Rattle.sect_conflicts.specs.Selecting.{Adds}
 use Rattle.sect_conflicts.proofs.pairs.add_pairs.Given as goal
 
 abbrev pub invariant-loop-place : goal.invariant-loop-place

@@ -1,8 +1,6 @@
-use Rattle.std.proofs.Common.{◌<◌, [], length, take, arith, subst, sym}
-use Rattle.std.proofs.lemmas.List.{take_all}
-use Rattle.sect_conflicts.specs.Conflicts.{MayBeOne, Selects, paths_between}
+use Rattle.std.proofs.{Common.{◌<◌, [], length, take, arith, subst, sym}, lemmas.List.{take_all}}
+use Rattle.sect_conflicts.specs.{Conflicts.{MayBeOne, Selects, paths_between}, Selecting.{Adds}}
 use Rattle.sect_conflicts.specs.steps.Profiles.{AreSitesOfLock}
-use Rattle.sect_conflicts.specs.Selecting.{Adds}
 use Rattle.sect_conflicts.proofs.shared.Selecting.{adds_nothing, adds_all}
 use Rattle.sect_conflicts.proofs.PathPairs.{zipped_here, between_next}
 use Rattle.sect_conflicts.proofs.pairs.path_pairs.Goals as goal

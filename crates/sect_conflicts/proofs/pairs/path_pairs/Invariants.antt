@@ -1,8 +1,7 @@
 use Rattle.std.proofs.Common.{take, []}
 use Rattle.sect_names.specs.Schemes.{SchemeView}
-use Rattle.sect_conflicts.specs.Conflicts.{MayBeOne, paths_between}
+use Rattle.sect_conflicts.specs.{Conflicts.{MayBeOne, paths_between}, Selecting.{Adds}}
 use Rattle.sect_conflicts.specs.steps.Profiles.{AreSitesOfLocks}
-use Rattle.sect_conflicts.specs.Selecting.{Adds}
 use Rattle.sect_conflicts.proofs.pairs.path_pairs.Given as goal
 
 abbrev pub invariant-loop-place : goal.invariant-loop-place

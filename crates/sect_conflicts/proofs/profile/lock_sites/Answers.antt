@@ -1,6 +1,5 @@
 use Rattle.std.proofs.Common.{ap, ◌∙◌}
-use Rattle.sect_points.specs.Partitions.{ClassesView}
-use Rattle.sect_points.specs.Paths.{path_of, path_of-fields}
+use Rattle.sect_points.specs.{Partitions.{ClassesView}, Paths.{path_of, path_of-fields}}
 use Rattle.sect_conflicts.proofs.Profiling.{sites_of_lock}
 use Rattle.sect_conflicts.proofs.profile.lock_sites.Goals as goal
 

@@ -1,7 +1,6 @@
 use Rattle.std.proofs.Common.{◌≡◌, ap, ◌∙◌, refl, subst, Some}
 use Rattle.std.specs.Prelude.{slice_get}
-use Rattle.sect_types.specs.Programs.{ProgramView}
-use Rattle.sect_types.specs.Sections.{sections_of, section_shown}
+use Rattle.sect_types.specs.{Programs.{ProgramView}, Sections.{sections_of, section_shown}}
 use Rattle.sect_names.specs.Schemes.{SchemeView}
 use Rattle.sect_conflicts.specs.steps.Profiles.{AreSitesOfLocks}
 use Rattle.sect_conflicts.proofs.Profiling.{is_profile}

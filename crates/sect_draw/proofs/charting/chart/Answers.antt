@@ -1,13 +1,12 @@
 -- The turns so far are those of a beginning of the schedule.
-use Rattle.std.proofs.Common.{◌≡◌, ◌≤◌, ◌+◌, [], ◌∷◌, ◌++◌, take, get_or, length, sym, ap, ◌∙◌, subst, arith, length-append}
+use Rattle.std.proofs.Common.{◌≡◌, ◌≤◌, ◌+◌, [], ◌∷◌, ◌++◌, take, get_or, length, sym, ap, ◌∙◌, subst, arith}
+use Rattle.std.proofs.{Common.{length-append}, lemmas.List.{take_all, take_more, length-take}}
 use Rattle.std.specs.String.{string_bytes}
-use Rattle.std.proofs.lemmas.List.{take_all, take_more, length-take}
 use Rattle.sect_names.specs.Schemes.{SchemeView}
 use Rattle.sect_emit.specs.Compiled.{program_of}
 use Rattle.sect_world.specs.Worlds.{IsRefused, WorldView}
 use Rattle.sect_world.proofs.shared.Unrun.{unrun}
-use Rattle.sect_draw.specs.Table.{table_text}
-use Rattle.sect_draw.specs.Chart.{heading, turn_row}
+use Rattle.sect_draw.specs.{Table.{table_text}, Chart.{heading, turn_row}}
 use Rattle.sect_draw.specs.steps.Tables.{rows_of}
 use Rattle.sect_draw.proofs.Charted.{SoFar, none_so_far, so_far_more, all_charted}
 use Rattle.sect_draw.proofs.charting.chart.Goals as goal

@@ -1,6 +1,5 @@
 use Rattle.std.proofs.Common.{◌<◌, length, arith}
-use Rattle.sect_emit.specs.Compiled.{program_of}
-use Rattle.sect_emit.specs.Labels.{thread_name}
+use Rattle.sect_emit.specs.{Compiled.{program_of}, Labels.{thread_name}}
 use Rattle.sect_draw.proofs.Columns.{cell_more}
 use Rattle.sect_draw.proofs.charting.heading.Goals as goal
 

@@ -1,14 +1,10 @@
-use Rattle.std.proofs.Common.{◌≡◌, ◌↔◌, ℕ, Option, Some, length, sym, ◌∙◌, subst}
-use Rattle.std.proofs.Common.{inl, inr, arith}
+use Rattle.std.proofs.Common.{◌≡◌, ◌↔◌, ℕ, Option, Some, length, sym, ◌∙◌, subst, inl, inr, arith}
 use Rattle.std.specs.Prelude.{slice_get}
 use Rattle.sect_graph.specs.Layout.{flow_nodes}
 use Rattle.sect_lemmas.proofs.Places.{pushed_at}
-use Rattle.sect_names.specs.declared.lock.Lock.{Lock}
-use Rattle.sect_names.specs.Chains.{link, IsGeneratedAt}
-use Rattle.sect_names.specs.Needed.{end_of}
+use Rattle.sect_names.specs.{declared.lock.Lock.{Lock}, Chains.{link, IsGeneratedAt}, Needed.{end_of}}
 use Rattle.sect_names.specs.Printing.{IsNamed}
-use Rattle.sect_emit.specs.Compiled.{program_of}
-use Rattle.sect_emit.specs.Explaining.{section_at}
+use Rattle.sect_emit.specs.{Compiled.{program_of}, Explaining.{section_at}}
 use Rattle.sect_draw.proofs.graphing.generated_of.Goals as goal
 
 pub loop-node-preserved : goal.loop-node-preserved

@@ -1,11 +1,8 @@
 use Rattle.std.proofs.Common.{◌≡◌, ◌↔◌, ℕ, Option, Some, vec_len}
 use Rattle.std.specs.Prelude.{slice_get}
 use Rattle.sect_graph.specs.Layout.{flow_nodes}
-use Rattle.sect_names.specs.declared.lock.Lock.{Lock}
-use Rattle.sect_names.specs.Chains.{link, IsGeneratedAt}
-use Rattle.sect_names.specs.Needed.{end_of}
-use Rattle.sect_emit.specs.Compiled.{program_of}
-use Rattle.sect_emit.specs.Explaining.{section_at}
+use Rattle.sect_names.specs.{declared.lock.Lock.{Lock}, Chains.{link, IsGeneratedAt}, Needed.{end_of}}
+use Rattle.sect_emit.specs.{Compiled.{program_of}, Explaining.{section_at}}
 use Rattle.sect_draw.specs.steps.Drawings.{AreNamedLocks}
 use Rattle.sect_draw.proofs.graphing.generated_of.Given as goal
 

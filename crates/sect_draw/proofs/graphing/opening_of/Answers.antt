@@ -1,6 +1,5 @@
 use Rattle.std.proofs.Common.{◌≡◌, List, ℕ, [], ◌∷◌, ◌++◌, ap, sym, ◌∙◌, append_assoc}
-use Rattle.std.specs.Prelude.{codes}
-use Rattle.std.specs.Fmt.{decimal}
+use Rattle.std.specs.{Prelude.{codes}, Fmt.{decimal}}
 use Rattle.sect_draw.proofs.graphing.opening_of.Goals as goal
 
 -- the parts of a node's name, the other way round

@@ -1,6 +1,5 @@
 use Rattle.std.proofs.Common.{◌++◌, ◌<◌, length, ap, ◌∙◌, sym, arith, slice_get}
-use Rattle.sect_graph.specs.Layout.{flow_nodes}
-use Rattle.sect_graph.specs.declared.flow.Node.{Node}
+use Rattle.sect_graph.specs.{Layout.{flow_nodes}, declared.flow.Node.{Node}}
 use Rattle.sect_lemmas.proofs.Places.{told_of}
 use Rattle.sect_emit.specs.Explaining.{section_at}
 use Rattle.sect_draw.specs.Graphs.{node_edges, edges_text}

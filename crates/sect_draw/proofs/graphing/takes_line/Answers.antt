@@ -1,7 +1,6 @@
 use Rattle.std.proofs.Common.{ap, ◌∙◌, sym, subst}
 use Rattle.sect_types.specs.Programs.{ProgramView}
-use Rattle.sect_names.specs.Schemes.{SchemeView}
-use Rattle.sect_names.specs.Printing.{AreNamed}
+use Rattle.sect_names.specs.{Schemes.{SchemeView}, Printing.{AreNamed}}
 use Rattle.sect_emit.proofs.shared.Sets.{set_named}
 use Rattle.sect_draw.proofs.graphing.takes_line.Goals as goal
 

@@ -1,5 +1,4 @@
-use Rattle.std.proofs.Common.{sym, ap, ◌∙◌, rules}
-use Rattle.std.proofs.lemmas.Fn.{filter_same}
+use Rattle.std.proofs.{Common.{sym, ap, ◌∙◌, rules}, lemmas.Fn.{filter_same}}
 use Rattle.sect_draw.specs.Waits.{waiting_after}
 use Rattle.sect_draw.proofs.waits.note_turn.Goals as goal
 

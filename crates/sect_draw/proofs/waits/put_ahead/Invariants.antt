@@ -1,6 +1,5 @@
 use Rattle.std.proofs.Common.{◌≡◌, ◌++◌, drop}
-use Rattle.std.specs.String.{string_bytes}
-use Rattle.std.specs.List.{flat_map}
+use Rattle.std.specs.{String.{string_bytes}, List.{flat_map}}
 use Rattle.sect_emit.specs.Compiled.{program_of}
 use Rattle.sect_draw.specs.Waits.{ahead_of, behind_text}
 use Rattle.sect_draw.proofs.waits.put_ahead.Given as goal

@@ -1,7 +1,6 @@
 use Rattle.std.proofs.Common.{◌++◌, ◌<◌, length, ap, ◌∙◌, arith}
 use Rattle.std.specs.String.{string_bytes}
-use Rattle.sect_emit.specs.Compiled.{program_of}
-use Rattle.sect_emit.specs.Labels.{thread_name}
+use Rattle.sect_emit.specs.{Compiled.{program_of}, Labels.{thread_name}}
 use Rattle.sect_world.specs.Sights.{mode_in}
 use Rattle.sect_draw.specs.Waits.{against_text, holder_text}
 use Rattle.sect_draw.proofs.Pieces.{piece_more}

@@ -1,5 +1,4 @@
-use Rattle.std.proofs.Common.{◌++◌, List, ℕ, Option, map, filter, sym, ap, ◌∙◌}
-use Rattle.std.proofs.lemmas.Result.{on_ok_weaker}
+use Rattle.std.proofs.{Common.{◌++◌, List, ℕ, Option, map, filter, sym, ap, ◌∙◌}, lemmas.Result.{on_ok_weaker}}
 use Rattle.serde_json.specs.View.{view}
 use Rattle.sect_editor.specs.Completing.{keyword_item, outer_keywords, inner_keywords, declared_item, is_offered}
 use Rattle.sect_editor.specs.Completing.{offers}

@@ -1,6 +1,5 @@
-use Rattle.std.proofs.Common.{map, [], ◌∷◌}
+use Rattle.std.proofs.{Common.{map, [], ◌∷◌}, lemmas.Result.{on_ok_weaker}}
 use Rattle.std.specs.Prelude.{codes}
-use Rattle.std.proofs.lemmas.Result.{on_ok_weaker}
 use Rattle.serde_json.specs.View.{view}
 use Rattle.sect_editor.specs.Completing.{keyword_item}
 use Rattle.sect_editor.proofs.Listing.{one_more}

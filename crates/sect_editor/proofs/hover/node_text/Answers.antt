@@ -1,6 +1,5 @@
-use Rattle.std.proofs.Common.{◌++◌, [], sym, ap, subst, ◌∙◌}
+use Rattle.std.proofs.{Common.{◌++◌, [], sym, ap, subst, ◌∙◌}, lemmas.Option.{get_or_from_slice_get}}
 use Rattle.std.specs.Prelude.{codes}
-use Rattle.std.proofs.lemmas.Option.{get_or_from_slice_get}
 use Rattle.sect_names.specs.Printing.{AreNamed}
 use Rattle.sect_emit.specs.Compiled.{program_of}
 use Rattle.sect_editor.specs.Hovering.{node_lines}

@@ -1,12 +1,10 @@
-use Rattle.std.proofs.Common.{ap, sym, subst, ◌∙◌}
+use Rattle.std.proofs.{Common.{ap, sym, subst, ◌∙◌}, lemmas.Result.{IfOk-weaker}}
 use Rattle.std.specs.List.{flat_map}
-use Rattle.std.proofs.lemmas.Result.{IfOk-weaker}
 use Rattle.sect_front.specs.Front.{IsSpelled}
 use Rattle.sect_types.specs.Programs.{ProgramView}
 use Rattle.sect_names.specs.Schemes.{SchemeView}
 use Rattle.sect_places.specs.NodeSpans.{AreNodeSpans}
-use Rattle.sect_editor.specs.Marks.{lenses_at, section_numbers}
-use Rattle.sect_editor.specs.Ranges.{list}
+use Rattle.sect_editor.specs.{Marks.{lenses_at, section_numbers}, Ranges.{list}}
 use Rattle.sect_editor.proofs.marks.lenses_value.Goals as goal
 
 pub node_spans-requires : goal.node_spans-requires

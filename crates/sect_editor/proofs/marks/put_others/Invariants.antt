@@ -1,8 +1,5 @@
 use Rattle.std.proofs.Common.{◌≡◌, ◌++◌, take}
-use Rattle.std.specs.Prelude.{codes}
-use Rattle.std.specs.Fmt.{decimal}
-use Rattle.std.specs.List.{flat_map}
-use Rattle.std.specs.String.{string_bytes}
+use Rattle.std.specs.{Prelude.{codes}, Fmt.{decimal}, List.{flat_map}, String.{string_bytes}}
 use Rattle.sect_editor.proofs.marks.put_others.Given as goal
 
 -- the numbers so far

@@ -1,10 +1,8 @@
-use Rattle.std.proofs.Common.{◌++◌, [], ap, ◌∙◌, sym, subst}
-use Rattle.std.proofs.lemmas.Option.{get_or_from_slice_get}
+use Rattle.std.proofs.{Common.{◌++◌, [], ap, ◌∙◌, sym, subst}, lemmas.Option.{get_or_from_slice_get}}
 use Rattle.std.proofs.lemmas.Result.{on_ok_weaker}
 use Rattle.std.specs.String.{string_bytes}
 use Rattle.sect_types.specs.Programs.{ProgramView}
-use Rattle.sect_names.specs.Schemes.{SchemeView}
-use Rattle.sect_names.specs.Printing.{AreNamed, locks_text}
+use Rattle.sect_names.specs.{Schemes.{SchemeView}, Printing.{AreNamed, locks_text}}
 use Rattle.sect_emit.proofs.shared.Sets.{set_named}
 use Rattle.sect_editor.proofs.marks.put_set.Goals as goal
 

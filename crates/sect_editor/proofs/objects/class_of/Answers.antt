@@ -1,5 +1,4 @@
-use Rattle.std.proofs.Common.{sym}
-use Rattle.std.proofs.lemmas.Option.{get_or_from_slice_get}
+use Rattle.std.proofs.{Common.{sym}, lemmas.Option.{get_or_from_slice_get}}
 use Rattle.sect_editor.proofs.objects.class_of.Goals as goal
 
 pub returns : goal.returns

@@ -1,5 +1,4 @@
-use Rattle.std.proofs.Common.{◌≡◌, ℕ, List, ap, subst, ◌∙◌}
-use Rattle.std.proofs.lemmas.Result.{IfOk-weaker}
+use Rattle.std.proofs.{Common.{◌≡◌, ℕ, List, ap, subst, ◌∙◌}, lemmas.Result.{IfOk-weaker}}
 use Rattle.sect_types.specs.Programs.{ProgramView, sites_of}
 use Rattle.sect_points.specs.Partitions.{ClassesView}
 use Rattle.sect_names.specs.Schemes.{SchemeView}

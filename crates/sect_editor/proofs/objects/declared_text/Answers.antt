@@ -1,6 +1,5 @@
 use Rattle.std.proofs.Common.{◌≡◌, ◌++◌, ap, subst, ◌∙◌, append_assoc}
-use Rattle.std.specs.Prelude.{codes}
-use Rattle.std.specs.String.{string_bytes}
+use Rattle.std.specs.{Prelude.{codes}, String.{string_bytes}}
 use Rattle.sect_points.specs.Partitions.{ClassesView}
 use Rattle.sect_names.specs.Schemes.{SchemeView}
 use Rattle.sect_editor.specs.declared.objects.Referrer.{Referrer}

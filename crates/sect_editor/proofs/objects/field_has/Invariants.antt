@@ -1,7 +1,6 @@
 use Rattle.std.proofs.Common.{◌≡◌, ◌<◌, ℕ, Some}
 use Rattle.std.specs.Prelude.{slice_get}
-use Rattle.sect_points.specs.Sets.{InSets}
-use Rattle.sect_points.specs.declared.holders.Holder.TheVariants.{Slot}
+use Rattle.sect_points.specs.{Sets.{InSets}, declared.holders.Holder.TheVariants.{Slot}}
 use Rattle.sect_editor.proofs.objects.field_has.Given as goal
 
 -- no site of the record so far

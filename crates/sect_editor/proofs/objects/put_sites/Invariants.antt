@@ -1,6 +1,5 @@
 use Rattle.std.proofs.Common.{◌≡◌, ◌++◌}
-use Rattle.std.specs.List.{flat_map, range_with_len}
-use Rattle.std.specs.String.{string_bytes}
+use Rattle.std.specs.{List.{flat_map, range_with_len}, String.{string_bytes}}
 use Rattle.sect_editor.specs.Hovering.{sites_in, class_line}
 use Rattle.sect_editor.proofs.objects.put_sites.Given as goal
 

@@ -1,13 +1,12 @@
 use Rattle.std.proofs.Common.{◌≡◌, ◌+◌, ◌<◌, ◌∷◌, [], ℕ, length, true, false, sym, ap, subst, ◌∙◌, arith, rules}
-use Rattle.std.specs.Prelude.{All}
-use Rattle.std.specs.List.{range_with_len}
 use Rattle.std.proofs.lemmas.List.Elements.{All-append, All-cons, All-nil}
+use Rattle.std.specs.{Prelude.{All}, List.{range_with_len}}
 use Rattle.sect_conflicts.specs.Conflicts.{Selects}
 use Rattle.sect_points.specs.Sets.{PointsToView}
 use Rattle.sect_editor.specs.Hovering.{RefersTo}
 use Rattle.sect_editor.proofs.Choosing.{choose, pass_over}
-use Rattle.sect_editor.proofs.objects.sites_of.Goals as goal
 use Rattle.sect_editor.proofs.objects.sites_of.Goals.{then-refers_to+in_ok-push, else-refers_to}
+use Rattle.sect_editor.proofs.objects.sites_of.Goals as goal
 
 pub loop-site-preserved : goal.loop-site-preserved
 loop-site-preserved c =

@@ -1,6 +1,5 @@
 use Rattle.std.proofs.Common.{◌<◌, length}
-use Rattle.std.specs.Prelude.{All}
-use Rattle.std.specs.List.{range_with_len}
+use Rattle.std.specs.{Prelude.{All}, List.{range_with_len}}
 use Rattle.sect_conflicts.specs.Conflicts.{Selects}
 use Rattle.sect_editor.specs.Hovering.{RefersTo}
 use Rattle.sect_editor.proofs.objects.sites_of.Given as goal

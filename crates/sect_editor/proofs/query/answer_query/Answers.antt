@@ -1,6 +1,5 @@
-use Rattle.std.proofs.Common.{◌≡◌, List, length, sym, subst, ap, ◌∙◌}
+use Rattle.std.proofs.{Common.{◌≡◌, List, length, sym, subst, ap, ◌∙◌}, lemmas.Result.{IfOk-weaker}}
 use Rattle.serde_json.specs.View.{view}
-use Rattle.std.proofs.lemmas.Result.{IfOk-weaker}
 use Rattle.sect_places.specs.declared.name_use.NameSpan.{NameSpan}
 use Rattle.sect_editor.specs.Queries.{answer_by, declared_at, new_name}
 use Rattle.sect_editor.specs.steps.Naming.{AreNamesWithin, IsFoundWithin}

@@ -1,7 +1,6 @@
 use Rattle.std.proofs.Common.{Some, sym, ap, ◌∙◌}
 use Rattle.std.specs.Prelude.{option_map}
-use Rattle.sect_editor.specs.declared.position.Place.{Place}
-use Rattle.sect_editor.specs.Positions.{offset}
+use Rattle.sect_editor.specs.{declared.position.Place.{Place}, Positions.{offset}}
 use Rattle.sect_editor.proofs.question.byte_told.Goals as goal
 
 pub returns-clause-byte : goal.returns-clause-byte

@@ -1,8 +1,7 @@
 use Rattle.std.proofs.Common.{◌≡◌, ◌++◌, length, map, ap, ◌∙◌, arith}
 use Rattle.std.specs.List.{flat_map, range_with_len}
 use Rattle.serde_json.specs.View.{view}
-use Rattle.sect_types.specs.Programs.{ProgramView}
-use Rattle.sect_types.specs.Sections.{sections_of}
+use Rattle.sect_types.specs.{Programs.{ProgramView}, Sections.{sections_of}}
 use Rattle.sect_names.specs.Schemes.{SchemeView}
 use Rattle.sect_editor.specs.Symbols.{section_symbols}
 use Rattle.sect_editor.proofs.Listing.{numbers_behind}

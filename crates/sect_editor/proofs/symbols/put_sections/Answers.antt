@@ -1,12 +1,10 @@
-use Rattle.std.proofs.Common.{refl, ap, sym, subst, ◌∙◌}
+use Rattle.std.proofs.{Common.{refl, ap, sym, subst, ◌∙◌}, lemmas.Result.{on_ok_weaker}}
 use Rattle.std.specs.List.{flat_map}
-use Rattle.std.proofs.lemmas.Result.{on_ok_weaker}
 use Rattle.sect_front.specs.Front.{IsSpelled}
 use Rattle.sect_types.specs.Programs.{ProgramView}
 use Rattle.sect_names.specs.Schemes.{SchemeView}
 use Rattle.sect_places.specs.NodeSpans.{AreNodeSpans}
-use Rattle.sect_editor.specs.Marks.{section_numbers}
-use Rattle.sect_editor.specs.Symbols.{section_symbols}
+use Rattle.sect_editor.specs.{Marks.{section_numbers}, Symbols.{section_symbols}}
 use Rattle.sect_editor.proofs.symbols.put_sections.Goals as goal
 
 pub node_spans-requires : goal.node_spans-requires

@@ -1,8 +1,7 @@
 use Rattle.std.proofs.Common.{◌≡◌, ◌<◌, List, ℕ, length, take, drop, sym, ap, subst, ◌∙◌, arith, length-drop}
 use Rattle.sect_front.specs.Gaps.{after_gap}
 use Rattle.sect_front.proofs.shared.Lexings.{gap_fits}
-use Rattle.sect_editor.specs.declared.words.Word.{Word}
-use Rattle.sect_editor.specs.Words.{word_of, word_length, Begins}
+use Rattle.sect_editor.specs.{declared.words.Word.{Word}, Words.{word_of, word_length, Begins}}
 use Rattle.sect_editor.proofs.Wording.{begins_more}
 use Rattle.sect_editor.proofs.words.words_of.Goals as goal
 

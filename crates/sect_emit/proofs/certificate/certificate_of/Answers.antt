@@ -1,7 +1,5 @@
-use Rattle.std.proofs.Common.{◌<◌, ◌+◌, Some, length, arith, sym, ap, ◌∙◌, subst}
-use Rattle.std.proofs.lemmas.Option.{slice_get-get_or}
-use Rattle.sect_types.specs.Sections.{sections_of}
-use Rattle.sect_types.specs.Programs.{ProgramView}
+use Rattle.std.proofs.{Common.{◌<◌, ◌+◌, Some, length, arith, sym, ap, ◌∙◌, subst}, lemmas.Option.{slice_get-get_or}}
+use Rattle.sect_types.specs.{Sections.{sections_of}, Programs.{ProgramView}}
 use Rattle.sect_emit.proofs.Spelling.{AreSpelledBelow, section_more}
 use Rattle.sect_emit.proofs.certificate.certificate_of.Goals as goal
 

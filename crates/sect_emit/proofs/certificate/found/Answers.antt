@@ -1,14 +1,9 @@
 use Rattle.std.proofs.Common.{arith, subst}
-use Rattle.sect_types.specs.Sections.{sections_of}
-use Rattle.sect_types.specs.Programs.{ProgramView, IsWithinLimits}
-use Rattle.sect_lemmas.proofs.Places.{at_of}
+use Rattle.sect_types.specs.{Sections.{sections_of}, Programs.{ProgramView, IsWithinLimits}, Sound.{AreSound}}
+use Rattle.sect_lemmas.proofs.{Places.{at_of}, Results.{if_ok}}
 use Rattle.sect_names.specs.Needed.{end_of}
 use Rattle.sect_chains.specs.Chains.{IsFirstChain}
-use Rattle.sect_types.specs.Sound.{AreSound}
-use Rattle.sect_emit.proofs.Chained.{chains_named, section_lawful}
-use Rattle.sect_emit.proofs.Counting.{few_locks}
-use Rattle.sect_emit.proofs.Spelling.{zip_length}
-use Rattle.sect_lemmas.proofs.Results.{if_ok}
+use Rattle.sect_emit.proofs.{Chained.{chains_named, section_lawful}, Counting.{few_locks}, Spelling.{zip_length}}
 use Rattle.sect_emit.proofs.certificate.found.Goals as goal
 
 pub chains-requires-clause-locks : goal.chains-requires-clause-locks

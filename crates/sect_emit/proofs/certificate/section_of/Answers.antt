@@ -1,6 +1,5 @@
-use Rattle.std.proofs.Common.{◌≡◌, Some, length, map, arith, refl, sym, ap, ◌∙◌, subst}
+use Rattle.std.proofs.{Common.{◌≡◌, Some, length, map, arith, refl, sym, ap, ◌∙◌, subst}, lemmas.List.{length-map}}
 use Rattle.std.specs.Prelude.{slice_get}
-use Rattle.std.proofs.lemmas.List.{length-map}
 use Rattle.sect_types.specs.Programs.{ProgramView}
 use Rattle.sect_graph.specs.Graphs.{GraphView}
 use Rattle.sect_names.specs.Printing.{AreNamed}

@@ -1,14 +1,10 @@
 use Rattle.std.proofs.Common.{◌≡◌, List, Vec, Global, ◌+◌, ◌++◌, ◌∷◌, [], map, ◌<◌, length, arith, take, sym, ap, ◌∙◌}
-use Rattle.std.proofs.Common.{subst}
-use Rattle.std.proofs.lemmas.List.{map-append}
+use Rattle.std.proofs.{Common.{subst}, lemmas.List.{map-append}}
 use Rattle.sect_infer.specs.Sets.{LocksView}
 use Rattle.sect_lemmas.specs.Lists.{Has}
-use Rattle.sect_emit.specs.steps.Inferred.{entries_of, AreFixedParts}
-use Rattle.sect_emit.specs.steps.Wishes.{IsClassedLock}
-use Rattle.sect_emit.proofs.Wholes.{one_part, classed_entry}
-use Rattle.sect_emit.proofs.Adding.{take_next}
-use Rattle.sect_emit.specs.declared.plan.Grip.{Grip}
-use Rattle.sect_emit.specs.Plan.{IsFixedPart}
+use Rattle.sect_emit.specs.steps.{Inferred.{entries_of, AreFixedParts}, Wishes.{IsClassedLock}}
+use Rattle.sect_emit.proofs.{Wholes.{one_part, classed_entry}, Adding.{take_next}}
+use Rattle.sect_emit.specs.{declared.plan.Grip.{Grip}, Plan.{IsFixedPart}}
 use Rattle.sect_names.specs.declared.lock.Lock.{Lock}
 use Rattle.sect_emit.proofs.compiling.all_parts.Goals as goal
 

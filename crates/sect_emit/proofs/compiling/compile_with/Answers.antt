@@ -1,9 +1,9 @@
 use Rattle.std.proofs.Common.{◌≡◌, Err, ap}
 use Rattle.sect_lemmas.proofs.Results.{given}
 use Rattle.sect_infer.specs.declared.workers.InferFault.{InferFault}
-use Rattle.sect_emit.specs.declared.fault.CompileFault.TheVariants as fault
 use Rattle.sect_emit.specs.Faults.{IsDueBy, of_workers, of_source}
 use Rattle.sect_emit.proofs.Working.{not_both, refused_for_memory, workers_due, source_due}
+use Rattle.sect_emit.specs.declared.fault.CompileFault.TheVariants as fault
 use Rattle.sect_emit.proofs.compiling.compile_with.Goals as goal
 
 pub returns-in_err-check_workers-clause-only : goal.returns-in_err-check_workers-clause-only

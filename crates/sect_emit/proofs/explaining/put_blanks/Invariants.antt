@@ -1,6 +1,5 @@
 use Rattle.std.proofs.Common.{◌≡◌, ◌++◌, ◌-◌}
-use Rattle.std.specs.Prelude.{replicate}
-use Rattle.std.specs.String.{string_bytes}
+use Rattle.std.specs.{Prelude.{replicate}, String.{string_bytes}}
 use Rattle.sect_emit.proofs.explaining.put_blanks.Given as goal
 
 abbrev pub invariant-loop-blank : goal.invariant-loop-blank

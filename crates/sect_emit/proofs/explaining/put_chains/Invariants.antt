@@ -1,6 +1,5 @@
 use Rattle.std.proofs.Common.{◌≡◌, ◌++◌, drop}
-use Rattle.std.specs.String.{string_bytes}
-use Rattle.std.specs.List.{flat_map}
+use Rattle.std.specs.{String.{string_bytes}, List.{flat_map}}
 use Rattle.sect_emit.specs.Explaining.{chain_lines}
 use Rattle.sect_emit.proofs.explaining.put_chains.Given as goal
 

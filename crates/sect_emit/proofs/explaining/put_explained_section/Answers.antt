@@ -1,15 +1,9 @@
-use Rattle.std.proofs.Common.{◌≡◌, Some, [], ap, sym, ◌∙◌, subst, map}
-use Rattle.std.specs.Prelude.{slice_get}
-use Rattle.std.proofs.lemmas.List.{get_or-map}
-use Rattle.std.specs.String.{string_bytes}
-use Rattle.sect_types.specs.Programs.{ProgramView}
-use Rattle.sect_types.specs.Sections.{sections_of}
-use Rattle.sect_types.specs.Sections.{section_shown}
+use Rattle.std.proofs.{Common.{◌≡◌, Some, [], ap, sym, ◌∙◌, subst, map}, lemmas.List.{get_or-map}}
+use Rattle.std.specs.{Prelude.{slice_get}, String.{string_bytes}}
+use Rattle.sect_types.specs.{Programs.{ProgramView}, Sections.{sections_of, section_shown}}
 use Rattle.sect_graph.specs.Graphs.{GraphView}
 use Rattle.sect_names.specs.Schemes.{SchemeView}
-use Rattle.sect_emit.proofs.Explained.{explained}
-use Rattle.sect_emit.proofs.Graphed.{section_graph, section_named}
-use Rattle.sect_emit.proofs.Numbered.{on_ok}
+use Rattle.sect_emit.proofs.{Explained.{explained}, Graphed.{section_graph, section_named}, Numbered.{on_ok}}
 use Rattle.sect_emit.proofs.explaining.put_explained_section.Goals as goal
 
 pub put_explained-requires-clause-nodes : goal.put_explained-requires-clause-nodes

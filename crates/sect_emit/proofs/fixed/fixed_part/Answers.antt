@@ -1,6 +1,5 @@
 use Rattle.std.proofs.Common.{◌≡◌, ◌+◌, ◌-◌, ◌<◌, length, drop, arith, sym, subst}
-use Rattle.sect_lemmas.proofs.Elements.{drop_next}
-use Rattle.sect_lemmas.proofs.Membership.{Has-get_or}
+use Rattle.sect_lemmas.proofs.{Elements.{drop_next}, Membership.{Has-get_or}}
 use Rattle.sect_lemmas.specs.Lists.{Has}
 use Rattle.sect_emit.specs.Plan.{IsFixedPart}
 use Rattle.sect_emit.proofs.Adding.{one_more}

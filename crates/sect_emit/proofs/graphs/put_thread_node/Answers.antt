@@ -1,14 +1,10 @@
-use Rattle.std.proofs.Common.{◌≡◌, ◌++◌, Some, sym, ap, ◌∙◌, subst}
-use Rattle.std.specs.Prelude.{slice_get, option_map}
-use Rattle.std.specs.String.{string_bytes}
-use Rattle.std.proofs.lemmas.Option.{get_or_from_slice_get}
-use Rattle.sect_types.specs.Programs.{ProgramView}
-use Rattle.sect_types.specs.Statements.{Stop}
+use Rattle.std.proofs.{Common.{◌≡◌, ◌++◌, Some, sym, ap, ◌∙◌, subst}, lemmas.Option.{get_or_from_slice_get}}
+use Rattle.std.specs.{Prelude.{slice_get, option_map}, String.{string_bytes}}
+use Rattle.sect_types.specs.{Programs.{ProgramView}, Statements.{Stop}}
 use Rattle.sect_graph.specs.Layout.{flow_nodes}
 use Rattle.sect_names.specs.Schemes.{SchemeView}
 use Rattle.sect_emit.specs.Explaining.{deed_text}
-use Rattle.sect_emit.proofs.Graphed.{thread_graph, thread_named}
-use Rattle.sect_emit.proofs.Numbered.{on_ok}
+use Rattle.sect_emit.proofs.{Graphed.{thread_graph, thread_named}, Numbered.{on_ok}}
 use Rattle.sect_emit.proofs.graphs.put_thread_node.Goals as goal
 
 pub put_deed-requires : goal.put_deed-requires

@@ -1,8 +1,6 @@
-use Rattle.std.proofs.Common.{◌≡◌, Some, sym, ap, ◌∙◌, subst}
+use Rattle.std.proofs.{Common.{◌≡◌, Some, sym, ap, ◌∙◌, subst}, lemmas.Option.{get_or_from_slice_get}}
 use Rattle.std.specs.Prelude.{slice_get}
-use Rattle.std.proofs.lemmas.Option.{get_or_from_slice_get}
-use Rattle.sect_types.specs.Programs.{ProgramView}
-use Rattle.sect_types.specs.Statements.{Stop}
+use Rattle.sect_types.specs.{Programs.{ProgramView}, Statements.{Stop}}
 use Rattle.sect_graph.specs.Layout.{flow_nodes}
 use Rattle.sect_names.specs.Schemes.{SchemeView}
 use Rattle.sect_emit.proofs.Graphed.{thread_graph}

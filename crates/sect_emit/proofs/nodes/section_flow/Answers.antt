@@ -1,7 +1,6 @@
 use Rattle.std.proofs.Common.{◌≡◌, Some, ap, ◌∙◌, subst}
 use Rattle.std.specs.Prelude.{slice_get}
-use Rattle.sect_types.specs.Programs.{ProgramView}
-use Rattle.sect_types.specs.Sections.{sections_of, section_shown}
+use Rattle.sect_types.specs.{Programs.{ProgramView}, Sections.{sections_of, section_shown}}
 use Rattle.sect_graph.specs.Graphs.{GraphView}
 use Rattle.sect_names.specs.Schemes.{SchemeView}
 use Rattle.sect_emit.proofs.Noded.{flow_here}

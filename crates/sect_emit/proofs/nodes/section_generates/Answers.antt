@@ -1,13 +1,8 @@
 use Rattle.std.proofs.Common.{◌≡◌, ◌↔◌, ◌≤◌, List, length, Some, sym, ap, ◌∙◌, subst}
 use Rattle.std.specs.Prelude.{slice_get}
-use Rattle.sect_types.specs.Programs.{ProgramView}
-use Rattle.sect_types.specs.Sections.{sections_of, section_shown}
-use Rattle.sect_types.specs.Sound.{AreSound}
-use Rattle.sect_graph.specs.Graphs.{GraphView}
-use Rattle.sect_graph.specs.declared.flow.Node.{Node}
-use Rattle.sect_names.specs.declared.lock.Lock.{Lock}
-use Rattle.sect_names.specs.Chains.{link, IsGeneratedAt}
-use Rattle.sect_names.specs.Needed.{end_locks}
+use Rattle.sect_types.specs.{Programs.{ProgramView}, Sections.{sections_of, section_shown}, Sound.{AreSound}}
+use Rattle.sect_graph.specs.{Graphs.{GraphView}, declared.flow.Node.{Node}}
+use Rattle.sect_names.specs.{declared.lock.Lock.{Lock}, Chains.{link, IsGeneratedAt}, Needed.{end_locks}}
 use Rattle.sect_names.specs.Schemes.{SchemeView}
 use Rattle.sect_emit.proofs.Noded.{flow_here, generated_here, own_named}
 use Rattle.sect_emit.proofs.nodes.section_generates.Goals.{After-locking, After-generated_at}

@@ -1,6 +1,5 @@
 use Rattle.std.proofs.Common.{◌≡◌, ◌++◌, drop}
-use Rattle.std.specs.String.{string_bytes}
-use Rattle.std.specs.List.{flat_map}
+use Rattle.std.specs.{String.{string_bytes}, List.{flat_map}}
 use Rattle.sect_emit.specs.Listing.{path_line}
 use Rattle.sect_emit.proofs.printing.put_paths.Given as goal
 

@@ -1,16 +1,10 @@
-use Rattle.std.proofs.Common.{◌≡◌, ◌++◌, Some, [], sym, ap, ◌∙◌, subst}
-use Rattle.std.specs.Prelude.{slice_get, slice_index_or}
-use Rattle.std.specs.String.{string_bytes}
-use Rattle.std.proofs.lemmas.Option.{get_or_from_slice_get}
-use Rattle.sect_types.specs.Programs.{ProgramView}
-use Rattle.sect_types.specs.Sections.{SectionView, sections_of}
-use Rattle.sect_types.specs.Sections.{section_shown}
+use Rattle.std.proofs.{Common.{◌≡◌, ◌++◌, Some, [], sym, ap, ◌∙◌, subst}, lemmas.Option.{get_or_from_slice_get}}
+use Rattle.std.specs.{Prelude.{slice_get, slice_index_or}, String.{string_bytes}}
+use Rattle.sect_types.specs.{Programs.{ProgramView}, Sections.{SectionView, sections_of, section_shown}}
 use Rattle.sect_lemmas.proofs.Places.{one_at}
-use Rattle.sect_names.specs.Schemes.{SchemeView}
-use Rattle.sect_names.specs.Printing.{AreNamed}
+use Rattle.sect_names.specs.{Schemes.{SchemeView}, Printing.{AreNamed}}
 use Rattle.sect_emit.specs.Listing.{section_lines}
-use Rattle.sect_emit.proofs.Graphed.{section_graph, section_named}
-use Rattle.sect_emit.proofs.Numbered.{on_ok}
+use Rattle.sect_emit.proofs.{Graphed.{section_graph, section_named}, Numbered.{on_ok}}
 use Rattle.sect_emit.proofs.shared.Sets.{set_named}
 use Rattle.sect_emit.proofs.printing.put_section.Goals as goal
 

@@ -1,12 +1,8 @@
 use Rattle.std.proofs.Common.{◌≡◌, ◌++◌, Some, ap, ◌∙◌, subst}
-use Rattle.std.specs.Prelude.{slice_get}
-use Rattle.std.specs.String.{string_bytes}
-use Rattle.sect_types.specs.Programs.{ProgramView}
-use Rattle.sect_types.specs.Sections.{sections_of, section_shown}
+use Rattle.std.specs.{Prelude.{slice_get}, String.{string_bytes}}
+use Rattle.sect_types.specs.{Programs.{ProgramView}, Sections.{sections_of, section_shown}}
 use Rattle.sect_names.specs.Schemes.{SchemeView}
-use Rattle.sect_emit.proofs.Explained.{deed_here}
-use Rattle.sect_emit.proofs.Graphed.{section_graph, section_named}
-use Rattle.sect_emit.proofs.Numbered.{on_ok}
+use Rattle.sect_emit.proofs.{Explained.{deed_here}, Graphed.{section_graph, section_named}, Numbered.{on_ok}}
 use Rattle.sect_emit.proofs.sections.put_section_node.Goals as goal
 
 pub put_deed-requires : goal.put_deed-requires

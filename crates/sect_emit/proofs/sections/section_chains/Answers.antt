@@ -1,12 +1,9 @@
-use Rattle.std.proofs.Common.{◌≡◌, [], Some, ap, ◌∙◌, subst}
+use Rattle.std.proofs.{Common.{◌≡◌, [], Some, ap, ◌∙◌, subst}, lemmas.Result.{IfOk-weaker}}
 use Rattle.std.specs.Prelude.{slice_get, slice_index_or}
-use Rattle.std.proofs.lemmas.Result.{IfOk-weaker}
-use Rattle.sect_types.specs.Programs.{ProgramView}
-use Rattle.sect_types.specs.Sections.{sections_of, section_shown}
+use Rattle.sect_types.specs.{Programs.{ProgramView}, Sections.{sections_of, section_shown}}
 use Rattle.sect_graph.specs.Graphs.{GraphView}
 use Rattle.sect_names.specs.Schemes.{SchemeView}
-use Rattle.sect_emit.proofs.Explained.{set_here, chained_here}
-use Rattle.sect_emit.proofs.Graphed.{section_graph}
+use Rattle.sect_emit.proofs.{Explained.{set_here, chained_here}, Graphed.{section_graph}}
 use Rattle.sect_emit.proofs.sections.section_chains.Goals as goal
 
 pub returns-clause-chained : goal.returns-clause-chained

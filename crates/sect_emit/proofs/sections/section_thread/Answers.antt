@@ -1,7 +1,6 @@
 use Rattle.std.proofs.Common.{◌≡◌, Some, sym, ap, ◌∙◌, subst}
 use Rattle.std.specs.Prelude.{slice_get}
-use Rattle.sect_types.specs.Programs.{ProgramView}
-use Rattle.sect_types.specs.Sections.{SectionView, sections_of, section_shown}
+use Rattle.sect_types.specs.{Programs.{ProgramView}, Sections.{SectionView, sections_of, section_shown}}
 use Rattle.sect_names.specs.Schemes.{SchemeView}
 use Rattle.sect_emit.proofs.Explained.{section_here}
 use Rattle.sect_emit.proofs.sections.section_thread.Goals as goal

@@ -1,10 +1,7 @@
-use Rattle.std.proofs.Common.{◌≡◌, ◌∙◌, List, map, sym, ap, subst}
-use Rattle.std.specs.Prelude.{IfOk}
-use Rattle.std.specs.Map.Iter.{deref}
-use Rattle.std.proofs.lemmas.Option.{slice_get_within}
+use Rattle.std.proofs.{Common.{◌≡◌, ◌∙◌, List, map, sym, ap, subst}, lemmas.Option.{slice_get_within}}
+use Rattle.std.specs.{Prelude.{IfOk}, Map.Iter.{deref}}
 use Rattle.sect_lemmas.proofs.Places.{one_at}
-use Rattle.sect_names.specs.declared.lock.Lock.{Lock}
-use Rattle.sect_names.specs.Printing.{AreNamed}
+use Rattle.sect_names.specs.{declared.lock.Lock.{Lock}, Printing.{AreNamed}}
 use Rattle.sect_emit.specs.Words.{list_words}
 use Rattle.sect_emit.proofs.words.entry_of.Goals as goal
 

@@ -1,8 +1,7 @@
 use Rattle.std.proofs.Common.{◌<◌, length, arith, sym, subst}
 use Rattle.std.specs.Map.Iter.{deref}
 use Rattle.sect_lemmas.specs.Lists.{Has}
-use Rattle.sect_lemmas.proofs.Listing.{Has-map}
-use Rattle.sect_lemmas.proofs.Membership.{Has-get_or}
+use Rattle.sect_lemmas.proofs.{Listing.{Has-map}, Membership.{Has-get_or}}
 use Rattle.sect_emit.proofs.words.list_of.Goals as goal
 
 pub next_lock-requires-clause-named : goal.next_lock-requires-clause-named

@@ -1,6 +1,5 @@
 use Rattle.std.proofs.Common.{◌≡◌, map, take}
-use Rattle.std.specs.List.{AllByRecursion}
-use Rattle.std.specs.Map.Iter.{deref}
+use Rattle.std.specs.{List.{AllByRecursion}, Map.Iter.{deref}}
 use Rattle.sect_cert.specs.Texts.{IsLock}
 use Rattle.sect_emit.specs.Words.{list_words}
 use Rattle.sect_emit.proofs.words.list_of.Given as goal

@@ -1,6 +1,5 @@
 use Rattle.std.proofs.Common.{◌≡◌, take, map}
-use Rattle.std.specs.List.{AllByRecursion}
-use Rattle.std.specs.Map.Iter.{deref}
+use Rattle.std.specs.{List.{AllByRecursion}, Map.Iter.{deref}}
 use Rattle.sect_cert.specs.Texts.{IsLock}
 use Rattle.sect_emit.specs.Words.{list_words}
 use Rattle.sect_emit.specs.steps.Spelled.{IsLastNamed}

@@ -1,13 +1,10 @@
 use Rattle.std.proofs.Common.{◌≡◌, ◌∙◌, List, map, sym, ap, subst, refl}
-use Rattle.std.specs.List.{AllByRecursion}
-use Rattle.std.specs.Map.Iter.{deref}
+use Rattle.std.specs.{List.{AllByRecursion}, Map.Iter.{deref}}
 use Rattle.sect_lemmas.proofs.Membership.{Has-slice_get}
 use Rattle.sect_names.specs.Printing.{AreNamed}
-use Rattle.sect_cert.specs.declared.lock.CertLock.{CertLock}
-use Rattle.sect_cert.specs.Texts.{IsLock}
+use Rattle.sect_cert.specs.{declared.lock.CertLock.{CertLock}, Texts.{IsLock}}
 use Rattle.sect_emit.specs.Words.{list_words}
-use Rattle.sect_emit.proofs.Spelling.{next_list, all_more, list_again}
-use Rattle.sect_emit.proofs.Renaming.{last_named, last_again}
+use Rattle.sect_emit.proofs.{Spelling.{next_list, all_more, list_again}, Renaming.{last_named, last_again}}
 use Rattle.sect_emit.proofs.words.next_list.Goals as goal
 
 pub list_of-requires-clause-named : goal.list_of-requires-clause-named

@@ -1,9 +1,7 @@
-use Rattle.std.proofs.Common.{Vec, Global, sym, ◌∙◌, ap}
-use Rattle.std.proofs.lemmas.List.{take_all}
+use Rattle.std.proofs.{Common.{Vec, Global, sym, ◌∙◌, ap}, lemmas.List.{take_all}}
 use Rattle.std.specs.Prelude.{is_some, filter}
 use Rattle.sect_front.specs.declared.token_kind.TokenKind.{TokenKind}
-use Rattle.sect_front.specs.steps.Read.{read_one}
-use Rattle.sect_front.specs.steps.Taking.{is_kind_taken}
+use Rattle.sect_front.specs.steps.{Read.{read_one}, Taking.{is_kind_taken}}
 use Rattle.sect_front.proofs.Following.{filtered_kept, filtered_left}
 use Rattle.sect_front.proofs.expecting.kinds_taken.Goals.{then-takes+in_ok-push, else-takes}
 use Rattle.sect_front.proofs.expecting.kinds_taken.Goals as goal

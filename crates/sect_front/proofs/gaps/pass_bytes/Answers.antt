@@ -1,8 +1,6 @@
-use Rattle.std.proofs.Common.{◌-◌, length, arith, refl, ap}
-use Rattle.std.proofs.lemmas.List.Elements.{All-push}
+use Rattle.std.proofs.{Common.{◌-◌, length, arith, refl, ap}, lemmas.List.Elements.{All-push}}
 use Rattle.sect_front.specs.LongGaps.{IsGap}
-use Rattle.sect_front.proofs.shared.Lexings.{gap_fits}
-use Rattle.sect_front.proofs.shared.Rests.{rest_fits, gap_here}
+use Rattle.sect_front.proofs.shared.{Lexings.{gap_fits}, Rests.{rest_fits, gap_here}}
 use Rattle.sect_front.proofs.gaps.pass_bytes.Goals.{then-end-start-ge-LONG_GAP+in_ok-push, else-end-start-ge-LONG_GAP}
 use Rattle.sect_front.proofs.gaps.pass_bytes.Goals as goal
 

@@ -1,12 +1,8 @@
-use Rattle.std.proofs.Common.{◌≡◌, ◌<◌, ◌-◌, length, arith, sym, ◌∙◌, ap, subst}
+use Rattle.std.proofs.{Common.{◌≡◌, ◌<◌, ◌-◌, length, arith, sym, ◌∙◌, ap, subst}, lemmas.Bool.Decides.{nat_tests}}
 use Rattle.std.specs.Prelude.{slice_get, IfSome}
-use Rattle.std.proofs.lemmas.Bool.Decides.{nat_tests}
-use Rattle.sect_front.proofs.Lexemes.{lexeme_first}
-use Rattle.sect_front.proofs.Reach.{reached_rest, bad_at}
-use Rattle.sect_front.proofs.shared.Rests.{rest_more}
-use Rattle.sect_front.proofs.shared.Lexings.{bad_or_lexed}
-use Rattle.sect_front.proofs.Texts.{shorter}
+use Rattle.sect_front.proofs.{Lexemes.{lexeme_first}, Reach.{reached_rest, bad_at}, Texts.{shorter}}
 use Rattle.sect_front.proofs.OpenBraces.{open_first, open_next, open_last, last_below}
+use Rattle.sect_front.proofs.shared.{Rests.{rest_more}, Lexings.{bad_or_lexed}}
 use Rattle.sect_front.proofs.innermost.innermost_brace.Goals as goal
 
 pub loop-here-init : goal.loop-here-init

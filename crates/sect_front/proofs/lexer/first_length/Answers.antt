@@ -1,8 +1,7 @@
 use Rattle.std.proofs.Common.{length, sym, ◌∙◌, ap, subst}
 use Rattle.sect_lemmas.proofs.Options.{some_injective, none_or_some}
 use Rattle.std.specs.Prelude.{take_while}
-use Rattle.sect_front.specs.Words.{is_name_byte}
-use Rattle.sect_front.specs.Lexing.{IsFirst}
+use Rattle.sect_front.specs.{Words.{is_name_byte}, Lexing.{IsFirst}}
 use Rattle.sect_front.proofs.Lexemes.{pair, word_count, sign_there}
 use Rattle.sect_front.proofs.lexer.first_length.Goals as goal
 

@@ -1,6 +1,5 @@
 use Rattle.std.proofs.Common.{◌≡◌, ◌++◌, ◌+◌, ◌*◌, List, drop}
-use Rattle.sect_front.specs.Tokens.{block_tokens}
-use Rattle.sect_front.specs.Trees.{statement_of, block_of, statement_size, block_size}
+use Rattle.sect_front.specs.{Tokens.{block_tokens}, Trees.{statement_of, block_of, statement_size, block_size}}
 use Rattle.sect_front.specs.declared.token.Token.{Token}
 use Rattle.sect_front.proofs.listing.+put.Given as goal
 

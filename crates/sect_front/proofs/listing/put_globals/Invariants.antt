@@ -1,6 +1,5 @@
 use Rattle.std.proofs.Common.{◌≡◌, ◌++◌, List, drop}
-use Rattle.sect_front.specs.Tokens.{globals_tokens}
-use Rattle.sect_front.specs.declared.token.Token.{Token}
+use Rattle.sect_front.specs.{Tokens.{globals_tokens}, declared.token.Token.{Token}}
 use Rattle.sect_front.proofs.listing.put_globals.Given as goal
 
 abbrev pub invariant-loop-global : goal.invariant-loop-global

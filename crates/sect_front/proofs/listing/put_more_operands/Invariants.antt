@@ -1,6 +1,5 @@
 use Rattle.std.proofs.Common.{◌≡◌, ◌++◌, List, drop}
-use Rattle.sect_front.specs.Tokens.{more_operands}
-use Rattle.sect_front.specs.declared.token.Token.{Token}
+use Rattle.sect_front.specs.{Tokens.{more_operands}, declared.token.Token.{Token}}
 use Rattle.sect_front.proofs.listing.put_more_operands.Given as goal
 
 abbrev pub invariant-loop-value : goal.invariant-loop-value

@@ -1,6 +1,5 @@
 use Rattle.std.proofs.Common.{◌≡◌, ◌++◌, List, drop}
-use Rattle.sect_front.specs.Tokens.{more_parameters}
-use Rattle.sect_front.specs.declared.token.Token.{Token}
+use Rattle.sect_front.specs.{Tokens.{more_parameters}, declared.token.Token.{Token}}
 use Rattle.sect_front.proofs.listing.put_more_parameters.Given as goal
 
 abbrev pub invariant-loop-parameter : goal.invariant-loop-parameter

@@ -1,6 +1,5 @@
 use Rattle.std.proofs.Common.{◌≡◌, ◌++◌, List, drop}
-use Rattle.sect_front.specs.Tokens.{records_tokens}
-use Rattle.sect_front.specs.declared.token.Token.{Token}
+use Rattle.sect_front.specs.{Tokens.{records_tokens}, declared.token.Token.{Token}}
 use Rattle.sect_front.proofs.listing.put_records.Given as goal
 
 abbrev pub invariant-loop-record : goal.invariant-loop-record

@@ -1,6 +1,5 @@
 use Rattle.std.proofs.Common.{◌≡◌, ◌++◌, List, drop}
-use Rattle.sect_front.specs.Tokens.{threads_tokens}
-use Rattle.sect_front.specs.declared.token.Token.{Token}
+use Rattle.sect_front.specs.{Tokens.{threads_tokens}, declared.token.Token.{Token}}
 use Rattle.sect_front.proofs.listing.put_threads.Given as goal
 
 abbrev pub invariant-loop-thread : goal.invariant-loop-thread

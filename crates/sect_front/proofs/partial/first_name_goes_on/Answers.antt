@@ -1,9 +1,9 @@
 use Rattle.std.proofs.Common.{◌≡◌, ◌≢◌, ℕ, List, refl, ◌∙◌}
 use Rattle.sect_front.specs.declared.token.Token.{Token}
+use Rattle.sect_front.specs.steps.Advance.{assign_step, first_step}
 use Rattle.sect_front.specs.declared.token.Token.TheVariants as token
 use Rattle.sect_front.specs.declared.tree.Operand.TheVariants as operand
 use Rattle.sect_front.specs.declared.partial.PartialAssign.TheVariants as assign
-use Rattle.sect_front.specs.steps.Advance.{assign_step, first_step}
 use Rattle.sect_front.proofs.partial.first_name_goes_on.Goals as goal
 
 -- behind `x = y` all but `.` is taken as behind any operand

@@ -2,8 +2,7 @@ use Rattle.std.proofs.Common.{◌++◌, ◌∙◌, ap, sym}
 use Rattle.std.specs.List.{list_all}
 use Rattle.sect_front.specs.Spelling.{is_proper}
 use Rattle.sect_front.specs.steps.Spread.{spread}
-use Rattle.sect_front.proofs.Printed.{IsPrinted, printed}
-use Rattle.sect_front.proofs.printing.print.Goals.{In_ok-put_tokens}
+use Rattle.sect_front.proofs.{Printed.{IsPrinted, printed}, printing.print.Goals.{In_ok-put_tokens}}
 use Rattle.sect_front.proofs.printing.print.Goals as goal
 
 -- what is put there are the tree's tokens

@@ -1,7 +1,5 @@
-use Rattle.std.proofs.Common.{◌-◌, ◌++◌, length, arith, sym, ◌∙◌, ap, ◌<◌, ◌≡◌}
-use Rattle.std.proofs.lemmas.Bool.Decides.{nat_tests}
-use Rattle.sect_front.proofs.Lexemes.{lexeme_first}
-use Rattle.sect_front.proofs.Reach.{bad_at, lexed}
+use Rattle.std.proofs.{Common.{◌-◌, ◌++◌, length, arith, sym, ◌∙◌, ap, ◌<◌, ◌≡◌}, lemmas.Bool.Decides.{nat_tests}}
+use Rattle.sect_front.proofs.{Lexemes.{lexeme_first}, Reach.{bad_at, lexed}}
 use Rattle.sect_front.proofs.Texts.{leads_nowhere, leads_more, shorter, nothing_left}
 use Rattle.sect_front.proofs.reading.bad_from.Goals as goal
 

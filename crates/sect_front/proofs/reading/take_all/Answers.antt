@@ -1,19 +1,13 @@
 use Rattle.std.proofs.Common.{◌≡◌, ◌<◌, ◌-◌, ◌++◌, ◌∷◌, [], length, arith, refl, sym, ◌∙◌, ap, subst}
 use Rattle.std.proofs.lemmas.Bool.Decides.{nat_tests}
 use Rattle.std.specs.Prelude.{filter}
-use Rattle.sect_front.specs.Expected.{all_kinds}
-use Rattle.sect_front.specs.steps.Taking.{is_kind_taken}
-use Rattle.sect_front.specs.Faults.{tokens_in, IsUnexpectedAt, IsTooDeepAt}
-use Rattle.sect_front.specs.steps.Verdicts.{SpellingAt}
-use Rattle.sect_front.specs.steps.Read.{finish_of}
-use Rattle.sect_front.proofs.Lexemes.{lexeme_first}
-use Rattle.sect_front.proofs.shared.Rests.{rest_more}
-use Rattle.sect_front.proofs.Reach.{reached_none, reached_rest, bad_at, lexed}
-use Rattle.sect_front.specs.Gaps.{after_gap}
+use Rattle.sect_front.specs.{Expected.{all_kinds}, Faults.{tokens_in, IsUnexpectedAt, IsTooDeepAt}, Gaps.{after_gap}}
+use Rattle.sect_front.specs.steps.{Taking.{is_kind_taken}, Verdicts.{SpellingAt}, Read.{finish_of}}
+use Rattle.sect_front.proofs.{Lexemes.{lexeme_first}, Reach.{reached_none, reached_rest, bad_at, lexed}}
 use Rattle.sect_front.proofs.Verdict.{reads_nothing, finished, is_low, brace_most}
 use Rattle.sect_front.proofs.Texts.{token_here, span_here, passed, reads_on, shorter, unexpected_at, too_deep_at}
-use Rattle.sect_front.proofs.Texts.{text_ends, nothing_left}
-use Rattle.sect_front.proofs.Following.{kinds_expected}
+use Rattle.sect_front.proofs.{Texts.{text_ends, nothing_left}, Following.{kinds_expected}}
+use Rattle.sect_front.proofs.shared.Rests.{rest_more}
 use Rattle.sect_front.proofs.reading.take_all.Goals as goal
 
 pub loop-here-init : goal.loop-here-init

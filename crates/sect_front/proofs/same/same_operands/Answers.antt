@@ -1,5 +1,4 @@
-use Rattle.std.proofs.Common.{sym}
-use Rattle.std.proofs.lemmas.Slice.Eq.{slice_eq-Decides}
+use Rattle.std.proofs.{Common.{sym}, lemmas.Slice.Eq.{slice_eq-Decides}}
 use Rattle.sect_front.proofs.Sameness.{operand_tells}
 use Rattle.sect_front.proofs.same.same_operands.Goals as goal
 

@@ -1,7 +1,5 @@
 use Rattle.std.proofs.Common.{arith, ap}
-use Rattle.sect_types.specs.Statements.{Stop, weight}
-use Rattle.sect_types.specs.Texts.{step_then}
-use Rattle.sect_types.specs.Traces.{node_count}
+use Rattle.sect_types.specs.{Statements.{Stop, weight}, Texts.{step_then}, Traces.{node_count}}
 use Rattle.sect_types.proofs.shared.FindLemmas.{weight_at}
 use Rattle.sect_graph.proofs.Emitting.{count_more}
 use Rattle.sect_graph.proofs.emit.+count.Goals as goal

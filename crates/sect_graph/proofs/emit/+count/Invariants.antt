@@ -1,7 +1,5 @@
 use Rattle.std.proofs.Common.{◌≡◌, ◌+◌, ◌*◌, drop}
-use Rattle.sect_types.specs.Statements.{Stop, weight}
-use Rattle.sect_types.specs.Texts.{step_then, statements_of}
-use Rattle.sect_types.specs.Traces.{node_count}
+use Rattle.sect_types.specs.{Statements.{Stop, weight}, Texts.{step_then, statements_of}, Traces.{node_count}}
 use Rattle.sect_graph.proofs.emit.+count.Given as goal
 
 abbrev pub decreases-step_count : goal.decreases-step_count

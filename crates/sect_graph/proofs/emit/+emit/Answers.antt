@@ -1,17 +1,12 @@
 use Rattle.std.proofs.Common.{◌≡◌, ℕ, ◌+◌, ◌<◌, ◌≤◌, List, [], ◌∷◌, ◌++◌, length, drop, ap, sym, ◌∙◌, arith}
-use Rattle.std.proofs.Common.{length-append}
-use Rattle.std.proofs.lemmas.List.{append-nil, at_drop_all}
-use Rattle.std.proofs.lemmas.Result.{on_ok_weaker}
+use Rattle.std.proofs.{Common.{length-append}, lemmas.List.{append-nil, at_drop_all}, lemmas.Result.{on_ok_weaker}}
 use Rattle.sect_types.specs.declared.expansion.text.Step.{Step}
-use Rattle.sect_types.specs.declared.declarations.limits.TheConstants.{MOST_STATEMENTS}
-use Rattle.sect_types.specs.Statements.{Stop, weight}
-use Rattle.sect_types.specs.Texts.{step_then, statements_of}
-use Rattle.sect_types.specs.Traces.{node_count}
-use Rattle.sect_graph.specs.declared.flow.Node.{Node}
-use Rattle.sect_graph.specs.Layout.{entry_of, nodes_of}
+use Rattle.sect_types.specs.{declared.declarations.limits.TheConstants.{MOST_STATEMENTS}, Statements.{Stop, weight}}
+use Rattle.sect_types.specs.{Texts.{step_then, statements_of}, Traces.{node_count}}
+use Rattle.sect_graph.specs.{declared.flow.Node.{Node}, Layout.{entry_of, nodes_of}}
 use Rattle.sect_types.proofs.shared.FindLemmas.{weight_at}
-use Rattle.sect_graph.proofs.Emitting.{count_more, emit_more, room_more, nodes_if, nodes_while, room_if}
-use Rattle.sect_graph.proofs.Emitting.{after_more, after_last}
+use Rattle.sect_graph.proofs.Emitting.{count_more, emit_more, room_more, nodes_if, nodes_while, room_if, after_more}
+use Rattle.sect_graph.proofs.Emitting.{after_last}
 use Rattle.sect_graph.proofs.emit.+emit.Goals as goal
 use Rattle.sect_graph.proofs.emit.+emit.Goals.{emit_text-then-i-steps, emit_text-else-i-steps}
 

@@ -1,8 +1,7 @@
 use Rattle.std.proofs.Common.{◌≡◌, ap, refl, length, arith}
 use Rattle.sect_types.specs.Traces.{node_count}
 use Rattle.sect_graph.specs.Layout.{flow_nodes}
-use Rattle.sect_graph.proofs.Paths.{length-nodes_of}
-use Rattle.sect_graph.proofs.Graphs.{is_graph}
+use Rattle.sect_graph.proofs.{Paths.{length-nodes_of}, Graphs.{is_graph}}
 use Rattle.sect_graph.proofs.flow.flow_of.Goals as goal
 
 pub invariant_of-result : goal.invariant_of-result

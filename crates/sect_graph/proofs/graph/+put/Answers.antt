@@ -1,6 +1,5 @@
 use Rattle.std.proofs.Common.{arith, ap}
-use Rattle.sect_types.specs.Statements.{Stop, weight, statement_count}
-use Rattle.sect_types.specs.Texts.{step_then}
+use Rattle.sect_types.specs.{Statements.{Stop, weight, statement_count}, Texts.{step_then}}
 use Rattle.sect_types.specs.declared.expansion.text.Step.{Step}
 use Rattle.sect_types.proofs.shared.FindLemmas.{weight_at}
 use Rattle.sect_graph.proofs.Graphs.{nodes_few, statements_at}

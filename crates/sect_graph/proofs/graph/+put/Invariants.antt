@@ -1,6 +1,5 @@
 use Rattle.std.proofs.Common.{◌≡◌, ◌+◌, ◌*◌, ◌++◌, drop, map}
-use Rattle.sect_types.specs.Statements.{Stop, weight, section_bodies}
-use Rattle.sect_types.specs.Texts.{step_then, statements_of}
+use Rattle.sect_types.specs.{Statements.{Stop, weight, section_bodies}, Texts.{step_then, statements_of}}
 use Rattle.sect_graph.specs.Layout.{flow_nodes}
 use Rattle.sect_graph.proofs.graph.+put.Given as goal
 

@@ -1,13 +1,12 @@
 use Rattle.std.proofs.Common.{◌≡◌, ◌≤◌, ◌<◌, ◌+◌, length, arith, Some, ap, ◌∙◌, inl, inr, refl}
-use Rattle.sect_graph.specs.declared.flow.Successors.TheVariants.{Next, Branch}
-use Rattle.sect_graph.specs.declared.flow.Node.{Node}
+use Rattle.sect_graph.specs.{declared.flow.Successors.TheVariants.{Next, Branch}, declared.flow.Node.{Node}}
 use Rattle.sect_lemmas.proofs.Places.{told_at}
 use Rattle.sect_graph.proofs.Preceding.{before_none, before_next, before_done, added_one, added_two, goes_within}
 use Rattle.sect_graph.proofs.Preceding.{rising_one, rising_two}
-use Rattle.sect_graph.proofs.predecessors.predecessors_of.Goals as goal
 use Rattle.sect_graph.proofs.predecessors.predecessors_of.Goals.{in-Next+in_ok-add-in-Next}
 use Rattle.sect_graph.proofs.predecessors.predecessors_of.Goals.{in-Branch+in_ok-add-in-Branch+then-fails-holds+in_ok-add-in-Branch-2}
 use Rattle.sect_graph.proofs.predecessors.predecessors_of.Goals.{in-Branch+in_ok-add-in-Branch+else-fails-holds}
+use Rattle.sect_graph.proofs.predecessors.predecessors_of.Goals as goal
 
 pub add-requires : goal.add-requires
 add-requires c =

@@ -1,5 +1,4 @@
-use Rattle.std.proofs.Common.{◌<◌, ◌≤◌, [], length, get_or, arith}
-use Rattle.std.proofs.lemmas.List.{get_or_default}
+use Rattle.std.proofs.{Common.{◌<◌, ◌≤◌, [], length, get_or, arith}, lemmas.List.{get_or_default}}
 use Rattle.sect_lemmas.proofs.Membership.{Has-get_or}
 use Rattle.sect_infer.proofs.shared.Extending.{extends_numbers, extends_back}
 use Rattle.sect_infer.proofs.Carrying.{CarriedOf, finds_none, carried_next, carried_done}

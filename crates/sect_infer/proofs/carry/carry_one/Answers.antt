@@ -1,11 +1,8 @@
 use Rattle.std.proofs.Common.{◌≡◌, ◌↔◌, sym, subst}
 use Rattle.sect_lemmas.proofs.Places.{one_at}
-use Rattle.sect_names.specs.declared.lock.Lock.{Lock}
-use Rattle.sect_names.specs.Locks.{IsLockOf}
-use Rattle.sect_names.specs.Carrying.{CarriedBack}
+use Rattle.sect_names.specs.{declared.lock.Lock.{Lock}, Locks.{IsLockOf}, Carrying.{CarriedBack}}
 use Rattle.sect_infer.specs.Numbers.{with_number}
-use Rattle.sect_infer.proofs.Extending.{numbered_there}
-use Rattle.sect_infer.proofs.Carrying.{finds_one, finds_as}
+use Rattle.sect_infer.proofs.{Extending.{numbered_there}, Carrying.{finds_one, finds_as}}
 use Rattle.sect_infer.proofs.carry.carry_one.Goals as goal
 
 pub returns-in_ok-insert : goal.returns-in_ok-insert

@@ -1,9 +1,7 @@
-use Rattle.std.proofs.Common.{◌≡◌, ◌↔◌, sym, subst}
-use Rattle.std.proofs.lemmas.Result.{on_ok_weaker}
+use Rattle.std.proofs.{Common.{◌≡◌, ◌↔◌, sym, subst}, lemmas.Result.{on_ok_weaker}}
 use Rattle.sect_lemmas.proofs.Places.{one_at}
 use Rattle.sect_lemmas.specs.Lists.{Has}
-use Rattle.sect_names.specs.declared.lock.Lock.{Lock}
-use Rattle.sect_names.specs.Carrying.{CarriedBack}
+use Rattle.sect_names.specs.{declared.lock.Lock.{Lock}, Carrying.{CarriedBack}}
 use Rattle.sect_infer.proofs.Carrying.{finds_as}
 use Rattle.sect_infer.proofs.carry.carry_over.Goals as goal
 

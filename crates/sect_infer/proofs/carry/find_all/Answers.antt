@@ -1,6 +1,5 @@
-use Rattle.std.proofs.Common.{◌<◌, ◌≤◌, length, arith}
+use Rattle.std.proofs.Common.{◌<◌, ◌≤◌, length, arith, take}
 use Rattle.sect_lemmas.specs.Lists.{Has}
-use Rattle.std.proofs.Common.{take}
 use Rattle.sect_infer.proofs.Carrying.{finds_none, finds_next, finds_done}
 use Rattle.sect_infer.proofs.carry.find_all.Goals as goal
 

@@ -1,10 +1,8 @@
-use Rattle.std.proofs.Common.{◌≡◌, [], map, inl, inr, sym, ap, ◌∙◌, subst, arith}
-use Rattle.std.specs.Prelude.{slice_index_or}
-use Rattle.std.proofs.lemmas.Bool.{cases_lt}
+use Rattle.std.proofs.{Common.{◌≡◌, [], map, inl, inr, sym, ap, ◌∙◌, subst, arith}, lemmas.Bool.{cases_lt}}
 use Rattle.std.proofs.lemmas.List.{length-map}
+use Rattle.std.specs.Prelude.{slice_index_or}
 use Rattle.sect_lemmas.specs.Lists.{Has}
-use Rattle.sect_infer.proofs.Apart.{with_all_has}
-use Rattle.sect_infer.proofs.Fronts.{row_at, has_within}
+use Rattle.sect_infer.proofs.{Apart.{with_all_has}, Fronts.{row_at, has_within}}
 use Rattle.sect_infer.proofs.lists.numbers_of.Goals as goal
 
 pub loop-row-preserved : goal.loop-row-preserved

@@ -1,10 +1,9 @@
-use Rattle.std.proofs.Common.{◌≡◌, ◌∙◌, arith, inl, inr, subst, sym}
-use Rattle.std.proofs.lemmas.Bool.{cases_lt}
+use Rattle.std.proofs.{Common.{◌≡◌, ◌∙◌, arith, inl, inr, subst, sym}, lemmas.Bool.{cases_lt}}
 use Rattle.sect_lemmas.specs.Lists.{Has}
 use Rattle.sect_lemmas.proofs.Inserting.{behind}
 use Rattle.sect_infer.proofs.shared.Apart.{apart_push, number_tells, number_absent}
-use Rattle.sect_infer.proofs.locks.all_below.Goals as goal
 use Rattle.sect_infer.proofs.locks.all_below.Goals.{then-has+in_ok-push, else-has}
+use Rattle.sect_infer.proofs.locks.all_below.Goals as goal
 
 pub loop-number-preserved : goal.loop-number-preserved
 loop-number-preserved c =

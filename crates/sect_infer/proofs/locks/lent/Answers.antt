@@ -1,14 +1,11 @@
 use Rattle.std.proofs.Common.{◌≡◌, ◌<◌, ◌≤◌, ◌∙◌, Bool, List, ℕ, [], ◌∷◌, length, get_or, map, sym, ap, arith}
-use Rattle.std.specs.List.{filter}
-use Rattle.std.specs.Map.Iter.{deref}
 use Rattle.std.proofs.lemmas.List.{get_or_default, take_all, map-append}
+use Rattle.std.specs.{List.{filter}, Map.Iter.{deref}}
 use Rattle.sect_lemmas.proofs.Membership.{Has-get_or}
-use Rattle.sect_infer.specs.Numbers.{with_numbers}
-use Rattle.sect_infer.specs.Numberings.{lock_at}
+use Rattle.sect_infer.specs.{Numbers.{with_numbers}, Numberings.{lock_at}}
 use Rattle.sect_infer.specs.steps.Listing.{is_kept}
-use Rattle.sect_infer.proofs.Listing.{list_next, list_skip}
+use Rattle.sect_infer.proofs.{Listing.{list_next, list_skip}, locks.lent.Goals.{then-is_kept+in_ok-push, else-is_kept}}
 use Rattle.sect_infer.proofs.locks.lent.Goals as goal
-use Rattle.sect_infer.proofs.locks.lent.Goals.{then-is_kept+in_ok-push, else-is_kept}
 
 pub is_kept-requires : goal.is_kept-requires
 is_kept-requires c =

@@ -1,8 +1,6 @@
 use Rattle.std.proofs.Common.{◌≡◌, [], map, take}
-use Rattle.std.specs.List.{filter}
-use Rattle.std.specs.Map.Iter.{deref}
-use Rattle.sect_infer.specs.Numbers.{with_numbers}
-use Rattle.sect_infer.specs.Numberings.{lock_at}
+use Rattle.std.specs.{List.{filter}, Map.Iter.{deref}}
+use Rattle.sect_infer.specs.{Numbers.{with_numbers}, Numberings.{lock_at}}
 use Rattle.sect_infer.specs.steps.Listing.{is_kept}
 use Rattle.sect_infer.proofs.locks.lent.Given as goal
 

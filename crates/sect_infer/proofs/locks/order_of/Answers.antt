@@ -1,5 +1,4 @@
-use Rattle.std.proofs.Common.{◌↔◌, ◌<◌, ℕ, length, subst}
-use Rattle.std.proofs.lemmas.Result.{IfOk-weaker}
+use Rattle.std.proofs.{Common.{◌↔◌, ◌<◌, ℕ, length, subst}, lemmas.Result.{IfOk-weaker}}
 use Rattle.sect_lemmas.specs.Lists.{Has}
 use Rattle.sect_infer.specs.Numberings.{IsOrderOf}
 use Rattle.sect_infer.specs.steps.Listing.{IsOrder}

@@ -1,5 +1,4 @@
-use Rattle.std.proofs.Common.{◌≡◌, ◌∙◌, map, sym, ap, subst}
-use Rattle.std.proofs.lemmas.Result.{IfOk-weaker}
+use Rattle.std.proofs.{Common.{◌≡◌, ◌∙◌, map, sym, ap, subst}, lemmas.Result.{IfOk-weaker}}
 use Rattle.sect_infer.specs.Numberings.{IsOrderOf}
 use Rattle.sect_infer.proofs.Ordering.{number, sorted_order}
 use Rattle.sect_infer.proofs.order.in_order.Goals as goal

@@ -1,8 +1,7 @@
 use Rattle.std.proofs.Common.{◌≡◌, ◌∙◌, ◌<◌, [], ◌∷◌, ◌++◌, Some, inl, inr, length, get_or, sym, ap, subst, arith}
-use Rattle.std.specs.Prelude.{slice_get}
 use Rattle.std.proofs.lemmas.List.{map-append, take_more}
-use Rattle.sect_lemmas.proofs.Membership.{Has-get_or}
-use Rattle.sect_lemmas.proofs.Inserting.{behind}
+use Rattle.std.specs.Prelude.{slice_get}
+use Rattle.sect_lemmas.proofs.{Membership.{Has-get_or}, Inserting.{behind}}
 use Rattle.sect_infer.specs.declared.order.NumberedLock.{NumberedLock}
 use Rattle.sect_infer.proofs.Ordering.{number}
 use Rattle.sect_infer.proofs.order.with_locks.Goals as goal

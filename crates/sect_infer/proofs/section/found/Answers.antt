@@ -1,9 +1,7 @@
-use Rattle.std.proofs.Common.{◌≡◌, List, ℕ, Some, map, sym, subst}
+use Rattle.std.proofs.{Common.{◌≡◌, List, ℕ, Some, map, sym, subst}, lemmas.Result.{IfOk-weaker}}
 use Rattle.std.specs.Prelude.{slice_get}
-use Rattle.std.proofs.lemmas.Result.{IfOk-weaker}
 use Rattle.sect_infer.specs.Sets.{LocksView}
-use Rattle.sect_infer.specs.steps.Found.{AreFound, IsFound}
-use Rattle.sect_infer.specs.steps.Listing.{IsOrder, listed}
+use Rattle.sect_infer.specs.steps.{Found.{AreFound, IsFound}, Listing.{IsOrder, listed}}
 use Rattle.sect_infer.proofs.Finding.{are_found}
 use Rattle.sect_infer.proofs.section.found.Goals as goal
 

@@ -1,20 +1,16 @@
-use Rattle.std.proofs.Common.{◌≡◌, ◌+◌, [], ◌∷◌, ℕ, List, Result, length, sym, ap, ◌∙◌}
+use Rattle.std.proofs.{Common.{◌≡◌, ◌+◌, [], ◌∷◌, ℕ, List, Result, length, sym, ap, ◌∙◌}, lemmas.Result.{IfOk-weaker}}
 use Rattle.std.specs.Prelude.{slice_get, Some, IfOk}
-use Rattle.std.proofs.lemmas.Result.{IfOk-weaker}
 use Rattle.sect_lemmas.specs.Lists.{Has}
 use Rattle.sect_types.specs.Sections.{SectionView, sections_of, section_shown}
-use Rattle.sect_graph.specs.declared.flow.Node.{Node}
-use Rattle.sect_graph.specs.Graphs.{IsGraphOf}
-use Rattle.sect_names.specs.declared.lock.Lock.{Lock}
-use Rattle.sect_names.specs.declared.lock.Lock.TheVariants as lock
-use Rattle.sect_names.specs.Schemes.{SchemeView}
-use Rattle.sect_names.specs.Locks.{IsLockOf}
+use Rattle.sect_graph.specs.{declared.flow.Node.{Node}, Graphs.{IsGraphOf}}
+use Rattle.sect_names.specs.{declared.lock.Lock.{Lock}, Schemes.{SchemeView}, Locks.{IsLockOf}}
 use Rattle.sect_names.specs.Needed.{end_locks, end_of}
 use Rattle.sect_infer.specs.Sets.{LocksView, AreLocksOf}
 use Rattle.sect_infer.specs.steps.Found.{IsFound, IsOnAll}
 use Rattle.sect_names.proofs.shared.Ending.{section_read, end_is}
 use Rattle.sect_infer.proofs.Finding.{inferred_of, on_all_of, found_lawful, all_lawful, end_is_all}
 use Rattle.sect_infer.proofs.section.infer.Goals.{After-locking, in-None, in-Some}
+use Rattle.sect_names.specs.declared.lock.Lock.TheVariants as lock
 use Rattle.sect_infer.proofs.section.infer.Goals as goal
 
 -- all the locks of a section may be taken by the thread

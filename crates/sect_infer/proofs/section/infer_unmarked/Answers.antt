@@ -1,12 +1,10 @@
-use Rattle.std.proofs.Common.{◌≡◌, Some, sym}
+use Rattle.std.proofs.{Common.{◌≡◌, Some, sym}, lemmas.Result.{IfOk-weaker}}
 use Rattle.std.specs.Prelude.{slice_get}
-use Rattle.std.proofs.lemmas.Result.{IfOk-weaker}
 use Rattle.sect_types.specs.Sections.{sections_of, section_shown}
 use Rattle.sect_names.proofs.shared.Ending.{section_read}
 use Rattle.sect_infer.specs.Sets.{AreUnmarkedAt}
 use Rattle.sect_infer.specs.steps.Found.{IsFound}
-use Rattle.sect_infer.proofs.Finding.{inferred_of, found_lawful}
-use Rattle.sect_infer.proofs.section.infer_unmarked.Goals.{After-section-flow}
+use Rattle.sect_infer.proofs.{Finding.{inferred_of, found_lawful}, section.infer_unmarked.Goals.{After-section-flow}}
 use Rattle.sect_infer.proofs.section.infer_unmarked.Goals as goal
 
 -- the section and its graph are those of this number

@@ -1,9 +1,7 @@
-use Rattle.std.proofs.Common.{◌≡◌, ◌+◌, List, ℕ, Some, map, length, sym, subst, arith}
+use Rattle.std.proofs.{Common.{◌≡◌, ◌+◌, List, ℕ, Some, map, length, sym, subst, arith}, lemmas.Result.{IfOk-weaker}}
 use Rattle.std.specs.Prelude.{slice_get}
-use Rattle.std.proofs.lemmas.Result.{IfOk-weaker}
 use Rattle.sect_infer.specs.Sets.{LocksView}
-use Rattle.sect_infer.specs.steps.Found.{AreAllOnAll, IsOnAll}
-use Rattle.sect_infer.specs.steps.Listing.{IsOrder, listed}
+use Rattle.sect_infer.specs.steps.{Found.{AreAllOnAll, IsOnAll}, Listing.{IsOrder, listed}}
 use Rattle.sect_infer.proofs.Finding.{are_on_all}
 use Rattle.sect_infer.proofs.section.on_all_of.Goals as goal
 

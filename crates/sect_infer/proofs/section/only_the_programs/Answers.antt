@@ -1,7 +1,6 @@
 use Rattle.std.proofs.Common.{◌≡◌, ℕ, Some, subst}
 use Rattle.std.specs.Prelude.{slice_get}
-use Rattle.sect_types.specs.Programs.{ProgramView}
-use Rattle.sect_types.specs.Sound.{AreSound}
+use Rattle.sect_types.specs.{Programs.{ProgramView}, Sound.{AreSound}}
 use Rattle.sect_graph.specs.declared.flow.Node.{Node}
 use Rattle.sect_names.specs.Laws.{IsSoundStep, IsProgramStep}
 use Rattle.sect_infer.proofs.section.only_the_programs.Goals as goal

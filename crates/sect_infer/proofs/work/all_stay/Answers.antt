@@ -1,12 +1,8 @@
 use Rattle.std.proofs.Common.{◌≡◌, ◌↔◌, ◌<◌, length, get_or, inl, inr, arith, sym, ap, ◌∙◌, subst}
-use Rattle.std.specs.Prelude.{slice_get}
 use Rattle.std.proofs.lemmas.List.{get_or_default}
-use Rattle.sect_lemmas.proofs.Making.{last_of}
-use Rattle.sect_lemmas.proofs.Membership.{Has-get_or}
-use Rattle.sect_lemmas.proofs.Places.{one_at}
-use Rattle.sect_names.specs.declared.lock.Lock.{Lock}
-use Rattle.sect_names.specs.Locks.{IsLockOf}
-use Rattle.sect_names.specs.Carrying.{CarriedBack}
+use Rattle.std.specs.Prelude.{slice_get}
+use Rattle.sect_lemmas.proofs.{Making.{last_of}, Membership.{Has-get_or}, Places.{one_at}}
+use Rattle.sect_names.specs.{declared.lock.Lock.{Lock}, Locks.{IsLockOf}, Carrying.{CarriedBack}}
 use Rattle.sect_infer.proofs.work.all_stay.Goals as goal
 
 pub lock-requires : goal.lock-requires

@@ -1,13 +1,10 @@
-use Rattle.std.proofs.Common.{◌≡◌, ◌∙◌, List, ℕ, [], sym, subst}
+use Rattle.std.proofs.{Common.{◌≡◌, ◌∙◌, List, ℕ, [], sym, subst}, lemmas.Result.{on_ok_weaker}}
 use Rattle.std.specs.Prelude.{slice_index_or}
-use Rattle.std.proofs.lemmas.Result.{on_ok_weaker}
 use Rattle.sect_lemmas.proofs.Places.{told_at, told_of}
-use Rattle.sect_graph.specs.declared.flow.Node.{Node}
-use Rattle.sect_graph.specs.declared.flow.Successors.TheVariants.{Next, Branch}
+use Rattle.sect_graph.specs.{declared.flow.Node.{Node}, declared.flow.Successors.TheVariants.{Next, Branch}}
 use Rattle.sect_infer.specs.Numberings.{HasLock, AreNumbers, Finds}
 use Rattle.sect_infer.proofs.shared.Extending.{extends_numbers, extends_back}
-use Rattle.sect_infer.proofs.Carrying.{CarriedOf}
-use Rattle.sect_infer.proofs.Visiting.{carried_next_node, carried_branch}
+use Rattle.sect_infer.proofs.{Carrying.{CarriedOf}, Visiting.{carried_next_node, carried_branch}}
 use Rattle.sect_infer.proofs.work.find_after.Goals as goal
 
 pub carry-requires-clause-numbers : goal.carry-requires-clause-numbers

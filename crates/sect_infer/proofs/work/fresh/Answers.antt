@@ -1,9 +1,8 @@
-use Rattle.std.proofs.Common.{◌<◌, ◌∙◌, ◌++◌, ◌∷◌, [], length, get_or, sym, arith, ap}
-use Rattle.std.proofs.lemmas.List.{get_or_default}
+use Rattle.std.proofs.{Common.{◌<◌, ◌∙◌, ◌++◌, ◌∷◌, [], length, get_or, sym, arith, ap}, lemmas.List.{get_or_default}}
 use Rattle.sect_lemmas.proofs.Membership.{Has-get_or}
 use Rattle.sect_infer.proofs.Appending.{fresh_next, fresh_skip}
-use Rattle.sect_infer.proofs.work.fresh.Goals as goal
 use Rattle.sect_infer.proofs.work.fresh.Goals.{then-not-is_under+in_ok-push, else-not-is_under}
+use Rattle.sect_infer.proofs.work.fresh.Goals as goal
 
 pub is_under-requires : goal.is_under-requires
 is_under-requires c = c.requires (get_or c.args.numbers.now c.loop-number.number-index 0)

@@ -1,7 +1,6 @@
 use Rattle.std.proofs.Common.{◌<◌, not, length, arith, sym, ◌∙◌, subst}
 use Rattle.sect_lemmas.proofs.Places.{at_of}
-use Rattle.sect_infer.proofs.Passing.{passed_own}
-use Rattle.sect_infer.proofs.Visiting.{tested_none, tested_some}
+use Rattle.sect_infer.proofs.{Passing.{passed_own}, Visiting.{tested_none, tested_some}}
 use Rattle.sect_infer.proofs.work.pass_on.Goals as goal
 
 pub returns : goal.returns

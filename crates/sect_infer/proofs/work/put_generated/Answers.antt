@@ -1,12 +1,9 @@
-use Rattle.std.proofs.Common.{◌≡◌, ◌↔◌, Some, sym, subst}
+use Rattle.std.proofs.{Common.{◌≡◌, ◌↔◌, Some, sym, subst}, lemmas.Result.{on_ok_weaker}}
 use Rattle.std.specs.Prelude.{slice_get}
-use Rattle.std.proofs.lemmas.Result.{on_ok_weaker}
 use Rattle.sect_lemmas.proofs.Places.{told_at}
 use Rattle.sect_graph.specs.declared.flow.Node.{Node}
-use Rattle.sect_names.specs.declared.lock.Lock.{Lock}
-use Rattle.sect_names.specs.Carrying.{Generated}
-use Rattle.sect_infer.proofs.Passing.{generated_none, generated_some}
-use Rattle.sect_infer.proofs.work.put_generated.Goals.{After-generate}
+use Rattle.sect_names.specs.{declared.lock.Lock.{Lock}, Carrying.{Generated}}
+use Rattle.sect_infer.proofs.{Passing.{generated_none, generated_some}, work.put_generated.Goals.{After-generate}}
 use Rattle.sect_infer.proofs.work.put_generated.Goals as goal
 
 -- the node, and what it generates

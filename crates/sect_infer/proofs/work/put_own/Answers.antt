@@ -1,9 +1,7 @@
 use Rattle.std.proofs.Common.{◌≡◌, [], ap, ◌∙◌}
 use Rattle.std.specs.Prelude.{slice_index_or, ◌||◌}
-use Rattle.sect_infer.specs.Numbers.{has_number}
-use Rattle.sect_infer.specs.Numberings.{is_under}
-use Rattle.sect_infer.proofs.Passing.{put_new, put_old}
-use Rattle.sect_infer.proofs.work.put_own.Goals.{After-is_told}
+use Rattle.sect_infer.specs.{Numbers.{has_number}, Numberings.{is_under}}
+use Rattle.sect_infer.proofs.{Passing.{put_new, put_old}, work.put_own.Goals.{After-is_told}}
 use Rattle.sect_infer.proofs.work.put_own.Goals as goal
 
 -- whether the numbers of the node told of it

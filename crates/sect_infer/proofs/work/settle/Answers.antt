@@ -3,8 +3,7 @@ use Rattle.sect_lemmas.specs.Lists.{Has}
 use Rattle.sect_graph.specs.Predecessors.{AreBefore}
 use Rattle.sect_infer.specs.steps.Working.{IsWorking}
 use Rattle.sect_infer.proofs.Settling.{work_begins, last_within, work_quiet, work_busy, work_ends, lawful_at}
-use Rattle.sect_infer.proofs.Bounding.{quiet_less, busy_less}
-use Rattle.sect_infer.proofs.work.settle.Goals.{In-Some, In_ok-insert_all}
+use Rattle.sect_infer.proofs.{Bounding.{quiet_less, busy_less}, work.settle.Goals.{In-Some, In_ok-insert_all}}
 use Rattle.sect_infer.proofs.work.settle.Goals as goal
 
 -- the node that is taken out was the last that waited

@@ -1,7 +1,6 @@
 use Rattle.std.proofs.Common.{◌≡◌, ◌∙◌, ◌<◌, ◌++◌, ◌==◌, [], not, set, length, arith, sym, ap, subst}
 use Rattle.std.specs.Prelude.{slice_index_or}
-use Rattle.sect_infer.specs.Numbers.{with_numbers}
-use Rattle.sect_infer.specs.Numberings.{IsFinding}
+use Rattle.sect_infer.specs.{Numbers.{with_numbers}, Numberings.{IsFinding}}
 use Rattle.sect_infer.proofs.Visiting.{begun_finding, new_within, visit_is, tested_none, tested_some}
 use Rattle.sect_infer.proofs.work.visit.Goals.{After-members-known, After-is_empty}
 use Rattle.sect_infer.proofs.work.visit.Goals as goal

@@ -1,15 +1,13 @@
 use Rattle.std.proofs.Common.{◌≡◌, ◌∙◌, ◌≤◌, [], ◌∷◌, length-append, ap, length, slice_get, Some, Option, arith}
-use Rattle.std.proofs.lemmas.Iterator.Adapters.{YieldsList-from_vec}
-use Rattle.std.proofs.lemmas.Iterator.Consumers.{YieldsList-turn}
+use Rattle.std.proofs.{lemmas.Iterator.Adapters.{YieldsList-from_vec}, lemmas.Iterator.Consumers.{YieldsList-turn}}
 use Rattle.sect_lemmas.proofs.Changed.{get_there}
-use Rattle.sect_types.specs.declared.declarations.limits.TheConstants.{MOST_SECTIONS}
-use Rattle.sect_types.specs.Programs.{ProgramView}
+use Rattle.sect_types.specs.{declared.declarations.limits.TheConstants.{MOST_SECTIONS}, Programs.{ProgramView}}
 use Rattle.sect_types.specs.Sections.{sections_of}
 use Rattle.sect_infer.specs.Sets.{LocksView}
 use Rattle.sect_infer.proofs.shared.Sets.{one_inferred}
-use Rattle.sect_infer.proofs.workers.complete.Goals as goal
 use Rattle.sect_infer.proofs.workers.complete.Goals.{in-Some-place+in_ok-push-in-Some-place}
 use Rattle.sect_infer.proofs.workers.complete.Goals.{in-None-place+in_ok-infer-in-None-place+in_ok-push-in-None-place}
+use Rattle.sect_infer.proofs.workers.complete.Goals as goal
 
 pub overflow_add-section : goal.overflow_add-section
 overflow_add-section g c =

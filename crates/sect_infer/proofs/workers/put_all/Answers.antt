@@ -1,5 +1,4 @@
-use Rattle.std.proofs.Common.{◌∙◌, length}
-use Rattle.std.proofs.lemmas.Iterator.Adapters.{YieldsList-from_vec}
+use Rattle.std.proofs.{Common.{◌∙◌, length}, lemmas.Iterator.Adapters.{YieldsList-from_vec}}
 use Rattle.std.proofs.lemmas.Iterator.Consumers.{YieldsList-turn}
 use Rattle.sect_lemmas.proofs.Changed.{get_there}
 use Rattle.sect_infer.proofs.Sharing.{one_placed, has_place}

@@ -1,10 +1,9 @@
 use Rattle.std.proofs.Common.{◌<◌, ◌∙◌, refl, ap, subst, length}
-use Rattle.sect_types.specs.Programs.{ProgramView}
-use Rattle.sect_types.specs.Sections.{sections_of}
+use Rattle.sect_types.specs.{Programs.{ProgramView}, Sections.{sections_of}}
 use Rattle.sect_infer.specs.declared.workers.SectionLocks.{SectionLocks}
 use Rattle.sect_infer.proofs.Sharing.{one_found, dealt_one, dealt_past}
-use Rattle.sect_infer.proofs.workers.share.Goals as goal
 use Rattle.sect_infer.proofs.workers.share.Goals.{then-section-workers+in_ok-locks+in_ok-push, else-section-workers}
+use Rattle.sect_infer.proofs.workers.share.Goals as goal
 
 pub loop-section-preserved : goal.loop-section-preserved
 loop-section-preserved g c =

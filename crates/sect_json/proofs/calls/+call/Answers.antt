@@ -1,19 +1,12 @@
-use Rattle.std.proofs.Common.{◌≡◌, ◌++◌, [], ◌∷◌, ◌-◌, ◌∙◌, if◌then◌else◌, take, length, map}
-use Rattle.std.proofs.Common.{ap, sym, arith}
-use Rattle.std.specs.List.{flat_map}
-use Rattle.std.specs.Prelude.{Vec}
-use Rattle.std.specs.declared.alloc.Global.{Global}
-use Rattle.std.proofs.lemmas.List.{take_all, append-nil}
-use Rattle.std.proofs.lemmas.Result.{on_ok_weaker}
-use Rattle.serde_json.specs.View.{view}
-use Rattle.serde_json.specs.declared.value.Value.{Value}
+use Rattle.std.proofs.Common.{◌≡◌, ◌++◌, [], ◌∷◌, ◌-◌, ◌∙◌, if◌then◌else◌, take, length, map, ap, sym, arith}
+use Rattle.std.proofs.{lemmas.List.{take_all, append-nil}, lemmas.Result.{on_ok_weaker}}
+use Rattle.std.specs.{List.{flat_map}, Prelude.{Vec}, declared.alloc.Global.{Global}}
+use Rattle.serde_json.specs.{View.{view}, declared.value.Value.{Value}}
 use Rattle.sect_lemmas.proofs.Changed.{get_there}
 use Rattle.sect_places.proofs.shared.Names.{name_proper}
 use Rattle.sect_lint.specs.Calls.{procedure_item}
-use Rattle.sect_json.specs.Calls.{call_json, calls_at, calls_within, from_item}
-use Rattle.sect_json.specs.Values.{by_place}
-use Rattle.sect_json.proofs.Calling.{told_behind, flat_taken, calls_deep}
-use Rattle.sect_json.proofs.Rows.{view_more}
+use Rattle.sect_json.specs.{Calls.{call_json, calls_at, calls_within, from_item}, Values.{by_place}}
+use Rattle.sect_json.proofs.{Calling.{told_behind, flat_taken, calls_deep}, Rows.{view_more}}
 use Rattle.sect_json.proofs.calls.+call.Goals as goal
 use Rattle.sect_json.proofs.calls.+call.Goals.{put_calls-then-is_call_in+in_ok-put_call, put_calls-else-is_call_in}
 

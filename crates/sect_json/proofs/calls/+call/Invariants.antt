@@ -1,8 +1,7 @@
 use Rattle.std.proofs.Common.{◌≡◌, ◌++◌, ◌-◌, ◌+◌, ◌*◌, map, length, take}
 use Rattle.std.specs.List.{flat_map}
 use Rattle.serde_json.specs.View.{view}
-use Rattle.sect_json.specs.Values.{by_place}
-use Rattle.sect_json.specs.Calls.{calls_at, calls_within, call_json}
+use Rattle.sect_json.specs.{Values.{by_place}, Calls.{calls_at, calls_within, call_json}}
 use Rattle.sect_json.proofs.calls.+call.Given as goal
 
 abbrev pub decreases-put_call : goal.decreases-put_call

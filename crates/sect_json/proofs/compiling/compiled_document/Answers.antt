@@ -1,11 +1,8 @@
-use Rattle.std.proofs.Common.{length, map, ap, ◌∙◌}
+use Rattle.std.proofs.{Common.{length, map, ap, ◌∙◌}, lemmas.Result.{IfOk-weaker}}
 use Rattle.std.specs.List.{range_with_len}
-use Rattle.std.proofs.lemmas.Result.{IfOk-weaker}
-use Rattle.serde_json.specs.View.{view}
-use Rattle.serde_json.specs.Written.{has_float}
+use Rattle.serde_json.specs.{View.{view}, Written.{has_float}}
 use Rattle.sect_types.specs.Sections.{sections_of}
-use Rattle.sect_json.specs.Values.{document_text}
-use Rattle.sect_json.specs.Compiling.{section_json, compiled_with}
+use Rattle.sect_json.specs.{Values.{document_text}, Compiling.{section_json, compiled_with}}
 use Rattle.sect_json.proofs.PlainCompiling.{plain_compiled}
 use Rattle.sect_json.proofs.compiling.compiled_document.Goals as goal
 

@@ -1,10 +1,8 @@
-use Rattle.std.proofs.Common.{[], map, ap, ◌∙◌, sym}
-use Rattle.std.proofs.lemmas.Option.{get_or_from_slice_get}
+use Rattle.std.proofs.{Common.{[], map, ap, ◌∙◌, sym}, lemmas.Option.{get_or_from_slice_get}}
 use Rattle.std.proofs.lemmas.Result.{IfOk-weaker}
 use Rattle.sect_types.specs.Programs.{ProgramView}
 use Rattle.sect_names.specs.Schemes.{SchemeView}
-use Rattle.sect_json.specs.Compiling.{grip_json}
-use Rattle.sect_json.specs.Values.{list}
+use Rattle.sect_json.specs.{Compiling.{grip_json}, Values.{list}}
 use Rattle.sect_json.proofs.compiling.plan_value.Goals as goal
 
 pub returns : goal.returns

@@ -1,9 +1,7 @@
-use Rattle.std.proofs.Common.{ap, ◌∙◌}
-use Rattle.std.proofs.lemmas.Result.{IfOk-weaker}
-use Rattle.sect_emit.specs.declared.graphs.GraphOf.TheVariants as graphed
+use Rattle.std.proofs.{Common.{ap, ◌∙◌}, lemmas.Result.{IfOk-weaker}}
 use Rattle.serde_json.specs.View.{view}
-use Rattle.sect_json.specs.Compiling.{section_with, set_json, plan_json}
-use Rattle.sect_json.specs.Nodes.{nodes_json}
+use Rattle.sect_json.specs.{Compiling.{section_with, set_json, plan_json}, Nodes.{nodes_json}}
+use Rattle.sect_emit.specs.declared.graphs.GraphOf.TheVariants as graphed
 use Rattle.sect_json.proofs.compiling.section_value.Goals as goal
 
 pub returns : goal.returns

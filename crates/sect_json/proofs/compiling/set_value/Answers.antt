@@ -1,12 +1,9 @@
-use Rattle.std.proofs.Common.{[], map, ap, ◌∙◌, sym, subst}
-use Rattle.std.proofs.lemmas.Option.{get_or_from_slice_get}
+use Rattle.std.proofs.{Common.{[], map, ap, ◌∙◌, sym, subst}, lemmas.Option.{get_or_from_slice_get}}
 use Rattle.std.proofs.lemmas.Result.{IfOk-weaker}
 use Rattle.sect_types.specs.Programs.{ProgramView}
-use Rattle.sect_names.specs.Schemes.{SchemeView}
-use Rattle.sect_names.specs.Printing.{AreNamed}
+use Rattle.sect_names.specs.{Schemes.{SchemeView}, Printing.{AreNamed}}
 use Rattle.sect_emit.proofs.shared.Sets.{set_named}
-use Rattle.sect_json.specs.Locks.{lock_json}
-use Rattle.sect_json.specs.Values.{list}
+use Rattle.sect_json.specs.{Locks.{lock_json}, Values.{list}}
 use Rattle.sect_json.proofs.compiling.set_value.Goals as goal
 
 pub locks_value-requires : goal.locks_value-requires

@@ -1,6 +1,5 @@
-use Rattle.std.proofs.Common.{◌≡◌, ◌++◌, ap, ◌∙◌}
+use Rattle.std.proofs.{Common.{◌≡◌, ◌++◌, ap, ◌∙◌}, lemmas.Result.{IfOk-weaker}}
 use Rattle.std.specs.String.{string_bytes}
-use Rattle.std.proofs.lemmas.Result.{IfOk-weaker}
 use Rattle.serde_json.specs.View.{view}
 use Rattle.sect_types.specs.Programs.{ProgramView}
 use Rattle.sect_names.specs.Schemes.{SchemeView}

@@ -1,13 +1,11 @@
-use Rattle.std.proofs.Common.{ap, sym, subst, ◌∙◌}
-use Rattle.std.proofs.lemmas.Result.{IfOk-weaker}
+use Rattle.std.proofs.{Common.{ap, sym, subst, ◌∙◌}, lemmas.Result.{IfOk-weaker}}
 use Rattle.serde_json.specs.Written.{has_float}
 use Rattle.sect_types.specs.Programs.{ProgramView}
 use Rattle.sect_names.specs.Schemes.{SchemeView}
 use Rattle.sect_emit.specs.Compiled.{program_of}
 use Rattle.sect_conflicts.specs.Naming.{AreConflictsNamed}
 use Rattle.sect_conflicts.proofs.shared.PathNames.{conflicts_named}
-use Rattle.sect_json.specs.Values.{document_text}
-use Rattle.sect_json.specs.Conflicts.{conflicts_json}
+use Rattle.sect_json.specs.{Values.{document_text}, Conflicts.{conflicts_json}}
 use Rattle.sect_json.proofs.PlainConflicts.{plain_conflicts}
 use Rattle.sect_json.proofs.conflicts.conflicts_document.Goals as goal
 

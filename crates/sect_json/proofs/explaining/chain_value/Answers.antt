@@ -1,7 +1,6 @@
 use Rattle.std.proofs.Common.{List, sym, subst}
 use Rattle.sect_lemmas.specs.Lists.{Has}
-use Rattle.sect_names.specs.declared.link.Link.{Link}
-use Rattle.sect_names.specs.Printing.{IsNamed}
+use Rattle.sect_names.specs.{declared.link.Link.{Link}, Printing.{IsNamed}}
 use Rattle.sect_emit.specs.Compiled.{program_of}
 use Rattle.sect_json.proofs.explaining.chain_value.Goals as goal
 

@@ -1,11 +1,8 @@
-use Rattle.std.proofs.Common.{List, map, ap, sym, subst, ◌∙◌}
-use Rattle.std.proofs.lemmas.Result.{IfOk-weaker}
+use Rattle.std.proofs.{Common.{List, map, ap, sym, subst, ◌∙◌}, lemmas.Result.{IfOk-weaker}}
 use Rattle.sect_lemmas.specs.Lists.{Has}
 use Rattle.sect_names.specs.declared.link.Link.{Link}
-use Rattle.sect_emit.specs.Words.{IsChainNamed}
-use Rattle.sect_emit.specs.Compiled.{program_of}
-use Rattle.sect_json.specs.Values.{list}
-use Rattle.sect_json.specs.Explaining.{section_with, chain_json}
+use Rattle.sect_emit.specs.{Words.{IsChainNamed}, Compiled.{program_of}}
+use Rattle.sect_json.specs.{Values.{list}, Explaining.{section_with, chain_json}}
 use Rattle.sect_json.proofs.explaining.explained_value.Goals as goal
 
 pub chains_value-requires-clause-named : goal.chains_value-requires-clause-named

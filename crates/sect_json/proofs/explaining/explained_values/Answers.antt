@@ -1,11 +1,9 @@
 use Rattle.std.proofs.Common.{◌≡◌, length, map, refl, sym, ap, subst, ◌∙◌, arith}
 use Rattle.serde_json.specs.View.{view}
-use Rattle.sect_types.specs.Programs.{ProgramView}
-use Rattle.sect_types.specs.Sections.{sections_of}
+use Rattle.sect_types.specs.{Programs.{ProgramView}, Sections.{sections_of}}
 use Rattle.sect_names.specs.Schemes.{SchemeView}
 use Rattle.sect_json.specs.steps.Explained.{AreExplained}
-use Rattle.sect_json.proofs.Rows.{view_more}
-use Rattle.sect_json.proofs.Telling.{none_explained, one_more_explained}
+use Rattle.sect_json.proofs.{Rows.{view_more}, Telling.{none_explained, one_more_explained}}
 use Rattle.sect_json.proofs.explaining.explained_values.Goals as goal
 
 pub loop-section-init : goal.loop-section-init

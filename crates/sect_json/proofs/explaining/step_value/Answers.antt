@@ -1,12 +1,9 @@
-use Rattle.std.proofs.Common.{◌≡◌, ◌++◌, ap, sym, subst, ◌∙◌}
-use Rattle.std.proofs.lemmas.Result.{IfOk-weaker}
+use Rattle.std.proofs.{Common.{◌≡◌, ◌++◌, ap, sym, subst, ◌∙◌}, lemmas.Result.{IfOk-weaker}}
 use Rattle.std.specs.String.{string_bytes}
 use Rattle.sect_types.specs.Programs.{ProgramView}
-use Rattle.sect_names.specs.Schemes.{SchemeView}
-use Rattle.sect_names.specs.Printing.{IsNamed}
+use Rattle.sect_names.specs.{Schemes.{SchemeView}, Printing.{IsNamed}}
 use Rattle.sect_emit.specs.Explaining.{section_deed}
-use Rattle.sect_json.specs.Locks.{lock_json}
-use Rattle.sect_json.specs.Explaining.{step_with}
+use Rattle.sect_json.specs.{Locks.{lock_json}, Explaining.{step_with}}
 use Rattle.sect_json.proofs.explaining.step_value.Goals as goal
 
 pub lock_value-requires : goal.lock_value-requires

@@ -1,15 +1,11 @@
-use Rattle.std.proofs.Common.{◌++◌, refl, sym, ap, ◌∙◌}
-use Rattle.std.proofs.lemmas.Bool.{or_from}
-use Rattle.std.proofs.lemmas.Option.{get_or_from_slice_get}
+use Rattle.std.proofs.{Common.{◌++◌, refl, sym, ap, ◌∙◌}, lemmas.Bool.{or_from}, lemmas.Option.{get_or_from_slice_get}}
 use Rattle.std.proofs.lemmas.Result.{on_ok_weaker}
 use Rattle.std.specs.Prelude.{slice_index_or}
-use Rattle.serde_json.specs.View.{view}
-use Rattle.serde_json.specs.Written.{has_float}
+use Rattle.serde_json.specs.{View.{view}, Written.{has_float}}
 use Rattle.sect_places.specs.Spans.{no_span}
 use Rattle.sect_lint.specs.Json.{span_json}
 use Rattle.sect_json.specs.Compiling.{plan_json}
-use Rattle.sect_json.specs.steps.Sectioned.{end_with}
-use Rattle.sect_json.specs.steps.Writes.{tail_text}
+use Rattle.sect_json.specs.steps.{Sectioned.{end_with}, Writes.{tail_text}}
 use Rattle.sect_json.proofs.PlainCompiling.{plain_plan}
 use Rattle.sect_json.proofs.inspected_sections.put_end.Goals as goal
 

@@ -1,8 +1,6 @@
-use Rattle.std.proofs.Common.{◌++◌, map, codes, append_assoc, sym, ap, ◌∙◌}
-use Rattle.std.proofs.lemmas.Result.{on_ok_weaker}
+use Rattle.std.proofs.{Common.{◌++◌, map, codes, append_assoc, sym, ap, ◌∙◌}, lemmas.Result.{on_ok_weaker}}
 use Rattle.serde_json.specs.Written.{compact_text}
-use Rattle.sect_json.specs.Locks.{lock_json}
-use Rattle.sect_json.specs.Values.{list}
+use Rattle.sect_json.specs.{Locks.{lock_json}, Values.{list}}
 use Rattle.sect_json.proofs.Texts.{needs_begins}
 use Rattle.sect_json.proofs.inspected_sections.put_needs.Goals as goal
 

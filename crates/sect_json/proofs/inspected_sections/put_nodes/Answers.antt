@@ -1,15 +1,11 @@
 use Rattle.std.proofs.Common.{◌++◌, length, map, codes, sym, ap, subst, ◌∙◌, arith}
 use Rattle.serde_json.specs.Written.{compact_text}
 use Rattle.sect_types.specs.Programs.{ProgramView}
-use Rattle.sect_names.specs.Printing.{AreNamed}
-use Rattle.sect_names.specs.Schemes.{SchemeView}
+use Rattle.sect_names.specs.{Printing.{AreNamed}, Schemes.{SchemeView}}
 use Rattle.sect_emit.specs.Compiled.{program_of}
-use Rattle.sect_json.specs.Inspecting.{section_node_json}
-use Rattle.sect_json.specs.Locks.{lock_json}
-use Rattle.sect_json.specs.Values.{list}
+use Rattle.sect_json.specs.{Inspecting.{section_node_json}, Locks.{lock_json}, Values.{list}}
 use Rattle.sect_json.specs.steps.Writes.{AreLockTexts, name_text}
-use Rattle.sect_json.proofs.Sections.{place_next, node_written}
-use Rattle.sect_json.proofs.Texts.{places_closed}
+use Rattle.sect_json.proofs.{Sections.{place_next, node_written}, Texts.{places_closed}}
 use Rattle.sect_json.proofs.inspected_sections.put_nodes.Goals as goal
 
 pub put_needs-requires-clause-told : goal.put_needs-requires-clause-told

@@ -1,7 +1,6 @@
 use Rattle.std.proofs.Common.{◌≡◌, ◌++◌, drop}
 use Rattle.sect_emit.specs.Compiled.{program_of}
-use Rattle.sect_json.specs.Values.{by_place}
-use Rattle.sect_json.specs.Inspecting.{section_node_json}
+use Rattle.sect_json.specs.{Values.{by_place}, Inspecting.{section_node_json}}
 use Rattle.sect_json.specs.steps.Writes.{AreLockTexts, elements_from}
 use Rattle.sect_json.proofs.inspected_sections.put_nodes.Given as goal
 

@@ -1,15 +1,11 @@
-use Rattle.std.proofs.Common.{◌++◌, map, codes, refl, sym, ap, ◌∙◌}
-use Rattle.std.proofs.lemmas.Result.{on_ok_weaker}
+use Rattle.std.proofs.{Common.{◌++◌, map, codes, refl, sym, ap, ◌∙◌}, lemmas.Result.{on_ok_weaker}}
 use Rattle.std.specs.Prelude.{slice_index_or}
-use Rattle.serde_json.specs.Data.{Data}
-use Rattle.serde_json.specs.Written.{has_float, compact_text}
+use Rattle.serde_json.specs.{Data.{Data}, Written.{has_float, compact_text}}
 use Rattle.sect_front.specs.declared.tree.Locking.TheVariants.{Inferred}
 use Rattle.sect_emit.specs.Compiled.{program_of}
-use Rattle.sect_json.specs.Inspecting.{section_json}
-use Rattle.sect_json.specs.Locks.{lock_json}
+use Rattle.sect_json.specs.{Inspecting.{section_json}, Locks.{lock_json}}
 use Rattle.sect_json.specs.steps.Writes.{member_text}
-use Rattle.sect_json.proofs.PlainCompiling.{plain_set}
-use Rattle.sect_json.proofs.PlainInspecting.{plain_all}
+use Rattle.sect_json.proofs.{PlainCompiling.{plain_set}, PlainInspecting.{plain_all}}
 use Rattle.sect_json.proofs.Sections.{section_written, seven_written}
 use Rattle.sect_json.proofs.inspected_sections.put_section.Goals as goal
 

@@ -1,16 +1,11 @@
-use Rattle.std.proofs.Common.{List, [], ◌+◌, ◌++◌, length, map, sym, ap, subst, ◌∙◌}
-use Rattle.std.proofs.lemmas.Result.{on_ok_weaker}
+use Rattle.std.proofs.{Common.{List, [], ◌+◌, ◌++◌, length, map, sym, ap, subst, ◌∙◌}, lemmas.Result.{on_ok_weaker}}
 use Rattle.std.specs.Prelude.{slice_index_or}
 use Rattle.serde_json.specs.Written.{compact_text}
 use Rattle.sect_lemmas.specs.Lists.{Has}
 use Rattle.sect_graph.specs.Layout.{flow_nodes}
-use Rattle.sect_names.specs.Needed.{end_of}
-use Rattle.sect_names.specs.declared.link.Link.{Link}
-use Rattle.sect_emit.specs.Compiled.{program_of}
-use Rattle.sect_emit.specs.Explaining.{section_at}
-use Rattle.sect_emit.specs.Words.{IsChainNamed}
-use Rattle.sect_json.specs.Explaining.{chain_json}
-use Rattle.sect_json.specs.Values.{list}
+use Rattle.sect_names.specs.{Needed.{end_of}, declared.link.Link.{Link}}
+use Rattle.sect_emit.specs.{Compiled.{program_of}, Explaining.{section_at}, Words.{IsChainNamed}}
+use Rattle.sect_json.specs.{Explaining.{chain_json}, Values.{list}}
 use Rattle.sect_json.specs.steps.Stepping.{AreStepTails, AreStepsBelow}
 use Rattle.sect_json.proofs.Stepped.{chains_below}
 use Rattle.sect_json.proofs.inspected_sections.put_section_chains.Goals as goal

@@ -1,12 +1,8 @@
-use Rattle.std.proofs.Common.{◌≡◌, [], ◌∷◌, ◌++◌, length, refl, sym, ap, subst, ◌∙◌, arith}
-use Rattle.std.proofs.lemmas.List.{append-nil}
-use Rattle.sect_types.specs.Programs.{ProgramView}
-use Rattle.sect_types.specs.Sections.{sections_of}
+use Rattle.std.proofs.{Common.{◌≡◌, [], ◌∷◌, ◌++◌, length, refl, sym, ap, subst, ◌∙◌, arith}, lemmas.List.{append-nil}}
+use Rattle.sect_types.specs.{Programs.{ProgramView}, Sections.{sections_of}}
 use Rattle.sect_names.specs.Schemes.{SchemeView}
-use Rattle.sect_json.specs.Inspecting.{IsSectionInspected}
-use Rattle.sect_json.specs.Values.{AreTold}
-use Rattle.sect_json.proofs.Rows.{told_none, told_more}
-use Rattle.sect_json.proofs.Texts.{element_next, elements_closed}
+use Rattle.sect_json.specs.{Inspecting.{IsSectionInspected}, Values.{AreTold}}
+use Rattle.sect_json.proofs.{Rows.{told_none, told_more}, Texts.{element_next, elements_closed}}
 use Rattle.sect_json.proofs.inspected_sections.put_sections.Goals as goal
 
 pub loop-section-init : goal.loop-section-init

@@ -1,16 +1,11 @@
 use Rattle.std.proofs.Common.{List, [], ◌∷◌, ◌++◌, ℕ, length, sym, ap, subst, ◌∙◌}
 use Rattle.serde_json.specs.Written.{compact_text}
-use Rattle.sect_front.specs.Front.{IsSpelled}
-use Rattle.sect_front.specs.TreeView.{TreeView}
-use Rattle.sect_types.specs.Programs.{ProgramView}
-use Rattle.sect_types.specs.Sections.{sections_of}
+use Rattle.sect_front.specs.{Front.{IsSpelled}, TreeView.{TreeView}}
+use Rattle.sect_types.specs.{Programs.{ProgramView}, Sections.{sections_of}}
 use Rattle.sect_names.specs.Schemes.{SchemeView}
-use Rattle.sect_places.specs.NameSpans.{AreNameSpans}
-use Rattle.sect_places.specs.NodeSpans.{AreNodeSpans}
-use Rattle.sect_places.specs.declared.name_use.NameSpan.{NameSpan}
+use Rattle.sect_places.specs.{NameSpans.{AreNameSpans}, NodeSpans.{AreNodeSpans}, declared.name_use.NameSpan.{NameSpan}}
 use Rattle.sect_emit.specs.Compiled.{program_of}
-use Rattle.sect_json.specs.Inspecting.{IsSectionInspected, inspection_json}
-use Rattle.sect_json.specs.Values.{AreTold}
+use Rattle.sect_json.specs.{Inspecting.{IsSectionInspected, inspection_json}, Values.{AreTold}}
 use Rattle.sect_json.specs.steps.Inspected.{AreNamesWithin}
 use Rattle.sect_json.proofs.inspecting.inspection_document.Goals as goal
 

@@ -1,20 +1,13 @@
-use Rattle.std.proofs.Common.{List, ◌++◌, map, codes, append_assoc, ap, subst, ◌∙◌}
-use Rattle.std.proofs.lemmas.Result.{on_ok_weaker}
-use Rattle.serde_json.specs.View.{view}
-use Rattle.serde_json.specs.Written.{has_float}
+use Rattle.std.proofs.{Common.{List, ◌++◌, map, codes, append_assoc, ap, subst, ◌∙◌}, lemmas.Result.{on_ok_weaker}}
+use Rattle.serde_json.specs.{View.{view}, Written.{has_float}}
 use Rattle.serde_json.proofs.Views.{view-Array}
-use Rattle.sect_front.specs.TreeView.{TreeView}
-use Rattle.sect_front.specs.declared.tree.Procedure.{Procedure}
+use Rattle.sect_front.specs.{TreeView.{TreeView}, declared.tree.Procedure.{Procedure}}
 use Rattle.sect_types.specs.Programs.{ProgramView}
 use Rattle.sect_names.specs.Schemes.{SchemeView}
 use Rattle.sect_points.specs.Partitions.{ClassesView}
-use Rattle.sect_json.specs.Calls.{procedure_json}
-use Rattle.sect_json.specs.Sites.{AreClasses}
-use Rattle.sect_json.specs.Values.{count, list}
+use Rattle.sect_json.specs.{Calls.{procedure_json}, Sites.{AreClasses}, Values.{count, list}}
 use Rattle.sect_json.specs.steps.Writes.{member_text}
-use Rattle.sect_json.proofs.Plain.{plain_map}
-use Rattle.sect_json.proofs.PlainCalls.{plain_procedure}
-use Rattle.sect_json.proofs.PlainSites.{plain_classes}
+use Rattle.sect_json.proofs.{Plain.{plain_map}, PlainCalls.{plain_procedure}, PlainSites.{plain_classes}}
 use Rattle.sect_json.proofs.inspecting.put_head.Goals as goal
 
 pub put_member-requires : goal.put_member-requires

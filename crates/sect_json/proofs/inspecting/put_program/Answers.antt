@@ -1,16 +1,10 @@
-use Rattle.std.proofs.Common.{◌++◌, length, map, ap, ◌∙◌}
+use Rattle.std.proofs.{Common.{◌++◌, length, map, ap, ◌∙◌}, lemmas.Result.{on_ok_weaker}}
 use Rattle.std.specs.List.{range_with_len}
-use Rattle.std.proofs.lemmas.Result.{on_ok_weaker}
-use Rattle.serde_json.specs.View.{view}
-use Rattle.serde_json.specs.Written.{has_float}
+use Rattle.serde_json.specs.{View.{view}, Written.{has_float}}
 use Rattle.sect_emit.specs.Compiled.{program_of}
-use Rattle.sect_json.specs.Calls.{procedure_json}
-use Rattle.sect_json.specs.Inspecting.{thread_json}
-use Rattle.sect_json.specs.Sites.{sites_json}
-use Rattle.sect_json.specs.steps.Inspected.{rest_with}
-use Rattle.sect_json.specs.steps.Writes.{tail_text}
-use Rattle.sect_json.proofs.PlainInspecting.{plain_rest}
-use Rattle.sect_json.proofs.Programs.{program_written}
+use Rattle.sect_json.specs.{Calls.{procedure_json}, Inspecting.{thread_json}, Sites.{sites_json}}
+use Rattle.sect_json.specs.steps.{Inspected.{rest_with}, Writes.{tail_text}}
+use Rattle.sect_json.proofs.{PlainInspecting.{plain_rest}, Programs.{program_written}}
 use Rattle.sect_json.proofs.inspecting.put_program.Goals as goal
 
 pub put_tail-requires-clause-plain : goal.put_tail-requires-clause-plain

@@ -1,11 +1,8 @@
 use Rattle.std.proofs.Common.{◌≡◌, ◌<◌, ◌∙◌, [], List, length, map, sym, ap, arith}
+use Rattle.std.proofs.{lemmas.List.{get_or-map, length-map}, lemmas.Result.{IfOk-weaker}}
 use Rattle.std.specs.Prelude.{slice_index_or}
-use Rattle.std.proofs.lemmas.List.{get_or-map, length-map}
-use Rattle.std.proofs.lemmas.Result.{IfOk-weaker}
-use Rattle.sect_front.specs.TreeView.{TreeView}
-use Rattle.sect_front.specs.declared.tree.Thread.{Thread}
-use Rattle.sect_types.specs.Expanded.{local_types_of}
-use Rattle.sect_types.specs.Programs.{ProgramView}
+use Rattle.sect_front.specs.{TreeView.{TreeView}, declared.tree.Thread.{Thread}}
+use Rattle.sect_types.specs.{Expanded.{local_types_of}, Programs.{ProgramView}}
 use Rattle.sect_names.specs.Schemes.{SchemeView}
 use Rattle.sect_emit.specs.Labels.{thread_name}
 use Rattle.sect_json.specs.Calls.{calls_json}

@@ -1,8 +1,8 @@
 use Rattle.std.proofs.Common.{◌+◌, length, ap, ◌∙◌, arith}
 use Rattle.sect_emit.specs.Graphed.{graphed_nodes}
-use Rattle.sect_emit.specs.declared.graphs.GraphOf.TheVariants as graphed
 use Rattle.sect_json.specs.Inspecting.{thread_node_json}
 use Rattle.sect_json.proofs.Rows.{range_more, range_all}
+use Rattle.sect_emit.specs.declared.graphs.GraphOf.TheVariants as graphed
 use Rattle.sect_json.proofs.inspecting.thread_nodes.Goals as goal
 
 pub loop-node-preserved : goal.loop-node-preserved

@@ -1,19 +1,12 @@
-use Rattle.std.proofs.Common.{◌≡◌, ◌+◌, ◌++◌, map, ap, ◌∙◌}
-use Rattle.std.specs.List.{range_with_len}
-use Rattle.std.specs.Prelude.{length}
-use Rattle.std.specs.String.{string_bytes}
-use Rattle.std.proofs.lemmas.Result.{IfOk-weaker}
+use Rattle.std.proofs.{Common.{◌≡◌, ◌+◌, ◌++◌, map, ap, ◌∙◌}, lemmas.Result.{IfOk-weaker}}
+use Rattle.std.specs.{List.{range_with_len}, Prelude.{length}, String.{string_bytes}}
 use Rattle.sect_types.specs.Programs.{ProgramView}
 use Rattle.sect_names.specs.Schemes.{SchemeView}
-use Rattle.sect_emit.specs.Graphed.{graphed_nodes}
-use Rattle.sect_emit.specs.Labels.{thread_name}
-use Rattle.sect_emit.specs.declared.graphs.GraphOf.TheVariants as graphed
-use Rattle.sect_json.specs.Calls.{calls_json}
-use Rattle.sect_json.specs.Inspecting.{thread_node_json}
-use Rattle.sect_json.specs.Sites.{locals_json}
-use Rattle.sect_json.specs.Values.{list}
+use Rattle.sect_emit.specs.{Graphed.{graphed_nodes}, Labels.{thread_name}}
+use Rattle.sect_json.specs.{Calls.{calls_json}, Inspecting.{thread_node_json}, Sites.{locals_json}, Values.{list}}
 use Rattle.sect_json.specs.steps.Inspected.{thread_told}
 use Rattle.sect_json.proofs.SameTold.{same_thread}
+use Rattle.sect_emit.specs.declared.graphs.GraphOf.TheVariants as graphed
 use Rattle.sect_json.proofs.inspecting.thread_value.Goals as goal
 
 pub returns : goal.returns

@@ -1,8 +1,6 @@
-use Rattle.std.proofs.Common.{ap, ◌∙◌}
-use Rattle.std.proofs.lemmas.Result.{IfOk-weaker}
+use Rattle.std.proofs.{Common.{ap, ◌∙◌}, lemmas.Result.{IfOk-weaker}}
 use Rattle.serde_json.specs.Written.{has_float}
-use Rattle.sect_json.specs.Values.{document_text}
-use Rattle.sect_json.specs.Locks.{sections_json}
+use Rattle.sect_json.specs.{Values.{document_text}, Locks.{sections_json}}
 use Rattle.sect_json.proofs.PlainLocks.{plain_locks}
 use Rattle.sect_json.proofs.locks.locks_document.Goals as goal
 

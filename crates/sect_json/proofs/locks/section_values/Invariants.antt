@@ -1,7 +1,6 @@
 use Rattle.std.proofs.Common.{◌≡◌, ◌++◌, map, drop}
 use Rattle.serde_json.specs.View.{view}
-use Rattle.sect_json.specs.Values.{by_place}
-use Rattle.sect_json.specs.Locks.{section_json}
+use Rattle.sect_json.specs.{Values.{by_place}, Locks.{section_json}}
 use Rattle.sect_json.proofs.locks.section_values.Given as goal
 
 abbrev pub invariant-loop-section : goal.invariant-loop-section

@@ -1,6 +1,5 @@
-use Rattle.std.proofs.Common.{◌≡◌, ◌++◌, ap, ◌∙◌}
+use Rattle.std.proofs.{Common.{◌≡◌, ◌++◌, ap, ◌∙◌}, lemmas.Result.{IfOk-weaker}}
 use Rattle.std.specs.String.{string_bytes}
-use Rattle.std.proofs.lemmas.Result.{IfOk-weaker}
 use Rattle.sect_emit.specs.Graphed.{graphed_deed}
 use Rattle.sect_json.specs.Nodes.{next_at, node_with}
 use Rattle.sect_json.proofs.nodes.node_value.Goals as goal

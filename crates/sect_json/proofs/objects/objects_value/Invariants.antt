@@ -1,7 +1,6 @@
 use Rattle.std.proofs.Common.{◌≡◌, ◌++◌, map, drop}
 use Rattle.serde_json.specs.View.{view}
-use Rattle.sect_json.specs.Values.{by_place, all_by_place}
-use Rattle.sect_json.specs.Objects.{global_json, row_json}
+use Rattle.sect_json.specs.{Values.{by_place, all_by_place}, Objects.{global_json, row_json}}
 use Rattle.sect_json.proofs.objects.objects_value.Given as goal
 
 abbrev pub invariant-loop-global : goal.invariant-loop-global

@@ -1,12 +1,8 @@
-use Rattle.std.proofs.Common.{◌≡◌, Some, sym, ap, ◌∙◌}
-use Rattle.std.specs.Prelude.{slice_get}
-use Rattle.std.proofs.lemmas.Option.{slice_get-get_or, slice_get_past}
+use Rattle.std.proofs.{Common.{◌≡◌, Some, sym, ap, ◌∙◌}, lemmas.Option.{slice_get-get_or, slice_get_past}}
 use Rattle.std.proofs.lemmas.Result.{IfOk-weaker}
-use Rattle.serde_json.specs.Data.{null}
-use Rattle.serde_json.specs.View.{view}
-use Rattle.serde_json.specs.declared.value.Value.{Null}
-use Rattle.sect_json.specs.Inspecting.{origin_with}
-use Rattle.sect_json.specs.Sites.{bytes_json, call_of, place_of}
+use Rattle.std.specs.Prelude.{slice_get}
+use Rattle.serde_json.specs.{Data.{null}, View.{view}, declared.value.Value.{Null}}
+use Rattle.sect_json.specs.{Inspecting.{origin_with}, Sites.{bytes_json, call_of, place_of}}
 use Rattle.sect_json.proofs.Rows.{view_null}
 use Rattle.sect_json.proofs.placed_nodes.origin_value.Goals as goal
 

@@ -1,12 +1,9 @@
-use Rattle.std.proofs.Common.{◌≡◌, ◌∙◌, true, false, map, ap, slice_index, ℕ}
-use Rattle.std.specs.Prelude.{◌==◌, Vec}
-use Rattle.std.specs.declared.alloc.Global.{Global}
-use Rattle.std.proofs.lemmas.Bool.{eq-eqb, ne_eqb}
-use Rattle.serde_json.specs.View.{view}
-use Rattle.serde_json.specs.declared.value.Value.{Value}
+use Rattle.std.proofs.{Common.{◌≡◌, ◌∙◌, true, false, map, ap, slice_index, ℕ}, lemmas.Bool.{eq-eqb, ne_eqb}}
+use Rattle.std.specs.{Prelude.{◌==◌, Vec}, declared.alloc.Global.{Global}}
+use Rattle.serde_json.specs.{View.{view}, declared.value.Value.{Value}}
 use Rattle.sect_json.proofs.Rows.{counted_in, counted_out}
-use Rattle.sect_json.proofs.sites.class_value.Goals as goal
 use Rattle.sect_json.proofs.sites.class_value.Goals.{then-numbers-site+in_ok-push, else-numbers-site}
+use Rattle.sect_json.proofs.sites.class_value.Goals as goal
 
 pub loop-site-preserved : goal.loop-site-preserved
 loop-site-preserved c =

@@ -1,6 +1,5 @@
 use Rattle.std.proofs.Common.{◌≡◌, map, slice_index}
-use Rattle.std.specs.Prelude.{◌==◌}
-use Rattle.std.specs.List.{filter, range_with_len}
+use Rattle.std.specs.{Prelude.{◌==◌}, List.{filter, range_with_len}}
 use Rattle.serde_json.specs.View.{view}
 use Rattle.sect_json.specs.Values.{count}
 use Rattle.sect_json.proofs.sites.class_value.Given as goal

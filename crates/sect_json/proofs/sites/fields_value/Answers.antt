@@ -1,7 +1,5 @@
-use Rattle.std.proofs.Common.{◌≤◌, ◌∙◌, length, ap, arith}
+use Rattle.std.proofs.{Common.{◌≤◌, ◌∙◌, length, ap, arith}, lemmas.List.{length-map}, lemmas.Option.{slice_get-map}}
 use Rattle.std.specs.Prelude.{option_map}
-use Rattle.std.proofs.lemmas.List.{length-map}
-use Rattle.std.proofs.lemmas.Option.{slice_get-map}
 use Rattle.sect_lemmas.proofs.Changed.{get_there}
 use Rattle.sect_front.specs.declared.tree.Declaration.{Declaration}
 use Rattle.sect_types.specs.Sight.{names_of_declared}

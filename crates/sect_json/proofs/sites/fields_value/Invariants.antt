@@ -1,8 +1,7 @@
 use Rattle.std.proofs.Common.{◌≡◌, ◌++◌, map, drop}
 use Rattle.serde_json.specs.View.{view}
 use Rattle.sect_types.specs.Sight.{names_of_declared}
-use Rattle.sect_json.specs.Values.{by_place}
-use Rattle.sect_json.specs.Sites.{field_json}
+use Rattle.sect_json.specs.{Values.{by_place}, Sites.{field_json}}
 use Rattle.sect_json.proofs.sites.fields_value.Given as goal
 
 abbrev pub invariant-loop-number : goal.invariant-loop-number

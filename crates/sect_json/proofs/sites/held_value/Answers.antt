@@ -1,13 +1,10 @@
 use Rattle.std.proofs.Common.{◌∙◌, map, ap, sym}
-use Rattle.std.specs.Prelude.{Vec}
-use Rattle.std.specs.declared.alloc.Global.{Global}
-use Rattle.serde_json.specs.View.{view}
-use Rattle.serde_json.specs.declared.value.Value.{Value}
+use Rattle.std.specs.{Prelude.{Vec}, declared.alloc.Global.{Global}}
+use Rattle.serde_json.specs.{View.{view}, declared.value.Value.{Value}}
 use Rattle.sect_json.specs.Sites.{may_hold}
-use Rattle.sect_json.proofs.Holding.{holds_is}
-use Rattle.sect_json.proofs.Rows.{counted_in, counted_out}
-use Rattle.sect_json.proofs.sites.held_value.Goals as goal
+use Rattle.sect_json.proofs.{Holding.{holds_is}, Rows.{counted_in, counted_out}}
 use Rattle.sect_json.proofs.sites.held_value.Goals.{then-has+in_ok-push, else-has}
+use Rattle.sect_json.proofs.sites.held_value.Goals as goal
 
 pub loop-site-preserved : goal.loop-site-preserved
 loop-site-preserved c =

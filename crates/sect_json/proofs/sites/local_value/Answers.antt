@@ -1,17 +1,12 @@
-use Rattle.std.proofs.Common.{◌≡◌, ◌∙◌, [], Some, rules, sym, ap, subst}
-use Rattle.std.specs.Prelude.{None, slice_get, slice_index_or}
-use Rattle.std.specs.String.{string_bytes}
-use Rattle.std.proofs.lemmas.Option.{get_or_from_slice_get}
+use Rattle.std.proofs.{Common.{◌≡◌, ◌∙◌, [], Some, rules, sym, ap, subst}, lemmas.Option.{get_or_from_slice_get}}
 use Rattle.std.proofs.lemmas.Result.{IfOk-weaker}
+use Rattle.std.specs.{Prelude.{None, slice_get, slice_index_or}, String.{string_bytes}}
 use Rattle.serde_json.specs.View.{view}
-use Rattle.sect_types.specs.LocalNames.{local_text, all_local_names}
-use Rattle.sect_types.specs.Programs.{ProgramView}
-use Rattle.sect_points.specs.Partitions.{ClassesView}
-use Rattle.sect_points.specs.Sets.{PointsToView}
-use Rattle.sect_points.specs.declared.holders.Holder.TheVariants as holder
-use Rattle.sect_names.specs.Printing.{local_at}
-use Rattle.sect_names.specs.Schemes.{SchemeView}
+use Rattle.sect_types.specs.{LocalNames.{local_text, all_local_names}, Programs.{ProgramView}}
+use Rattle.sect_points.specs.{Partitions.{ClassesView}, Sets.{PointsToView}}
+use Rattle.sect_names.specs.{Printing.{local_at}, Schemes.{SchemeView}}
 use Rattle.sect_json.specs.Sites.{holder_with, held_json}
+use Rattle.sect_points.specs.declared.holders.Holder.TheVariants as holder
 use Rattle.sect_json.proofs.sites.local_value.Goals as goal
 
 pub returns : goal.returns

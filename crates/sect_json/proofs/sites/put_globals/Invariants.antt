@@ -1,7 +1,6 @@
 use Rattle.std.proofs.Common.{◌≡◌, ◌++◌, map, drop}
 use Rattle.serde_json.specs.View.{view}
-use Rattle.sect_json.specs.Values.{by_place}
-use Rattle.sect_json.specs.Sites.{global_json}
+use Rattle.sect_json.specs.{Values.{by_place}, Sites.{global_json}}
 use Rattle.sect_json.proofs.sites.put_globals.Given as goal
 
 abbrev pub invariant-loop-number : goal.invariant-loop-number

@@ -2,9 +2,9 @@ use Rattle.std.proofs.Common.{◌≡◌, ◌++◌, length, map, ap, ◌∙◌, a
 use Rattle.std.specs.List.{flat_map, range_with_len}
 use Rattle.serde_json.specs.View.{view}
 use Rattle.sect_emit.specs.Graphed.{graphed_nodes}
-use Rattle.sect_emit.specs.declared.graphs.GraphOf.TheVariants as graphed
 use Rattle.sect_json.specs.Sites.{sites_at}
 use Rattle.sect_json.proofs.Rows.{lists_more}
+use Rattle.sect_emit.specs.declared.graphs.GraphOf.TheVariants as graphed
 use Rattle.sect_json.proofs.sites.put_section.Goals as goal
 
 pub loop-node-preserved : goal.loop-node-preserved

@@ -1,12 +1,10 @@
 use Rattle.std.proofs.Common.{◌≡◌, ◌++◌, length, map, ap, ◌∙◌, arith}
 use Rattle.std.specs.List.{flat_map, range_with_len}
 use Rattle.serde_json.specs.View.{view}
-use Rattle.sect_types.specs.Programs.{ProgramView}
-use Rattle.sect_types.specs.Sections.{sections_of}
+use Rattle.sect_types.specs.{Programs.{ProgramView}, Sections.{sections_of}}
 use Rattle.sect_names.specs.Schemes.{SchemeView}
 use Rattle.sect_emit.specs.Compiled.{program_of}
-use Rattle.sect_json.specs.Values.{by_place}
-use Rattle.sect_json.specs.Sites.{global_json, section_sites}
+use Rattle.sect_json.specs.{Values.{by_place}, Sites.{global_json, section_sites}}
 use Rattle.sect_json.proofs.Rows.{lists_more}
 use Rattle.sect_json.proofs.sites.site_values.Goals as goal
 

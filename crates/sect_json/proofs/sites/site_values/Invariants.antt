@@ -2,8 +2,7 @@ use Rattle.std.proofs.Common.{◌≡◌, ◌++◌, map}
 use Rattle.std.specs.List.{flat_map, range_with_len}
 use Rattle.serde_json.specs.View.{view}
 use Rattle.sect_emit.specs.Compiled.{program_of}
-use Rattle.sect_json.specs.Values.{by_place}
-use Rattle.sect_json.specs.Sites.{global_json, section_sites}
+use Rattle.sect_json.specs.{Values.{by_place}, Sites.{global_json, section_sites}}
 use Rattle.sect_json.proofs.sites.site_values.Given as goal
 
 abbrev pub invariant-loop-section : goal.invariant-loop-section

@@ -1,8 +1,7 @@
 use Rattle.std.proofs.Common.{List, ◌++◌, map, ap, ◌∙◌}
 use Rattle.serde_json.specs.Written.{compact_text}
 use Rattle.sect_names.specs.declared.link.Link.{Link}
-use Rattle.sect_json.specs.Explaining.{step_json}
-use Rattle.sect_json.specs.Values.{list}
+use Rattle.sect_json.specs.{Explaining.{step_json}, Values.{list}}
 use Rattle.sect_json.proofs.Stepped.{chain_written}
 use Rattle.sect_json.proofs.step_texts.put_chain.Goals as goal
 

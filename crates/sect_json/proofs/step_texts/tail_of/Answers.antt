@@ -1,12 +1,9 @@
 use Rattle.std.proofs.Common.{◌≡◌, ◌≤◌, [], ◌∷◌, ◌++◌, codes, length, sym, ap, subst, ◌∙◌}
 use Rattle.std.specs.String.{string_bytes}
-use Rattle.serde_json.specs.Data.{Data, string}
-use Rattle.serde_json.specs.View.{view}
-use Rattle.serde_json.specs.Written.{has_float, compact_text}
+use Rattle.serde_json.specs.{Data.{Data, string}, View.{view}, Written.{has_float, compact_text}}
 use Rattle.sect_emit.specs.Explaining.{section_deed}
 use Rattle.sect_json.specs.Values.{count}
-use Rattle.sect_json.specs.steps.Stepping.{rest_with}
-use Rattle.sect_json.specs.steps.Writes.{tail_text}
+use Rattle.sect_json.specs.steps.{Stepping.{rest_with}, Writes.{tail_text}}
 use Rattle.sect_json.proofs.Texts.{some_text}
 use Rattle.sect_json.proofs.step_texts.tail_of.Goals as goal
 

@@ -1,7 +1,6 @@
 use Rattle.std.proofs.Common.{◌∙◌, List, sym, subst, arith}
 use Rattle.sect_lemmas.specs.Lists.{Has}
-use Rattle.sect_places.specs.Declarations.{is_procedure}
-use Rattle.sect_places.specs.declared.name_use.NameSpan.{NameSpan}
+use Rattle.sect_places.specs.{Declarations.{is_procedure}, declared.name_use.NameSpan.{NameSpan}}
 use Rattle.sect_lint.specs.steps.Linked.{IsLink, AreLinks, AreNext}
 use Rattle.sect_lint.proofs.Circling.{filter_has, links_below}
 use Rattle.sect_lint.proofs.circle.circle_detail.Goals as goal

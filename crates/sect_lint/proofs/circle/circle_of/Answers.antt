@@ -1,8 +1,7 @@
 use Rattle.std.proofs.Common.{◌≡◌, [], ◌∷◌, ◌++◌, Some, true, refl, sym, ap, subst, ◌∙◌, arith}
-use Rattle.std.specs.Prelude.{slice_get}
 use Rattle.std.proofs.lemmas.Option.{slice_get_within}
-use Rattle.sect_lemmas.proofs.Membership.{Has-slice_get}
-use Rattle.sect_lemmas.proofs.Places.{one_at}
+use Rattle.std.specs.Prelude.{slice_get}
+use Rattle.sect_lemmas.proofs.{Membership.{Has-slice_get}, Places.{one_at}}
 use Rattle.sect_places.specs.declared.name_use.NameSpan.{NameSpan}
 use Rattle.sect_lint.specs.Calls.{Leads, is_call_in}
 use Rattle.sect_lint.proofs.Circling.{leads_more, read_some}

@@ -2,8 +2,7 @@ use Rattle.std.proofs.Common.{◌≡◌, ◌&&◌, ◌∙◌, sym, ap, subst}
 use Rattle.std.specs.Prelude.{nat_eq}
 use Rattle.sect_lemmas.specs.Lists.{Has}
 use Rattle.sect_lemmas.proofs.Membership.{Has-slice_get}
-use Rattle.sect_places.specs.declared.name_use.NameSpan.{NameSpan}
-use Rattle.sect_places.specs.Declarations.{is_call}
+use Rattle.sect_places.specs.{declared.name_use.NameSpan.{NameSpan}, Declarations.{is_call}}
 use Rattle.sect_lint.proofs.Circling.{position_found, some_weaker, same_item, get_found}
 use Rattle.sect_lint.proofs.circle.link_at.Goals as goal
 

@@ -1,11 +1,10 @@
 use Rattle.std.proofs.Common.{◌≡◌, [], ◌∷◌, inl, inr, length, sym, subst, ◌∙◌}
 use Rattle.sect_lemmas.specs.Lists.{Has}
 use Rattle.sect_lemmas.proofs.Membership.{Has-cases, Has-get_or}
-use Rattle.sect_lint.specs.declared.circle.Link.{Link}
-use Rattle.sect_lint.specs.declared.circle.Links.{Links}
+use Rattle.sect_lint.specs.{declared.circle.Link.{Link}, declared.circle.Links.{Links}}
 use Rattle.sect_lint.specs.steps.Linked.{IsLink}
-use Rattle.sect_lint.proofs.circle.links_of.Goals as goal
 use Rattle.sect_lint.proofs.circle.links_of.Goals.{in-Some+in_ok-add, in_default}
+use Rattle.sect_lint.proofs.circle.links_of.Goals as goal
 
 pub loop-named-preserved : goal.loop-named-preserved
 loop-named-preserved c =

@@ -1,10 +1,9 @@
 use Rattle.std.proofs.Common.{◌≡◌, ◌∙◌, Option, length, sym, subst}
-use Rattle.std.specs.Prelude.{Vec}
-use Rattle.std.specs.declared.alloc.Global.{Global}
+use Rattle.std.specs.{Prelude.{Vec}, declared.alloc.Global.{Global}}
 use Rattle.sect_lint.specs.declared.circle.Link.{Link}
 use Rattle.sect_lint.specs.steps.Linked.{AreNext}
-use Rattle.sect_lint.proofs.circle.next_calls.Goals as goal
 use Rattle.sect_lint.proofs.circle.next_calls.Goals.{else-loop-round-test, then-loop-round-test+then-not-mark}
+use Rattle.sect_lint.proofs.circle.next_calls.Goals as goal
 
 pub loop-round-preserved : goal.loop-round-preserved
 loop-round-preserved c = record {

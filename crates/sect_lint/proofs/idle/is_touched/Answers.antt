@@ -1,6 +1,5 @@
-use Rattle.std.proofs.Common.{◌≡◌, ◌≤◌, ◌∙◌, Some, length, slice_get, sym, ap, arith}
+use Rattle.std.proofs.{Common.{◌≡◌, ◌≤◌, ◌∙◌, Some, length, slice_get, sym, ap, arith}, lemmas.List.{take_all}}
 use Rattle.std.specs.List.{list_any}
-use Rattle.std.proofs.lemmas.List.{take_all}
 use Rattle.sect_types.specs.Sections.{sections_of}
 use Rattle.sect_lint.specs.Idle.{is_touched_in}
 use Rattle.sect_lint.proofs.Touching.{none_yet, found_at}

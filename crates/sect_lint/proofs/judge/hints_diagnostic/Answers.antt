@@ -2,9 +2,8 @@ use Rattle.std.proofs.Common.{◌≡◌, ◌<◌, length, subst, sym, refl, ap, 
 use Rattle.sect_front.specs.TreeView.{TreeView}
 use Rattle.sect_types.specs.Items.{items}
 use Rattle.sect_lint.specs.Places.{of_scheme, item_number}
-use Rattle.sect_lint.proofs.Faulty.{broken_within, scheme_known}
+use Rattle.sect_lint.proofs.{Faulty.{broken_within, scheme_known}, Worded.{item_span_is}}
 use Rattle.sect_lint.specs.steps.Laid.{AreOwnWords}
-use Rattle.sect_lint.proofs.Worded.{item_span_is}
 use Rattle.sect_lint.proofs.judge.hints_diagnostic.Goals as goal
 
 pub words_of-requires-clause-there : goal.words_of-requires-clause-there

@@ -1,7 +1,7 @@
 use Rattle.std.proofs.Common.{Err, inr, subst, sym}
+use Rattle.sect_lint.proofs.Faulty.{hint_judged}
 use Rattle.sect_names.specs.Verdicts as schemes
 use Rattle.sect_names.specs.declared.refusal.SourceRefusal.TheVariants as refusal
-use Rattle.sect_lint.proofs.Faulty.{hint_judged}
 use Rattle.sect_lint.proofs.judge.lint_program.Goals as goal
 
 pub returns-in_ok-diagnostic-in-Err-clause-judged : goal.returns-in_ok-diagnostic-in-Err-clause-judged

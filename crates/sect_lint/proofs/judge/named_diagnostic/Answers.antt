@@ -3,13 +3,10 @@ use Rattle.std.specs.Prelude.{MatchOption}
 use Rattle.sect_front.specs.FaultPlaces.{token_span}
 use Rattle.sect_places.specs.Mattering.{wanted}
 use Rattle.sect_lint.specs.Places.{of_types, item_number, marked_name}
-use Rattle.sect_lint.specs.Details.{IsToldOf, own_tokens, own_spans, item_detail}
-use Rattle.sect_lint.specs.declared.diagnostic.Detail.{Detail}
-use Rattle.sect_lint.specs.steps.Laid.{AreOwnWords}
-use Rattle.sect_lint.specs.steps.Wishes.{IsWish}
+use Rattle.sect_lint.specs.{Details.{IsToldOf, own_tokens, own_spans, item_detail}, declared.diagnostic.Detail.{Detail}}
+use Rattle.sect_lint.specs.steps.{Laid.{AreOwnWords}, Wishes.{IsWish}}
 use Rattle.sect_lint.proofs.KeepingTold.{marked_same, detail_same, told_more}
-use Rattle.sect_lint.proofs.Marked.{is_marked, marked_within, detail_within, told_within}
-use Rattle.sect_lint.proofs.Worded.{item_span_is}
+use Rattle.sect_lint.proofs.{Marked.{is_marked, marked_within, detail_within, told_within}, Worded.{item_span_is}}
 use Rattle.sect_lint.proofs.judge.named_diagnostic.Goals as goal
 
 pub told_by-requires-clause-there : goal.told_by-requires-clause-there

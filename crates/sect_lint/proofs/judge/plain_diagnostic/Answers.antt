@@ -1,14 +1,10 @@
 use Rattle.std.proofs.Common.{◌≡◌, ◌<◌, length, map, subst, sym, ap, ◌∙◌, arith}
 use Rattle.sect_front.specs.FaultPlaces.{token_span, IsWithin}
-use Rattle.sect_places.specs.Ranges.{range}
-use Rattle.sect_places.specs.Spans.{span_in}
-use Rattle.sect_places.proofs.shared.Naming.{all_names}
-use Rattle.sect_places.proofs.shared.Ordered.{span_proper}
-use Rattle.sect_lint.specs.Places.{of_types, item_number, IsMarked}
-use Rattle.sect_lint.specs.Details.{own_tokens, own_spans, item_detail}
+use Rattle.sect_places.specs.{Ranges.{range}, Spans.{span_in}}
+use Rattle.sect_places.proofs.shared.{Naming.{all_names}, Ordered.{span_proper}}
+use Rattle.sect_lint.specs.{Places.{of_types, item_number, IsMarked}, Details.{own_tokens, own_spans, item_detail}}
 use Rattle.sect_lint.specs.steps.Laid.{IsOwnOpening}
-use Rattle.sect_lint.proofs.Marked.{detail_within, told_within}
-use Rattle.sect_lint.proofs.Plainly.{marked_whole}
+use Rattle.sect_lint.proofs.{Marked.{detail_within, told_within}, Plainly.{marked_whole}}
 use Rattle.sect_lint.proofs.Worded.{own_span_is, opened_span, some_kept}
 use Rattle.sect_lint.proofs.judge.plain_diagnostic.Goals as goal
 

@@ -1,11 +1,10 @@
 use Rattle.std.proofs.Common.{refl, ap, ◌∙◌}
-use Rattle.sect_lint.specs.declared.diagnostic.Detail.TheVariants as detail
-use Rattle.sect_lint.specs.Naming.{found, declared_at}
-use Rattle.sect_lint.specs.Limits.{item_limit}
+use Rattle.sect_lint.specs.{Naming.{found, declared_at}, Limits.{item_limit}}
 use Rattle.std.specs.Prelude.{position}
 use Rattle.sect_places.specs.NameUses.{name_uses}
 use Rattle.sect_lint.specs.steps.Plain.{is_declared_there, use_limit, opened_counts as opened_by}
 use Rattle.sect_lint.proofs.Plainly.{own_limit, same_limit, limit_opened, counts_opened}
+use Rattle.sect_lint.specs.declared.diagnostic.Detail.TheVariants as detail
 use Rattle.sect_lint.proofs.plain.plain_detail.Goals as goal
 
 pub returns-in_ok-uses-in-TooMany : goal.returns-in_ok-uses-in-TooMany

@@ -1,5 +1,4 @@
-use Rattle.std.proofs.Common.{sym, arith}
-use Rattle.std.proofs.lemmas.List.{take_all}
+use Rattle.std.proofs.{Common.{sym, arith}, lemmas.List.{take_all}}
 use Rattle.sect_lsp.specs.declared.framing.TheConstants.{MOST_HEADER}
 use Rattle.sect_lsp.proofs.framing.first_bytes.Goals as goal
 

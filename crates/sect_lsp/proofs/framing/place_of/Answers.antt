@@ -1,5 +1,4 @@
-use Rattle.std.proofs.Common.{◌≡◌, false, nat_eq, drop, sym, ap, ◌∙◌}
-use Rattle.std.proofs.lemmas.List.{take_rest}
+use Rattle.std.proofs.{Common.{◌≡◌, false, nat_eq, drop, sym, ap, ◌∙◌}, lemmas.List.{take_rest}}
 use Rattle.std.specs.List.{starts_with}
 use Rattle.sect_lsp.proofs.Finding.{place_next}
 use Rattle.sect_lsp.proofs.framing.place_of.Goals as goal

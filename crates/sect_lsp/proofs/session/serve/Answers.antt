@@ -1,16 +1,13 @@
-use Rattle.std.proofs.Common.{◌++◌, ℕ, List, [], Option, ap, sym, subst, ◌∙◌}
+use Rattle.std.proofs.{Common.{◌++◌, ℕ, List, [], Option, ap, sym, subst, ◌∙◌, rules}, lemmas.Option.{IfSome_then}}
 use Rattle.std.specs.Io.KnownBytes.{Appends}
-use Rattle.std.proofs.lemmas.Option.{IfSome_then}
-use Rattle.std.proofs.Common.{rules}
-use Rattle.sect_lsp.specs.declared.framing.Front.TheVariants.{Part, Malformed}
-use Rattle.sect_lsp.specs.Framing.{IsTaken}
+use Rattle.sect_lsp.specs.{declared.framing.Front.TheVariants.{Part, Malformed}, Framing.{IsTaken}}
 use Rattle.sect_lsp.specs.Sessions.{is_ended, status_by}
 use Rattle.sect_lsp.specs.steps.Underway.{IsAnswered}
 use Rattle.sect_lsp.proofs.Going.{begun_so, same_way, taken_on, read_on, ended_by_exit, ended_by_end, ended_by_fault}
 use Rattle.sect_lsp.proofs.Going.{appends_none, writes_more, served}
-use Rattle.sect_lsp.proofs.session.serve.Goals as goal
 use Rattle.sect_lsp.proofs.session.serve.Goals.{in-Message+in_ok-answer-in-Message+else-has_ended}
 use Rattle.sect_lsp.proofs.session.serve.Goals.{in-Part+in_ok-read_piece-in-Part+else-not-branch}
+use Rattle.sect_lsp.proofs.session.serve.Goals as goal
 
 pub loop-turn-init : goal.loop-turn-init
 loop-turn-init g c = record {

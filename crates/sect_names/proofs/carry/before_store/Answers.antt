@@ -1,5 +1,4 @@
-use Rattle.std.proofs.Common.{◌≡◌, ◌↔◌}
-use Rattle.std.proofs.lemmas.Result.{IfOk-weaker}
+use Rattle.std.proofs.{Common.{◌≡◌, ◌↔◌}, lemmas.Result.{IfOk-weaker}}
 use Rattle.sect_lemmas.specs.Lists.{Has}
 use Rattle.sect_points.specs.Paths.{PathView}
 use Rattle.sect_names.specs.Carrying.{BeforeStore}

@@ -2,12 +2,11 @@ use Rattle.std.proofs.Common.{◌≡◌, ◌↔◌, sym, ap, ◌∙◌, arith, s
 use Rattle.std.proofs.lemmas.List.{at_drop_all, get_or_default}
 use Rattle.sect_types.specs.declared.expansion.action.Field.{Field}
 use Rattle.sect_lemmas.specs.Lists.{Has}
-use Rattle.sect_lemmas.proofs.Elements.{drop_next}
+use Rattle.sect_lemmas.proofs.{Elements.{drop_next}, Making.{one_has}}
 use Rattle.sect_points.specs.Paths.{dots, path_of-fields}
-use Rattle.sect_lemmas.proofs.Making.{one_has}
 use Rattle.sect_names.proofs.Storing.{over_before}
-use Rattle.sect_names.proofs.carry.field_by_field.Goals as goal
 use Rattle.sect_names.specs.steps.OverStore.{OverField}
+use Rattle.sect_names.proofs.carry.field_by_field.Goals as goal
 
 pub loop-field-init : goal.loop-field-init
 loop-field-init c = record {

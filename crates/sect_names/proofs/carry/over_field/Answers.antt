@@ -1,6 +1,5 @@
-use Rattle.sect_names.proofs.Storing.{over_none, over_value}
+use Rattle.sect_names.proofs.{Storing.{over_none, over_value}, carry.over_field.Goals.{in-Some+in_ok-push, in_default}}
 use Rattle.sect_names.proofs.carry.over_field.Goals as goal
-use Rattle.sect_names.proofs.carry.over_field.Goals.{in-Some+in_ok-push, in_default}
 
 pub returns : goal.returns
 returns c =

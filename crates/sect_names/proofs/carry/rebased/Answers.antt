@@ -1,6 +1,5 @@
 use Rattle.std.proofs.Common.{sym, ◌∙◌, Some}
-use Rattle.sect_names.proofs.Replacing.{replaced_other, replaced_here}
-use Rattle.sect_names.proofs.Telling.{same_variable, other_variable}
+use Rattle.sect_names.proofs.{Replacing.{replaced_other, replaced_here}, Telling.{same_variable, other_variable}}
 use Rattle.sect_names.proofs.carry.rebased.Goals as goal
 
 pub returns-in_ok-extended : goal.returns-in_ok-extended

@@ -1,7 +1,6 @@
 use Rattle.std.proofs.Common.{sym, ◌∙◌, None}
 use Rattle.sect_lemmas.proofs.Making.{one_has}
-use Rattle.sect_names.proofs.Replacing.{replaced_other, replaced_none}
-use Rattle.sect_names.proofs.Telling.{same_variable, other_variable}
+use Rattle.sect_names.proofs.{Replacing.{replaced_other, replaced_none}, Telling.{same_variable, other_variable}}
 use Rattle.sect_names.proofs.carry.unless_based.Goals as goal
 
 pub returns-then-eq : goal.returns-then-eq

@@ -1,8 +1,8 @@
 use Rattle.std.proofs.Common.{sym, ◌∙◌, arith, [], ◌∷◌, true≢false, length, ◌<◌}
 use Rattle.sect_names.specs.Carrying.{GoesOn}
 use Rattle.sect_lemmas.proofs.Making.{makes_next, makes_skip, one_has}
-use Rattle.sect_names.proofs.carry.with_field.Goals as goal
 use Rattle.sect_names.proofs.carry.with_field.Goals.{then-not-is_stored+in_ok-extended+in_ok-push, else-not-is_stored}
+use Rattle.sect_names.proofs.carry.with_field.Goals as goal
 
 pub loop-path-preserved : goal.loop-path-preserved
 loop-path-preserved c =

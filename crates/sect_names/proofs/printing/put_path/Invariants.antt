@@ -1,7 +1,5 @@
 use Rattle.std.proofs.Common.{◌≡◌, ◌++◌, take}
-use Rattle.std.specs.Prelude.{codes}
-use Rattle.std.specs.List.{flat_map}
-use Rattle.std.specs.String.{string_bytes}
+use Rattle.std.specs.{Prelude.{codes}, List.{flat_map}, String.{string_bytes}}
 use Rattle.sect_names.specs.Printing.{field_name}
 use Rattle.sect_names.proofs.printing.put_path.Given as goal
 

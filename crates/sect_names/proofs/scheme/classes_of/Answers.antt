@@ -1,7 +1,5 @@
 use Rattle.std.proofs.Common.{ap, ◌∙◌, sym, subst}
-use Rattle.sect_points.specs.Sets.{PointsToView, InSets}
-use Rattle.sect_points.specs.Flow.{IsLeastFlow}
-use Rattle.sect_points.specs.Statements.{thread_actions}
+use Rattle.sect_points.specs.{Sets.{PointsToView, InSets}, Flow.{IsLeastFlow}, Statements.{thread_actions}}
 use Rattle.sect_names.proofs.scheme.classes_of.Goals as goal
 
 pub returns-clause-flow : goal.returns-clause-flow

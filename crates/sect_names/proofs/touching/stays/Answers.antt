@@ -1,6 +1,5 @@
 use Rattle.std.proofs.Common.{◌↔◌, ◌≡◌, sym, subst}
-use Rattle.sect_names.specs.Locks.{IsLockOf}
-use Rattle.sect_names.specs.Carrying.{CarriedBack}
+use Rattle.sect_names.specs.{Locks.{IsLockOf}, Carrying.{CarriedBack}}
 use Rattle.sect_names.proofs.Untouched.{not_off, untouched_lock}
 use Rattle.sect_names.proofs.touching.stays.Goals as goal
 

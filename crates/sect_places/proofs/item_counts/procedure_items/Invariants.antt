@@ -1,6 +1,5 @@
 use Rattle.std.proofs.Common.{◌≡◌, ◌+◌, ◌++◌, drop}
-use Rattle.sect_places.specs.ItemCounts.{items_in_procedures}
-use Rattle.sect_places.specs.Origins.{procedure_items}
+use Rattle.sect_places.specs.{ItemCounts.{items_in_procedures}, Origins.{procedure_items}}
 use Rattle.sect_places.proofs.item_counts.procedure_items.Given as goal
 
 abbrev pub invariant-loop-procedure : goal.invariant-loop-procedure

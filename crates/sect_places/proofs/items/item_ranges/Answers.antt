@@ -1,12 +1,8 @@
 use Rattle.std.proofs.Common.{length, arith, ap, sym, subst}
 use Rattle.sect_front.specs.Grammar.{tokens_of}
 use Rattle.sect_types.specs.Items.{items}
-use Rattle.sect_places.specs.Counts.{records_count, procedures_count, threads_count}
-use Rattle.sect_places.specs.Ranges.{AreAmong}
-use Rattle.sect_places.specs.Own.{AreOwn}
-use Rattle.sect_places.proofs.Past.{count_is}
-use Rattle.sect_places.proofs.Owned.{are_own, own_many}
-use Rattle.sect_places.proofs.Whole.{tree_parts, ranges_within}
+use Rattle.sect_places.specs.{Counts.{records_count, procedures_count, threads_count}, Ranges.{AreAmong}, Own.{AreOwn}}
+use Rattle.sect_places.proofs.{Past.{count_is}, Owned.{are_own, own_many}, Whole.{tree_parts, ranges_within}}
 use Rattle.sect_places.proofs.items.item_ranges.Goals as goal
 
 pub put_records-requires : goal.put_records-requires

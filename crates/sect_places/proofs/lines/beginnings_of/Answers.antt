@@ -1,7 +1,5 @@
 use Rattle.std.proofs.Common.{ℕ, List, map, get_or, length, ◌<◌, ◌≤◌, sym, ap, subst, ◌∙◌, arith}
-use Rattle.std.proofs.lemmas.List.{take_all}
-use Rattle.std.proofs.lemmas.Result.{IfOk-weaker}
-use Rattle.std.proofs.lemmas.Simd.{map-map}
+use Rattle.std.proofs.{lemmas.List.{take_all}, lemmas.Result.{IfOk-weaker}, lemmas.Simd.{map-map}}
 use Rattle.sect_front.specs.declared.span.Span.{Span}
 use Rattle.sect_places.specs.Positions.{position}
 use Rattle.sect_places.proofs.Lining.{begins_within}

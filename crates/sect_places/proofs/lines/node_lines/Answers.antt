@@ -1,12 +1,8 @@
-use Rattle.std.proofs.Common.{◌≡◌, map, length, sym, ap, subst, ◌∙◌}
-use Rattle.std.proofs.lemmas.List.{length-map}
+use Rattle.std.proofs.{Common.{◌≡◌, map, length, sym, ap, subst, ◌∙◌}, lemmas.List.{length-map}}
 use Rattle.std.proofs.lemmas.Result.{IfOk-weaker}
-use Rattle.sect_front.specs.TreeView.{TreeView}
-use Rattle.sect_front.specs.declared.span.Span.{Span}
+use Rattle.sect_front.specs.{TreeView.{TreeView}, declared.span.Span.{Span}}
 use Rattle.sect_types.specs.Items.{items}
-use Rattle.sect_places.specs.Positions.{position}
-use Rattle.sect_places.specs.Items.{AreItemSpans}
-use Rattle.sect_places.specs.NodeLines.{node_line, beginnings}
+use Rattle.sect_places.specs.{Positions.{position}, Items.{AreItemSpans}, NodeLines.{node_line, beginnings}}
 use Rattle.sect_places.proofs.Lining.{sections_placed}
 use Rattle.sect_places.proofs.lines.node_lines.Goals as goal
 

@@ -1,10 +1,9 @@
 use Rattle.std.proofs.Common.{◌<◌, ℕ, ◌+◌, ◌-◌, length, drop, arith, refl, sym, ◌∙◌, ap, subst}
-use Rattle.sect_front.specs.Spelling.{IsSpelling}
+use Rattle.sect_front.specs.{Spelling.{IsSpelling}, Gaps.{after_gap}}
 use Rattle.sect_front.proofs.shared.Lexings.{gap_fits}
 use Rattle.sect_places.specs.steps.Wanting.{KeptView}
 use Rattle.sect_places.proofs.Placing.{span_from}
 use Rattle.sect_places.proofs.Standing.{SoughtHere, sought_none, sought_more, one_passed, read_span, read_spelling}
-use Rattle.sect_front.specs.Gaps.{after_gap}
 use Rattle.sect_places.proofs.WantedNames.{wanted_none, numbered, left_to_read, number_fits, wanted_all, wanted_on}
 use Rattle.sect_places.proofs.WantedNames.{wanted_more}
 use Rattle.sect_places.proofs.named.wanted_names.Goals.{then-spells_name+in_ok-put_kept, else-spells_name}

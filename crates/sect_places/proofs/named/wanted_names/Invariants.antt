@@ -1,6 +1,5 @@
 use Rattle.std.proofs.Common.{length}
-use Rattle.sect_places.proofs.Standing.{SoughtHere}
-use Rattle.sect_places.proofs.WantedNames.{WantedHere}
+use Rattle.sect_places.proofs.{Standing.{SoughtHere}, WantedNames.{WantedHere}}
 use Rattle.sect_places.proofs.named.wanted_names.Given as goal
 
 abbrev pub invariant-loop-here : goal.invariant-loop-here

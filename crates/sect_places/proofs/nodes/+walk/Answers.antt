@@ -1,7 +1,6 @@
 use Rattle.std.proofs.Common.{◌≡◌, ◌<◌, ℕ, List, Some, length, get_or, slice_get, refl, sym, ap, ◌∙◌, arith}
 use Rattle.std.proofs.lemmas.Option.{slice_get_read}
-use Rattle.sect_front.specs.Trees.{statement_of, statement_size, block_size}
-use Rattle.sect_front.specs.declared.tree.Procedure.{Procedure}
+use Rattle.sect_front.specs.{Trees.{statement_of, statement_size, block_size}, declared.tree.Procedure.{Procedure}}
 use Rattle.sect_front.proofs.shared.Bodies.{size_at}
 use Rattle.sect_places.specs.steps.Ending.{EndsWithin, most_size}
 use Rattle.sect_places.proofs.Expanding.{ends_at, size_most, call_ends, call_falls, call_origins_added}

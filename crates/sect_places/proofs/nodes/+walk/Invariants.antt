@@ -1,9 +1,7 @@
 use Rattle.std.proofs.Common.{◌≡◌, ◌+◌, ◌*◌}
 use Rattle.sect_front.specs.Trees.{statement_of, block_of, statement_size, block_size}
-use Rattle.sect_places.specs.steps.Ending.{most_size}
-use Rattle.sect_places.specs.steps.Calls.{expands, expands_sections}
-use Rattle.sect_places.proofs.Walked.{Walked}
-use Rattle.sect_places.proofs.Expanding.{total_items, all_origins, all_sections}
+use Rattle.sect_places.specs.steps.{Ending.{most_size}, Calls.{expands, expands_sections}}
+use Rattle.sect_places.proofs.{Walked.{Walked}, Expanding.{total_items, all_origins, all_sections}}
 use Rattle.sect_places.proofs.nodes.+walk.Given as goal
 
 abbrev pub decreases-put_call : goal.decreases-put_call

@@ -1,13 +1,9 @@
 use Rattle.std.proofs.Common.{◌≡◌, List, length, arith, ap, sym, ◌∙◌, subst}
-use Rattle.sect_front.specs.TreeView.{TreeView}
-use Rattle.sect_front.specs.declared.tree.Procedure.{Procedure}
-use Rattle.sect_front.specs.declared.tree.Thread.{Thread}
+use Rattle.sect_front.specs.{TreeView.{TreeView}, declared.tree.Procedure.{Procedure}, declared.tree.Thread.{Thread}}
 use Rattle.sect_types.specs.Expanded.{NextNumbers}
-use Rattle.sect_places.specs.ItemCounts.{items_in_records}
-use Rattle.sect_places.specs.Origins.{first_procedure}
+use Rattle.sect_places.specs.{ItemCounts.{items_in_records}, Origins.{first_procedure}}
 use Rattle.sect_places.specs.steps.Ending.{EndsWithin, ThreadsEnd}
-use Rattle.sect_places.proofs.Expanding.{starts_many, tree_nodes, tree_parts}
-use Rattle.sect_places.proofs.KnownCalls.{threads_known}
+use Rattle.sect_places.proofs.{Expanding.{starts_many, tree_nodes, tree_parts}, KnownCalls.{threads_known}}
 use Rattle.sect_places.proofs.ProgramOrigins.{program_origins}
 use Rattle.sect_places.proofs.nodes.node_origins.Goals as goal
 

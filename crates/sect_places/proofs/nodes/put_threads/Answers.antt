@@ -1,8 +1,6 @@
 use Rattle.std.proofs.Common.{◌≡◌, ◌+◌, arith, ap, length}
-use Rattle.sect_places.specs.ItemCounts.{items_in_thread}
-use Rattle.sect_places.specs.Origins.{threads_origins, threads_sections}
-use Rattle.sect_places.specs.steps.Calls.{expands, expands_sections}
-use Rattle.sect_places.specs.steps.Ending.{EndsWithin}
+use Rattle.sect_places.specs.{ItemCounts.{items_in_thread}, Origins.{threads_origins, threads_sections}}
+use Rattle.sect_places.specs.steps.{Calls.{expands, expands_sections}, Ending.{EndsWithin}}
 use Rattle.sect_places.proofs.Walked.{walked_more}
 use Rattle.sect_places.proofs.Expanding.{thread_ends, items_in_threads, thread_nodes, thread_parts, threads_listed}
 use Rattle.sect_places.proofs.Expanding.{parts_listed, thread_added, parts_added}

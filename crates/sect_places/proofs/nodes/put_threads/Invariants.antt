@@ -1,7 +1,6 @@
 use Rattle.sect_places.specs.Origins.{threads_origins, threads_sections}
 use Rattle.sect_places.specs.steps.Calls.{expands, expands_sections}
-use Rattle.sect_places.proofs.Walked.{Walked}
-use Rattle.sect_places.proofs.Expanding.{items_in_threads}
+use Rattle.sect_places.proofs.{Walked.{Walked}, Expanding.{items_in_threads}}
 use Rattle.sect_places.proofs.nodes.put_threads.Given as goal
 
 abbrev pub invariant-loop-thread : goal.invariant-loop-thread

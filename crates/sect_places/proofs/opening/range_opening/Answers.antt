@@ -1,10 +1,9 @@
 use Rattle.std.proofs.Common.{◌≡◌, ℕ, ◌+◌, ◌-◌, length, arith, refl, subst}
 use Rattle.sect_front.proofs.shared.Rests.{rest_fits}
-use Rattle.sect_places.proofs.Placing.{span_from}
-use Rattle.sect_places.proofs.Standing.{sought_none, is_some, one_read, read_span}
-use Rattle.sect_places.proofs.shared.Fitting.{tokens_fit}
+use Rattle.sect_places.proofs.{Placing.{span_from}, Standing.{sought_none, is_some, one_read, read_span}}
 use Rattle.sect_places.proofs.FirstTokens.{OpenedHere, values_fit, one_more, opening_more, opened_none, opened_more}
 use Rattle.sect_places.proofs.FirstTokens.{opened_all}
+use Rattle.sect_places.proofs.shared.Fitting.{tokens_fit}
 use Rattle.sect_places.proofs.opening.range_opening.Goals as goal
 
 pub from_token-first-requires-clause-sought : goal.from_token-first-requires-clause-sought

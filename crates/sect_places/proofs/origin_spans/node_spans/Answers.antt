@@ -1,11 +1,8 @@
-use Rattle.std.proofs.Common.{◌≡◌, ◌<◌, ℕ, List, length, map, refl, sym, ap, subst, ◌∙◌}
+use Rattle.std.proofs.{Common.{◌≡◌, ◌<◌, ℕ, List, length, map, refl, sym, ap, subst, ◌∙◌}, lemmas.List.{length-map}}
 use Rattle.std.specs.Prelude.{All}
-use Rattle.std.proofs.lemmas.List.{length-map}
-use Rattle.sect_front.specs.FaultPlaces.{IsWithin}
-use Rattle.sect_front.specs.TreeView.{TreeView}
+use Rattle.sect_front.specs.{FaultPlaces.{IsWithin}, TreeView.{TreeView}}
 use Rattle.sect_types.specs.Items.{items}
-use Rattle.sect_places.specs.Items.{AreItemSpans}
-use Rattle.sect_places.specs.NodeSpans.{item_span, node_span, IsNodeWithin}
+use Rattle.sect_places.specs.{Items.{AreItemSpans}, NodeSpans.{item_span, node_span, IsNodeWithin}}
 use Rattle.sect_places.proofs.Lining.{threads_placed, sections_placed}
 use Rattle.sect_places.proofs.Spanning.{texts_within, items_within, atomics_within}
 use Rattle.sect_places.proofs.origin_spans.node_spans.Goals as goal

@@ -1,5 +1,4 @@
-use Rattle.std.proofs.Common.{take, arith}
-use Rattle.std.proofs.lemmas.List.{length-take-le}
+use Rattle.std.proofs.{Common.{take, arith}, lemmas.List.{length-take-le}}
 use Rattle.sect_places.proofs.Columns.{no_feed, last_feed}
 use Rattle.sect_places.proofs.position.column_of.Goals as goal
 

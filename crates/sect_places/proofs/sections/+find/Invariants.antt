@@ -1,7 +1,6 @@
 use Rattle.std.proofs.Common.{◌≡◌, ℕ, ◌+◌, ◌*◌, ◌++◌, List, drop}
 use Rattle.sect_front.specs.Trees.{statement_of, block_of, statement_size, block_size}
-use Rattle.sect_places.specs.ItemCounts.{items_in_block}
-use Rattle.sect_places.specs.SectionItems.{block_section_items}
+use Rattle.sect_places.specs.{ItemCounts.{items_in_block}, SectionItems.{block_section_items}}
 use Rattle.sect_places.proofs.sections.+find.Given as goal
 
 abbrev pub decreases-put_statement : goal.decreases-put_statement

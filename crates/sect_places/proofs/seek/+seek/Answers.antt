@@ -1,10 +1,8 @@
 use Rattle.std.proofs.Common.{arith, ap, subst}
 use Rattle.sect_lemmas.proofs.Results.{given}
-use Rattle.sect_front.specs.Trees.{statement_of, statement_size, block_size}
-use Rattle.sect_front.specs.Syntax.{BlockView}
+use Rattle.sect_front.specs.{Trees.{statement_of, statement_size, block_size}, Syntax.{BlockView}}
 use Rattle.sect_front.proofs.shared.Bodies.{size_at}
-use Rattle.sect_places.specs.Counts.{block_count}
-use Rattle.sect_places.specs.Ranges.{block_ranges}
+use Rattle.sect_places.specs.{Counts.{block_count}, Ranges.{block_ranges}}
 use Rattle.sect_places.specs.steps.Seeking.{IsFound, IsBehind}
 use Rattle.sect_places.proofs.Lists.{statements}
 use Rattle.sect_places.proofs.Seeking.{sought_room, sought_here, sought_more, sought_count, sought_behind}

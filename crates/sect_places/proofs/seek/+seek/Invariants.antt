@@ -1,7 +1,6 @@
 use Rattle.std.proofs.Common.{◌≡◌, ◌+◌, ◌*◌}
 use Rattle.sect_front.specs.Trees.{statement_of, block_of, statement_size, block_size}
-use Rattle.sect_places.proofs.Seeking.{Sought}
-use Rattle.sect_places.proofs.Lists.{total_of, all_of}
+use Rattle.sect_places.proofs.{Seeking.{Sought}, Lists.{total_of, all_of}}
 use Rattle.sect_places.proofs.seek.+seek.Given as goal
 
 abbrev pub decreases-seek_statement : goal.decreases-seek_statement

@@ -1,8 +1,7 @@
 use Rattle.std.proofs.Common.{length}
 use Rattle.sect_front.specs.Grammar.{tokens_of}
 use Rattle.sect_places.specs.Ranges.{item_tokens}
-use Rattle.sect_places.proofs.Seeking.{parts_fit, item_is, item_left, found_among}
-use Rattle.sect_places.proofs.Whole.{ranges_within}
+use Rattle.sect_places.proofs.{Seeking.{parts_fit, item_is, item_left, found_among}, Whole.{ranges_within}}
 use Rattle.sect_places.proofs.seek.item_range.Goals as goal
 
 pub seek_parts-requires : goal.seek_parts-requires

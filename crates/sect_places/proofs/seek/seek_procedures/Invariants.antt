@@ -1,5 +1,4 @@
-use Rattle.sect_places.specs.Counts.{procedures_count}
-use Rattle.sect_places.specs.Ranges.{procedures_ranges}
+use Rattle.sect_places.specs.{Counts.{procedures_count}, Ranges.{procedures_ranges}}
 use Rattle.sect_places.proofs.Seeking.{Sought}
 use Rattle.sect_places.proofs.seek.seek_procedures.Given as goal
 

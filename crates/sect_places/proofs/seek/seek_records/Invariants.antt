@@ -1,5 +1,4 @@
-use Rattle.sect_places.specs.Counts.{records_count}
-use Rattle.sect_places.specs.Ranges.{records_ranges}
+use Rattle.sect_places.specs.{Counts.{records_count}, Ranges.{records_ranges}}
 use Rattle.sect_places.proofs.Seeking.{Sought}
 use Rattle.sect_places.proofs.seek.seek_records.Given as goal
 

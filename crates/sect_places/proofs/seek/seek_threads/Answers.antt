@@ -2,8 +2,7 @@ use Rattle.std.proofs.Common.{refl, arith}
 use Rattle.sect_lemmas.proofs.Results.{given}
 use Rattle.sect_places.specs.Ranges.{threads_ranges}
 use Rattle.sect_places.specs.steps.Seeking.{IsFound}
-use Rattle.sect_places.proofs.Lists.{threads}
-use Rattle.sect_places.proofs.Seeking.{sought_room, sought_here, sought_more, sought_behind}
+use Rattle.sect_places.proofs.{Lists.{threads}, Seeking.{sought_room, sought_here, sought_more, sought_behind}}
 use Rattle.sect_places.proofs.seek.seek_threads.Goals as goal
 
 pub loop-thread-init : goal.loop-thread-init

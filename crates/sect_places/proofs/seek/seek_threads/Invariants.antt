@@ -1,5 +1,4 @@
-use Rattle.sect_places.specs.Counts.{threads_count}
-use Rattle.sect_places.specs.Ranges.{threads_ranges}
+use Rattle.sect_places.specs.{Counts.{threads_count}, Ranges.{threads_ranges}}
 use Rattle.sect_places.proofs.Seeking.{Sought}
 use Rattle.sect_places.proofs.seek.seek_threads.Given as goal
 

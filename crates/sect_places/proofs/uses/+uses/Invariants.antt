@@ -1,9 +1,7 @@
 use Rattle.std.proofs.Common.{◌≡◌, ◌+◌, ◌*◌}
 use Rattle.sect_front.specs.Trees.{statement_of, block_of, statement_size, block_size}
 use Rattle.sect_places.specs.steps.Wanting.{behind}
-use Rattle.sect_places.proofs.Walked.{WalkedBy}
-use Rattle.sect_places.proofs.Expanding.{total_items}
-use Rattle.sect_places.proofs.Using.{all_uses}
+use Rattle.sect_places.proofs.{Walked.{WalkedBy}, Expanding.{total_items}, Using.{all_uses}}
 use Rattle.sect_places.proofs.uses.+uses.Given as goal
 
 abbrev pub decreases-put_statement : goal.decreases-put_statement

@@ -1,7 +1,6 @@
 use Rattle.std.proofs.Common.{◌≡◌, List, drop}
-use Rattle.sect_places.specs.declared.name_use.NameUse.{NameUse}
+use Rattle.sect_places.specs.{declared.name_use.NameUse.{NameUse}, NameUses.{argument_uses}}
 use Rattle.sect_places.specs.steps.Wanting.{behind}
-use Rattle.sect_places.specs.NameUses.{argument_uses}
 use Rattle.sect_places.proofs.uses.put_arguments.Given as goal
 
 abbrev pub invariant-loop-number : goal.invariant-loop-number

@@ -1,7 +1,6 @@
 use Rattle.std.proofs.Common.{◌≡◌, List, drop}
-use Rattle.sect_places.specs.declared.name_use.NameUse.{NameUse}
+use Rattle.sect_places.specs.{declared.name_use.NameUse.{NameUse}, NameUses.{hints_uses}}
 use Rattle.sect_places.specs.steps.Wanting.{behind}
-use Rattle.sect_places.specs.NameUses.{hints_uses}
 use Rattle.sect_places.proofs.uses.put_hints.Given as goal
 
 abbrev pub invariant-loop-name : goal.invariant-loop-name

@@ -1,6 +1,5 @@
 use Rattle.sect_places.specs.steps.Wanting.{behind}
-use Rattle.sect_places.specs.NameUses.{records_uses}
-use Rattle.sect_places.specs.ItemCounts.{items_in_records}
+use Rattle.sect_places.specs.{NameUses.{records_uses}, ItemCounts.{items_in_records}}
 use Rattle.sect_places.proofs.Walked.{WalkedBy}
 use Rattle.sect_places.proofs.uses.put_records.Given as goal
 

@@ -1,7 +1,6 @@
 use Rattle.sect_places.specs.steps.Wanting.{behind}
 use Rattle.sect_places.specs.NameUses.{threads_uses}
-use Rattle.sect_places.proofs.Expanding.{items_in_threads}
-use Rattle.sect_places.proofs.Walked.{WalkedBy}
+use Rattle.sect_places.proofs.{Expanding.{items_in_threads}, Walked.{WalkedBy}}
 use Rattle.sect_places.proofs.uses.put_threads.Given as goal
 
 abbrev pub invariant-loop-thread : goal.invariant-loop-thread

@@ -2,8 +2,7 @@ use Rattle.std.proofs.Common.{arith, ap}
 use Rattle.sect_front.specs.Trees.{statement_of, statement_size, block_size}
 use Rattle.sect_front.proofs.shared.Bodies.{size_at}
 use Rattle.sect_places.specs.Counts.{block_count}
-use Rattle.sect_places.proofs.Walked.{walked_room}
-use Rattle.sect_places.proofs.Lists.{statements}
+use Rattle.sect_places.proofs.{Walked.{walked_room}, Lists.{statements}}
 use Rattle.sect_places.proofs.walk.+put.Goals as goal
 
 pub put_block-put_statement-requires : goal.put_block-put_statement-requires

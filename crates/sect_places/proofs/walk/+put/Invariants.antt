@@ -1,7 +1,6 @@
 use Rattle.std.proofs.Common.{◌≡◌, ◌+◌, ◌*◌}
 use Rattle.sect_front.specs.Trees.{statement_of, block_of, statement_size, block_size}
-use Rattle.sect_places.proofs.Walked.{Walked}
-use Rattle.sect_places.proofs.Lists.{total_of, all_of}
+use Rattle.sect_places.proofs.{Walked.{Walked}, Lists.{total_of, all_of}}
 use Rattle.sect_places.proofs.walk.+put.Given as goal
 
 abbrev pub decreases-put_statement : goal.decreases-put_statement

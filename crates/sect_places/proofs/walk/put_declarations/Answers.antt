@@ -1,6 +1,5 @@
 use Rattle.sect_places.specs.Ranges.{declarations_ranges}
-use Rattle.sect_places.proofs.Walked.{walked_none}
-use Rattle.sect_places.proofs.Lists.{threes}
+use Rattle.sect_places.proofs.{Walked.{walked_none}, Lists.{threes}}
 use Rattle.sect_places.proofs.walk.put_declarations.Goals as goal
 
 pub loop-declaration-init : goal.loop-declaration-init

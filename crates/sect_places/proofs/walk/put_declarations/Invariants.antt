@@ -1,5 +1,4 @@
-use Rattle.sect_places.proofs.Walked.{Walked}
-use Rattle.sect_places.proofs.Lists.{threes}
+use Rattle.sect_places.proofs.{Walked.{Walked}, Lists.{threes}}
 use Rattle.sect_places.specs.Ranges.{declarations_ranges}
 use Rattle.sect_places.proofs.walk.put_declarations.Given as goal
 

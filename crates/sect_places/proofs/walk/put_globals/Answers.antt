@@ -1,6 +1,5 @@
 use Rattle.sect_places.specs.Ranges.{globals_ranges}
-use Rattle.sect_places.proofs.Walked.{walked_none}
-use Rattle.sect_places.proofs.Lists.{fours}
+use Rattle.sect_places.proofs.{Walked.{walked_none}, Lists.{fours}}
 use Rattle.sect_places.proofs.walk.put_globals.Goals as goal
 
 pub loop-global-init : goal.loop-global-init

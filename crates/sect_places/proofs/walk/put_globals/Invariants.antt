@@ -1,5 +1,4 @@
-use Rattle.sect_places.proofs.Walked.{Walked}
-use Rattle.sect_places.proofs.Lists.{fours}
+use Rattle.sect_places.proofs.{Walked.{Walked}, Lists.{fours}}
 use Rattle.sect_places.specs.Ranges.{globals_ranges}
 use Rattle.sect_places.proofs.walk.put_globals.Given as goal
 

@@ -1,6 +1,5 @@
 use Rattle.sect_places.proofs.Walked.{Walked}
-use Rattle.sect_places.specs.Counts.{procedures_count}
-use Rattle.sect_places.specs.Ranges.{procedures_ranges}
+use Rattle.sect_places.specs.{Counts.{procedures_count}, Ranges.{procedures_ranges}}
 use Rattle.sect_places.proofs.walk.put_procedures.Given as goal
 
 abbrev pub invariant-loop-procedure : goal.invariant-loop-procedure

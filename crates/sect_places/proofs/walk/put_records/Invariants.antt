@@ -1,6 +1,5 @@
 use Rattle.sect_places.proofs.Walked.{Walked}
-use Rattle.sect_places.specs.Counts.{records_count}
-use Rattle.sect_places.specs.Ranges.{records_ranges}
+use Rattle.sect_places.specs.{Counts.{records_count}, Ranges.{records_ranges}}
 use Rattle.sect_places.proofs.walk.put_records.Given as goal
 
 abbrev pub invariant-loop-declared : goal.invariant-loop-declared

@@ -1,6 +1,5 @@
 use Rattle.sect_places.proofs.Walked.{Walked}
-use Rattle.sect_places.specs.Counts.{threads_count}
-use Rattle.sect_places.specs.Ranges.{threads_ranges}
+use Rattle.sect_places.specs.{Counts.{threads_count}, Ranges.{threads_ranges}}
 use Rattle.sect_places.proofs.walk.put_threads.Given as goal
 
 abbrev pub invariant-loop-thread : goal.invariant-loop-thread

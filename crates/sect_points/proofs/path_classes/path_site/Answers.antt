@@ -1,6 +1,5 @@
 use Rattle.std.proofs.lemmas.Option.{IfSome_then}
-use Rattle.sect_points.proofs.FilledLaws.{none_then}
-use Rattle.sect_points.proofs.ClassLaws.{no_field, one_field, two_fields}
+use Rattle.sect_points.proofs.{FilledLaws.{none_then}, ClassLaws.{no_field, one_field, two_fields}}
 use Rattle.sect_points.proofs.path_classes.path_site.Goals as goal
 
 pub returns-in-empty-clause-none : goal.returns-in-empty-clause-none

@@ -1,8 +1,5 @@
-use Rattle.std.proofs.Common.{subst, ◌↔◌, ℕ, ◌<◌, arith}
-use Rattle.std.proofs.lemmas.List.{take_all}
-use Rattle.sect_points.specs.Sites.{HasSite}
-use Rattle.sect_points.specs.Sets.{InSets}
-use Rattle.sect_points.specs.Paths.{path_of, PathHas}
+use Rattle.std.proofs.{Common.{subst, ◌↔◌, ℕ, ◌<◌, arith}, lemmas.List.{take_all}}
+use Rattle.sect_points.specs.{Sites.{HasSite}, Sets.{InSets}, Paths.{path_of, PathHas}}
 use Rattle.sect_points.proofs.ClassLaws.{path_more}
 use Rattle.sect_points.proofs.path_classes.path_sites.Goals as goal
 

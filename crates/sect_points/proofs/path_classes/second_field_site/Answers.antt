@@ -1,5 +1,4 @@
-use Rattle.std.proofs.Common.{◌∙◌, sym}
-use Rattle.std.proofs.lemmas.Option.{IfSome_then}
+use Rattle.std.proofs.{Common.{◌∙◌, sym}, lemmas.Option.{IfSome_then}}
 use Rattle.sect_points.proofs.FilledLaws.{nothing_more, none_there}
 use Rattle.sect_points.proofs.path_classes.second_field_site.Goals as goal
 

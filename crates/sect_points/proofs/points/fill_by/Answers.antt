@@ -1,7 +1,5 @@
 use Rattle.std.proofs.Common.{◌*◌, ◌∙◌, sym, ap, length, subst}
-use Rattle.sect_points.specs.declared.marks.TheConstants.{LOCAL_ROWS}
-use Rattle.sect_points.specs.Flow.{IsLeastFlow}
-use Rattle.sect_points.specs.Sets.{InSets}
+use Rattle.sect_points.specs.{declared.marks.TheConstants.{LOCAL_ROWS}, Flow.{IsLeastFlow}, Sets.{InSets}}
 use Rattle.sect_points.specs.steps.Solving.{AllFit}
 use Rattle.sect_points.proofs.StatementLaws.{all_fit, same_places, few_rows, all_markable}
 use Rattle.sect_points.proofs.points.fill_by.Goals as goal

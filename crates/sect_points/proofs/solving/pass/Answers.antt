@@ -3,9 +3,8 @@ use Rattle.sect_lemmas.specs.Lists.{Has}
 use Rattle.sect_lemmas.proofs.Membership.{Has-get_or}
 use Rattle.sect_points.specs.steps.Marks.{grown}
 use Rattle.sect_points.proofs.MarkLaws.{stretch_none, stretch_then, stretch_by, handled_more, handled_past, handled_all}
-use Rattle.sect_points.proofs.MarkLaws.{fits_after, there_after}
+use Rattle.sect_points.proofs.{MarkLaws.{fits_after, there_after}, solving.pass.Goals.{then-turn, else-turn}}
 use Rattle.sect_points.proofs.solving.pass.Goals as goal
-use Rattle.sect_points.proofs.solving.pass.Goals.{then-turn, else-turn}
 
 pub loop-placed-init : goal.loop-placed-init
 loop-placed-init c = record {

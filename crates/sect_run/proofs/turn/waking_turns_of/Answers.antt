@@ -1,7 +1,6 @@
 -- The turns that were made, one after another.
 use Rattle.std.proofs.Common.{◌∙◌, refl, sym, subst, true≢false}
-use Rattle.sect_run.specs.steps.Shares.{AreBelow, threads_in}
-use Rattle.sect_run.specs.steps.Turns.{MayGoOn}
+use Rattle.sect_run.specs.steps.{Shares.{AreBelow, threads_in}, Turns.{MayGoOn}}
 use Rattle.sect_run.proofs.Turning.{first_made, next_made, next_broken_off, all_made, of_refusal}
 use Rattle.sect_run.proofs.turn.waking_turns_of.Goals as goal
 

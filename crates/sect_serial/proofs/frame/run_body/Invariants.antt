@@ -1,7 +1,5 @@
 use Rattle.std.proofs.Common.{◌≡◌, true}
-use Rattle.sect_types.specs.Programs.{environment_at}
-use Rattle.sect_types.specs.Sound.{IsSound}
-use Rattle.sect_types.specs.Whole.{body_of}
+use Rattle.sect_types.specs.{Programs.{environment_at}, Sound.{IsSound}, Whole.{body_of}}
 use Rattle.sect_serial.proofs.frame.run_body.Given as goal
 
 abbrev pub invariant-steps : goal.invariant-steps

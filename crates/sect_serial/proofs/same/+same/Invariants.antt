@@ -1,6 +1,5 @@
 use Rattle.std.proofs.Common.{◌≡◌, ◌↔◌, ◌≤◌, ◌*◌, ◌+◌}
-use Rattle.sect_types.specs.Statements.{Stop, weight, statement_count}
-use Rattle.sect_types.specs.Texts.{step_then}
+use Rattle.sect_types.specs.{Statements.{Stop, weight, statement_count}, Texts.{step_then}}
 use Rattle.sect_serial.proofs.same.+same.Given as goal
 
 abbrev pub decreases-same_step : goal.decreases-same_step

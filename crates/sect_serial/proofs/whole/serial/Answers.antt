@@ -1,12 +1,9 @@
 use Rattle.std.proofs.Common.{arith, ◌≡◌, ◌++◌, ◌∷◌, [], slice_index_or, ap, ◌∙◌, sym, subst, add-one, take, drop, suc}
-use Rattle.std.proofs.Common.{◌+◌, Some, Err}
-use Rattle.std.proofs.lemmas.List.{take_all}
-use Rattle.std.proofs.Math.Seq.{split_at, take-suc}
+use Rattle.std.proofs.{Common.{◌+◌, Some, Err}, lemmas.List.{take_all}, Math.Seq.{split_at, take-suc}}
 use Rattle.sect_types.specs.Whole.{in_order, begun}
 use Rattle.sect_serial.specs.declared.whole.SerialFault.TheVariants.{NoSection}
 use Rattle.sect_serial.specs.steps.Frames.{RanSection}
-use Rattle.sect_serial.proofs.RunLemmas.{in_order_more}
-use Rattle.sect_serial.proofs.RefusalLemmas.{judged_only, judged_refuses, finished}
+use Rattle.sect_serial.proofs.{RunLemmas.{in_order_more}, RefusalLemmas.{judged_only, judged_refuses, finished}}
 use Rattle.sect_serial.proofs.whole.serial.Goals as goal
 
 pub returns-then-not-branch-clause-judges : goal.returns-then-not-branch-clause-judges

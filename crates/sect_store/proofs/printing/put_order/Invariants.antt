@@ -1,7 +1,5 @@
 use Rattle.std.proofs.Common.{◌≡◌, ◌++◌, drop, codes}
-use Rattle.std.specs.String.{string_bytes}
-use Rattle.std.specs.List.{flat_map}
-use Rattle.std.specs.Fmt.{decimal}
+use Rattle.std.specs.{String.{string_bytes}, List.{flat_map}, Fmt.{decimal}}
 use Rattle.sect_store.proofs.printing.put_order.Given as goal
 
 abbrev pub invariant-loop-thread : goal.invariant-loop-thread

@@ -1,6 +1,5 @@
 use Rattle.std.proofs.Common.{◌≡◌, ◌++◌, drop}
-use Rattle.std.specs.String.{string_bytes}
-use Rattle.std.specs.List.{flat_map}
+use Rattle.std.specs.{String.{string_bytes}, List.{flat_map}}
 use Rattle.sect_store.specs.Printing.{out_line}
 use Rattle.sect_store.proofs.printing.put_output.Given as goal
 

@@ -1,6 +1,5 @@
 use Rattle.std.proofs.Common.{◌≡◌, ◌+◌, ◌*◌, ◌++◌, drop}
-use Rattle.sect_types.specs.Statements.{Stop, weight, made_in}
-use Rattle.sect_types.specs.Texts.{step_then, statements_of}
+use Rattle.sect_types.specs.{Statements.{Stop, weight, made_in}, Texts.{step_then, statements_of}}
 use Rattle.sect_store.proofs.site.+made.Given as goal
 
 abbrev pub decreases-put_made_by : goal.decreases-put_made_by

@@ -1,8 +1,6 @@
-use Rattle.std.proofs.Common.{◌≡◌, ◌++◌, ◌+◌, drop, ap, sym, ◌∙◌, append_assoc}
-use Rattle.std.proofs.lemmas.List.{at_drop_more}
+use Rattle.std.proofs.{Common.{◌≡◌, ◌++◌, ◌+◌, drop, ap, sym, ◌∙◌, append_assoc}, lemmas.List.{at_drop_more}}
 use Rattle.std.proofs.lemmas.Option.{slice_get_within, get_or_from_slice_get}
-use Rattle.sect_types.specs.Statements.{Stop, made_in}
-use Rattle.sect_types.specs.Programs.{all_made}
+use Rattle.sect_types.specs.{Statements.{Stop, made_in}, Programs.{all_made}}
 use Rattle.sect_store.proofs.site.site_records.Goals as goal
 
 pub loop-thread-preserved : goal.loop-thread-preserved

@@ -1,7 +1,6 @@
 use Rattle.std.proofs.Common.{◌≡◌, ◌<◌, drop, IfSome, None}
-use Rattle.sect_table.specs.steps.Links.{list_at, head_or}
+use Rattle.sect_table.specs.steps.{Links.{list_at, head_or}, Arena.{holds_at}}
 use Rattle.sect_table.specs.Contents.{mode_in}
-use Rattle.sect_table.specs.steps.Arena.{holds_at}
 use Rattle.sect_table.proofs.arena.mode_along.Given as goal
 
 abbrev pub invariant-loop-step : goal.invariant-loop-step

@@ -1,7 +1,5 @@
-use Rattle.std.proofs.Common.{rules, arith, ◌≡◌, ◌+◌, ◌<◌, length, vec_len, sym, ◌∙◌, ap, subst, Some}
-use Rattle.std.proofs.Common.{true}
-use Rattle.sect_table.specs.declared.claims.Claim.{Claim}
-use Rattle.sect_table.specs.Contents.{Entry, entry_of, claim_of, may_join}
+use Rattle.std.proofs.Common.{rules, arith, ◌≡◌, ◌+◌, ◌<◌, length, vec_len, sym, ◌∙◌, ap, subst, Some, true}
+use Rattle.sect_table.specs.{declared.claims.Claim.{Claim}, Contents.{Entry, entry_of, claim_of, may_join}}
 use Rattle.sect_table.specs.Sound.{waiting_count}
 use Rattle.sect_table.specs.steps.Letting.{LettingIn}
 use Rattle.sect_table.proofs.Passing.{letting_on, letting_done, nobody_let, first_stopped, room_left}

@@ -1,6 +1,5 @@
 use Rattle.std.proofs.Common.{◌≡◌, ◌+◌, length, vec_len, vec_capacity}
-use Rattle.sect_table.specs.Contents.{entry_of}
-use Rattle.sect_table.specs.Sound.{waiting_count}
+use Rattle.sect_table.specs.{Contents.{entry_of}, Sound.{waiting_count}}
 use Rattle.sect_table.specs.steps.Letting.{LettingIn}
 use Rattle.sect_table.proofs.releases.let_in.Given as goal
 

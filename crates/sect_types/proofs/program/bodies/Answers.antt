@@ -1,7 +1,5 @@
 use Rattle.std.proofs.Common.{◌∙◌, [], subst, sym}
-use Rattle.sect_types.specs.Sight.{names_of_records}
-use Rattle.sect_types.specs.Items.{procedure_items, thread_items}
-use Rattle.sect_types.specs.Rules.{declared_in}
+use Rattle.sect_types.specs.{Sight.{names_of_records}, Items.{procedure_items, thread_items}, Rules.{declared_in}}
 use Rattle.sect_types.specs.steps.Capped.{HaveFewVariables}
 use Rattle.sect_types.proofs.ThreadLemmas.{first_fails, second_fails, handed_on, for_memory, few_variables}
 use Rattle.sect_types.proofs.program.bodies.Goals as goal

@@ -1,16 +1,10 @@
 use Rattle.std.proofs.Common.{◌≡◌, ap, sym, ◌∙◌, subst, length, map, true}
-use Rattle.sect_types.specs.Environments.{field_types, global_records}
+use Rattle.sect_types.specs.{Environments.{field_types, global_records}, Expanded.{texts_of, fresh_in}}
 use Rattle.std.specs.Prelude.{IsSome}
-use Rattle.sect_types.specs.Expanded.{texts_of, fresh_in}
-use Rattle.sect_types.specs.steps.Written.{written_texts}
-use Rattle.sect_types.specs.steps.Threads.{variables_fine}
-use Rattle.sect_types.specs.steps.FreshTypes.{local_types, all_fresh_known}
-use Rattle.sect_types.specs.steps.Expanding.{SettingView, AllFit, tree_of}
-use Rattle.sect_types.proofs.EndCounts.{fine_typed}
-use Rattle.sect_types.proofs.WrittenThreads.{typed_fits, typed_flat}
-use Rattle.sect_types.proofs.ByNumbers.{texts_written}
-use Rattle.sect_types.proofs.Readable.{texts_there}
-use Rattle.sect_types.proofs.FreshKnown.{all_fresh, types_are}
+use Rattle.sect_types.specs.steps.{Written.{written_texts}, Threads.{variables_fine}}
+use Rattle.sect_types.specs.steps.{FreshTypes.{local_types, all_fresh_known}, Expanding.{SettingView, AllFit, tree_of}}
+use Rattle.sect_types.proofs.{EndCounts.{fine_typed}, WrittenThreads.{typed_fits, typed_flat}}
+use Rattle.sect_types.proofs.{ByNumbers.{texts_written}, Readable.{texts_there}, FreshKnown.{all_fresh, types_are}}
 use Rattle.sect_types.proofs.ProgramLemmas.{well_numbered}
 use Rattle.sect_types.proofs.program.number_tree.Goals as goal
 

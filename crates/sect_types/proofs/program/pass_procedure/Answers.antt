@@ -1,6 +1,5 @@
 use Rattle.std.proofs.Common.{ap, Ok, Err, [], ◌∷◌, ℕ, length, refl}
-use Rattle.sect_types.specs.Rules.{declared_in}
-use Rattle.sect_types.specs.Items.{AProcedure, variables, local_items, block_items}
+use Rattle.sect_types.specs.{Rules.{declared_in}, Items.{AProcedure, variables, local_items, block_items}}
 use Rattle.sect_types.specs.declared.rules.place.Place.TheVariants.{InProcedure}
 use Rattle.sect_types.proofs.ThreadLemmas.{walks_body, walks_at, handed_on}
 use Rattle.sect_types.proofs.program.pass_procedure.Goals as goal

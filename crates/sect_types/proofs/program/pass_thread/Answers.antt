@@ -1,9 +1,7 @@
 use Rattle.std.proofs.Common.{Ok, Err, [], ◌∷◌, ℕ, List, ap, subst, ◌≡◌, false}
-use Rattle.sect_types.specs.Rules.{declared_in}
-use Rattle.sect_types.specs.steps.Judging.{judge}
-use Rattle.sect_types.specs.Items.{Item, AThread, local_items, block_items}
+use Rattle.sect_types.specs.{Rules.{declared_in}, Items.{Item, AThread, local_items, block_items}}
 use Rattle.sect_types.specs.declared.rules.place.Place.TheVariants.{InThread}
-use Rattle.sect_types.specs.steps.Standing.{StandingView}
+use Rattle.sect_types.specs.steps.{Judging.{judge}, Standing.{StandingView}}
 use Rattle.sect_types.proofs.ThreadLemmas.{walks_body, walks_at, walks_in, handed_on}
 use Rattle.sect_types.proofs.program.pass_thread.Goals as goal
 

@@ -1,8 +1,6 @@
 use Rattle.std.proofs.Common.{◌∙◌, [], ◌∷◌, ◌++◌, ◌+◌, drop, arith, ap, length}
-use Rattle.sect_front.specs.declared.tree.Procedure.{Procedure}
-use Rattle.sect_front.specs.Depth.{block_depth, procedures_depth}
-use Rattle.sect_types.specs.Rules.{declared_in}
-use Rattle.sect_types.specs.declared.rules.place.Place.TheVariants.{InProcedure}
+use Rattle.sect_front.specs.{declared.tree.Procedure.{Procedure}, Depth.{block_depth, procedures_depth}}
+use Rattle.sect_types.specs.{Rules.{declared_in}, declared.rules.place.Place.TheVariants.{InProcedure}}
 use Rattle.sect_types.specs.Items.{AProcedure, variables, local_items, block_items, procedure_items}
 use Rattle.sect_types.proofs.Records.{fault_after}
 use Rattle.sect_types.proofs.ThreadLemmas.{handed_on, procedure_more, procedure_fails, procedure_depth}

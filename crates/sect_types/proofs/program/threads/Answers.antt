@@ -1,8 +1,6 @@
 use Rattle.std.proofs.Common.{[], ◌∷◌, ◌++◌, ◌+◌, drop, arith, false, ap, sym, ◌∙◌, append-nil}
-use Rattle.sect_front.specs.declared.tree.Thread.{Thread}
-use Rattle.sect_front.specs.Depth.{block_depth, threads_depth}
-use Rattle.sect_types.specs.Rules.{declared_in}
-use Rattle.sect_types.specs.declared.rules.place.Place.TheVariants.{InThread}
+use Rattle.sect_front.specs.{declared.tree.Thread.{Thread}, Depth.{block_depth, threads_depth}}
+use Rattle.sect_types.specs.{Rules.{declared_in}, declared.rules.place.Place.TheVariants.{InThread}}
 use Rattle.sect_types.specs.Items.{AThread, local_items, block_items, thread_items}
 use Rattle.sect_types.proofs.Records.{fault_after}
 use Rattle.sect_types.proofs.ThreadLemmas.{handed_on, thread_more, thread_fails, thread_depth, threads_done}

@@ -1,9 +1,7 @@
 use Rattle.std.proofs.Common.{◌∙◌, ap}
-use Rattle.sect_types.specs.Rules.{declared_in}
-use Rattle.sect_types.specs.Items.{variables}
+use Rattle.sect_types.specs.{Rules.{declared_in}, Items.{variables}}
 use Rattle.sect_types.specs.declared.rules.place.Place.TheVariants.{InProcedure}
-use Rattle.sect_types.specs.steps.Standing.{StandingView}
-use Rattle.sect_types.specs.steps.Threads.{VariablesView}
+use Rattle.sect_types.specs.steps.{Standing.{StandingView}, Threads.{VariablesView}}
 use Rattle.sect_types.proofs.ThreadLemmas.{walks_at, walks_in}
 use Rattle.sect_types.proofs.program.walk_procedure.Goals as goal
 

@@ -1,7 +1,6 @@
 use Rattle.std.proofs.Common.{◌≡◌, ◌<◌, [], Some, None, length, sym, ap, ◌∙◌, subst}
-use Rattle.std.specs.Prelude.{slice_get, slice_index_or}
-use Rattle.std.specs.String.{string_bytes}
 use Rattle.std.proofs.lemmas.Option.{slice_get-get_or, get_or_from_slice_get}
+use Rattle.std.specs.{Prelude.{slice_get, slice_index_or}, String.{string_bytes}}
 use Rattle.sect_lemmas.proofs.Options.{some_injective}
 use Rattle.sect_graph.specs.Layout.{flow_nodes}
 use Rattle.sect_emit.specs.Explaining.{section_at}

@@ -1,5 +1,4 @@
-use Rattle.std.proofs.Common.{◌≡◌, Some, ap, ◌∙◌, length, refl}
-use Rattle.std.proofs.lemmas.Option.{slice_get_read}
+use Rattle.std.proofs.{Common.{◌≡◌, Some, ap, ◌∙◌, length, refl}, lemmas.Option.{slice_get_read}}
 use Rattle.sect_warnings.specs.ClassLocks.{class_lock}
 use Rattle.sect_warnings.proofs.Searching.{place_within}
 use Rattle.sect_warnings.proofs.class_mark.number_in.Goals as goal

@@ -1,5 +1,4 @@
-use Rattle.std.proofs.Common.{◌<◌, sym, ◌∙◌, subst}
-use Rattle.std.proofs.lemmas.Option.{slice_get_within, get_or_from_slice_get}
+use Rattle.std.proofs.{Common.{◌<◌, sym, ◌∙◌, subst}, lemmas.Option.{slice_get_within, get_or_from_slice_get}}
 use Rattle.sect_emit.specs.Words.{IsChainNamed}
 use Rattle.sect_warnings.specs.ClassLocks.{class_lock, IsReason}
 use Rattle.sect_warnings.proofs.ClassMarks.{kept_reason}

@@ -4,9 +4,7 @@ use Rattle.sect_lemmas.proofs.Membership.{Has-get_or}
 use Rattle.sect_types.specs.Sections.{sections_of}
 use Rattle.sect_places.specs.NameSpans.{AreNameSpans}
 use Rattle.sect_conflicts.proofs.shared.Selecting.{selected}
-use Rattle.sect_warnings.specs.Warnings.{IsDue, to_section}
-use Rattle.sect_warnings.specs.Reports.{ArePlaced, AreWithin}
-use Rattle.sect_warnings.specs.Spares.{AreSpares}
+use Rattle.sect_warnings.specs.{Warnings.{IsDue, to_section}, Reports.{ArePlaced, AreWithin}, Spares.{AreSpares}}
 use Rattle.sect_warnings.proofs.Sparing.{with_spares}
 use Rattle.sect_warnings.proofs.format.placed_warnings.Goals as goal
 

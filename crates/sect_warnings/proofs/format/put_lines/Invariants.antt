@@ -1,6 +1,5 @@
 use Rattle.std.proofs.Common.{◌≡◌, ◌++◌, take}
-use Rattle.std.specs.List.{flat_map}
-use Rattle.std.specs.String.{string_bytes}
+use Rattle.std.specs.{List.{flat_map}, String.{string_bytes}}
 use Rattle.sect_warnings.specs.Formats.{json_line}
 use Rattle.sect_warnings.proofs.format.put_lines.Given as goal
 

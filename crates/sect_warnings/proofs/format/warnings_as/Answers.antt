@@ -1,5 +1,4 @@
-use Rattle.std.proofs.Common.{ap, ◌∙◌}
-use Rattle.std.proofs.lemmas.Result.{IfOk-weaker}
+use Rattle.std.proofs.{Common.{ap, ◌∙◌}, lemmas.Result.{IfOk-weaker}}
 use Rattle.sect_warnings.specs.Formats.{printed}
 use Rattle.sect_warnings.proofs.format.warnings_as.Goals as goal
 

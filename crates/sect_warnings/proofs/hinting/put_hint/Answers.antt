@@ -1,12 +1,12 @@
 use Rattle.std.proofs.Common.{◌≡◌, Some, length, get_or, refl, sym, ◌∙◌, ap, subst, arith}
-use Rattle.std.specs.Prelude.{slice_get}
 use Rattle.std.proofs.lemmas.Option.{slice_get-get_or}
+use Rattle.std.specs.Prelude.{slice_get}
 use Rattle.sect_front.specs.TreeView.{TreeView}
 use Rattle.sect_types.specs.Programs.{ProgramView}
-use Rattle.sect_names.specs.Printing.{global_name}
-use Rattle.sect_names.specs.Schemes.{SchemeView}
+use Rattle.sect_names.specs.{Printing.{global_name}, Schemes.{SchemeView}}
 use Rattle.sect_warnings.specs.ClassLocks.{class_lock}
-use Rattle.sect_warnings.specs.Hinting.{name_of_record, record_name, declared_by, guard_for, IsTried, IsHintOf, IsHintSaid}
+use Rattle.sect_warnings.specs.Hinting.{name_of_record, record_name, declared_by, guard_for, IsTried, IsHintOf}
+use Rattle.sect_warnings.specs.Hinting.{IsHintSaid}
 use Rattle.sect_warnings.proofs.Hints.{name_within}
 use Rattle.sect_warnings.proofs.hinting.put_hint.Goals as goal
 

@@ -1,7 +1,6 @@
 use Rattle.std.proofs.Common.{sym, ◌∙◌, true≢false}
 use Rattle.sect_conflicts.proofs.shared.Selecting.{adds_none}
-use Rattle.sect_warnings.specs.declared.warning.Finding.TheVariants.{AllForOne}
-use Rattle.sect_warnings.specs.Warnings.{IsDue, warning}
+use Rattle.sect_warnings.specs.{declared.warning.Finding.TheVariants.{AllForOne}, Warnings.{IsDue, warning}}
 use Rattle.sect_warnings.proofs.judge.add_all_for_one.Goals as goal
 
 pub returns-else-branch : goal.returns-else-branch

@@ -1,6 +1,5 @@
-use Rattle.std.proofs.Common.{◌≡◌, [], ◌++◌, sym, ap, ◌∙◌}
+use Rattle.std.proofs.{Common.{◌≡◌, [], ◌++◌, sym, ap, ◌∙◌}, lemmas.Option.{get_or_from_slice_get}}
 use Rattle.std.specs.List.{flat_map}
-use Rattle.std.proofs.lemmas.Option.{get_or_from_slice_get}
 use Rattle.sect_conflicts.specs.Conflicts.{set_at}
 use Rattle.sect_warnings.specs.Warnings.{class_at}
 use Rattle.sect_warnings.proofs.Judging.{adds_classes}

@@ -1,9 +1,7 @@
-use Rattle.std.proofs.Common.{rules, ◌≡◌, [], sym, ◌∙◌, true≢false}
-use Rattle.std.proofs.lemmas.Option.{get_or_from_slice_get}
+use Rattle.std.proofs.{Common.{rules, ◌≡◌, [], sym, ◌∙◌, true≢false}, lemmas.Option.{get_or_from_slice_get}}
 use Rattle.sect_conflicts.specs.Conflicts.{set_at}
 use Rattle.sect_conflicts.proofs.shared.Selecting.{adds_one, adds_none}
-use Rattle.sect_warnings.specs.declared.warning.Finding.TheVariants.{NoLock}
-use Rattle.sect_warnings.specs.Warnings.{IsDue, warning}
+use Rattle.sect_warnings.specs.{declared.warning.Finding.TheVariants.{NoLock}, Warnings.{IsDue, warning}}
 use Rattle.sect_warnings.proofs.judge.add_lockless.Goals as goal
 
 pub returns-in_ok-push : goal.returns-in_ok-push

@@ -1,6 +1,5 @@
 use Rattle.std.proofs.Common.{◌≡◌, Some, sym, ◌∙◌, true≢false}
-use Rattle.sect_warnings.specs.declared.warning.Finding.TheVariants.{NeverFilled}
-use Rattle.sect_warnings.specs.Warnings.{IsDue, warning, through}
+use Rattle.sect_warnings.specs.{declared.warning.Finding.TheVariants.{NeverFilled}, Warnings.{IsDue, warning, through}}
 use Rattle.sect_conflicts.proofs.shared.Selecting.{adds_none}
 use Rattle.sect_warnings.proofs.judge.add_node.Goals as goal
 

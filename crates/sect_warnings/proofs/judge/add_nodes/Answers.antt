@@ -1,8 +1,6 @@
-use Rattle.std.proofs.Common.{◌≡◌, Some, None, length, ap, subst, arith, slice_get}
+use Rattle.std.proofs.{Common.{◌≡◌, Some, None, length, ap, subst, arith, slice_get}, lemmas.Option.{slice_get-get_or}}
 use Rattle.std.specs.Prelude.{option_map}
-use Rattle.std.proofs.lemmas.Option.{slice_get-get_or}
-use Rattle.sect_graph.specs.declared.flow.Node.{Node}
-use Rattle.sect_graph.specs.Layout.{flow_nodes}
+use Rattle.sect_graph.specs.{declared.flow.Node.{Node}, Layout.{flow_nodes}}
 use Rattle.sect_emit.specs.Explaining.{section_at}
 use Rattle.sect_conflicts.specs.Selecting.{Adds}
 use Rattle.sect_warnings.specs.Warnings.{IsDue, to_node}

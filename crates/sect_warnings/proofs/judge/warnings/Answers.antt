@@ -1,11 +1,9 @@
 use Rattle.std.proofs.Common.{◌≡◌, ◌≤◌, [], length, refl, sym, ap, ◌∙◌, arith, get_or}
-use Rattle.std.specs.Prelude.{All, slice_index_or}
 use Rattle.std.proofs.lemmas.Option.{slice_get_read, get_or_from_slice_get}
+use Rattle.std.specs.Prelude.{All, slice_index_or}
 use Rattle.sect_lemmas.proofs.Membership.{Has-get_or}
-use Rattle.sect_types.specs.Items.{items}
-use Rattle.sect_types.specs.Sections.{sections_of}
-use Rattle.sect_places.specs.NodeOrigins.{AreOrigins}
-use Rattle.sect_places.specs.SectionItems.{section_items_of, IsAtomicItem}
+use Rattle.sect_types.specs.{Items.{items}, Sections.{sections_of}}
+use Rattle.sect_places.specs.{NodeOrigins.{AreOrigins}, SectionItems.{section_items_of, IsAtomicItem}}
 use Rattle.sect_conflicts.proofs.shared.Selecting.{selected, adds_all}
 use Rattle.sect_warnings.specs.Warnings.{IsDue, to_section}
 use Rattle.sect_warnings.proofs.Judging.{origins_many, origins_within, item_within, all_within, next_section}

@@ -1,8 +1,8 @@
 use Rattle.std.proofs.Common.{◌≡◌, Some, sym, ap, ◌∙◌, true≢false}
 use Rattle.std.specs.Prelude.{slice_get}
-use Rattle.sect_front.specs.declared.tree.Locking.TheVariants as locking
 use Rattle.sect_infer.specs.Sets.{AreUnmarkedAt}
 use Rattle.sect_warnings.proofs.Marking.{end_by, unmarked_not, one_exactly}
+use Rattle.sect_front.specs.declared.tree.Locking.TheVariants as locking
 use Rattle.sect_warnings.proofs.marked.takes_all_for_one.Goals as goal
 
 pub returns-in-Inferred : goal.returns-in-Inferred

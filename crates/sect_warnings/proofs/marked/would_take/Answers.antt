@@ -1,6 +1,5 @@
-use Rattle.std.proofs.Common.{rules, ◌≡◌, ◌++◌, [], ◌∷◌, ap, ◌∙◌}
+use Rattle.std.proofs.{Common.{rules, ◌≡◌, ◌++◌, [], ◌∷◌, ap, ◌∙◌}, lemmas.List.{append-nil}}
 use Rattle.std.specs.String.{string_bytes}
-use Rattle.std.proofs.lemmas.List.{append-nil}
 use Rattle.sect_names.specs.Printing.{lock_text}
 use Rattle.sect_infer.specs.Sets.{AreUnmarkedAt}
 use Rattle.sect_warnings.proofs.Marking.{due_there, due_marked, due_one, only, one_due, unmarked_named}

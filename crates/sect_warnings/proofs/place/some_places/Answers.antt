@@ -1,13 +1,10 @@
 use Rattle.std.proofs.Common.{◌≡◌, ◌<◌, get_or, length, refl, sym, subst, arith}
-use Rattle.std.specs.List.{AllZip}
-use Rattle.std.specs.String.{string_bytes}
 use Rattle.std.proofs.lemmas.List.{get_or_default, take_all}
+use Rattle.std.specs.{List.{AllZip}, String.{string_bytes}}
 use Rattle.sect_lemmas.proofs.Places.{zip_more}
 use Rattle.sect_types.specs.Items.{items}
 use Rattle.sect_places.specs.Ranges.{AreAmong}
-use Rattle.sect_warnings.specs.declared.warning.Finding.TheVariants.{NoLock}
-use Rattle.sect_warnings.specs.Labels.{IsMarkOf}
-use Rattle.sect_warnings.specs.Marks.{MarkView}
+use Rattle.sect_warnings.specs.{declared.warning.Finding.TheVariants.{NoLock}, Labels.{IsMarkOf}, Marks.{MarkView}}
 use Rattle.sect_warnings.proofs.Placing.{IsPut, all_placed, within}
 use Rattle.sect_warnings.proofs.place.some_places.Goals as goal
 

@@ -1,6 +1,5 @@
 use Rattle.std.proofs.Common.{take}
-use Rattle.std.specs.Prelude.{IfSome}
-use Rattle.std.specs.List.{AllZip}
+use Rattle.std.specs.{Prelude.{IfSome}, List.{AllZip}}
 use Rattle.sect_emit.specs.Compiled.{IsCompiledFrom}
 use Rattle.sect_warnings.specs.steps.Reasons.{AreReasons}
 use Rattle.sect_warnings.proofs.Placing.{IsPut}

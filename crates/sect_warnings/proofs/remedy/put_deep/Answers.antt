@@ -1,5 +1,4 @@
-use Rattle.std.proofs.Common.{◌≡◌, ◌++◌, refl, sym, ◌∙◌, ap, inl, inr, arith, codes}
-use Rattle.std.proofs.lemmas.List.{append_assoc}
+use Rattle.std.proofs.{Common.{◌≡◌, ◌++◌, refl, sym, ◌∙◌, ap, inl, inr, arith, codes}, lemmas.List.{append_assoc}}
 use Rattle.std.specs.String.{string_bytes}
 use Rattle.sect_warnings.proofs.remedy.put_deep.Goals as goal
 

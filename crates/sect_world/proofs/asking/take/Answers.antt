@@ -1,6 +1,5 @@
 -- The thread is there.
-use Rattle.std.proofs.Common.{◌≡◌, ap, ◌∙◌, arith}
-use Rattle.std.proofs.lemmas.Option.{slice_get_within, get_or_from_slice_get}
+use Rattle.std.proofs.{Common.{◌≡◌, ap, ◌∙◌, arith}, lemmas.Option.{slice_get_within, get_or_from_slice_get}}
 use Rattle.sect_lemmas.proofs.Changed.{set_changed}
 use Rattle.sect_world.specs.declared.runner.Runner.{Runner}
 use Rattle.sect_world.specs.steps.Taking.{advanced}

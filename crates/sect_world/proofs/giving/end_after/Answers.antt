@@ -2,9 +2,8 @@
 use Rattle.std.proofs.Common.{◌<◌, ◌≤◌, Some, None, length, sym, ap, ◌∙◌, subst, arith}
 use Rattle.std.specs.Prelude.{slice_get}
 use Rattle.sect_types.specs.declared.meaning.store.End.TheVariants.{Done}
-use Rattle.sect_graph.specs.Graphs.{GraphView}
+use Rattle.sect_graph.specs.{Graphs.{GraphView}, Rests.{rest_at}}
 use Rattle.sect_names.specs.Schemes.{SchemeView}
-use Rattle.sect_graph.specs.Rests.{rest_at}
 use Rattle.sect_world.specs.Viewing.{EndsSo, text_at}
 use Rattle.sect_world.proofs.Opening.{ends_on, ends_off}
 use Rattle.sect_world.proofs.giving.end_after.Goals as goal

@@ -1,6 +1,5 @@
 -- A release brings no more grants than there are threads.
-use Rattle.std.proofs.Common.{length, ap, ◌∙◌, arith}
-use Rattle.std.proofs.Common.{length-append}
+use Rattle.std.proofs.Common.{length, ap, ◌∙◌, arith, length-append}
 use Rattle.sect_world.proofs.Leaving.{length-released}
 use Rattle.sect_world.proofs.giving.give_back.Goals as goal
 

@@ -1,9 +1,7 @@
 -- The next grant is the first of those that are left.
-use Rattle.std.proofs.Common.{◌+◌, length, sym, ap, ◌∙◌, subst, arith, ◌++◌, drop, append_assoc}
-use Rattle.std.proofs.Common.{length-append}
+use Rattle.std.proofs.Common.{◌+◌, length, sym, ap, ◌∙◌, subst, arith, ◌++◌, drop, append_assoc, length-append}
 use Rattle.std.proofs.lemmas.List.{drop_more}
-use Rattle.sect_world.specs.steps.Fits.{takes}
-use Rattle.sect_world.specs.steps.Taking.{CanAdvance, all_advanced, takers}
+use Rattle.sect_world.specs.steps.{Fits.{takes}, Taking.{CanAdvance, all_advanced, takers}}
 use Rattle.sect_world.proofs.giving.take_grants.Goals as goal
 
 pub take-requires-clause-thread : goal.take-requires-clause-thread

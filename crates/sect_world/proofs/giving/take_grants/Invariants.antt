@@ -1,7 +1,6 @@
 -- What the loop keeps.
 use Rattle.std.proofs.Common.{◌≡◌, ◌+◌, ◌-◌, ◌≤◌, ◌++◌, drop, length, vec_len, vec_capacity}
-use Rattle.sect_world.specs.steps.Fits.{takes}
-use Rattle.sect_world.specs.steps.Taking.{CanAdvance, all_advanced, takers}
+use Rattle.sect_world.specs.steps.{Fits.{takes}, Taking.{CanAdvance, all_advanced, takers}}
 use Rattle.sect_world.proofs.giving.take_grants.Given as goal
 
 abbrev pub invariant-loop-grant : goal.invariant-loop-grant

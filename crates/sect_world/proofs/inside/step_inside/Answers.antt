@@ -1,18 +1,14 @@
 use Rattle.std.proofs.Common.{◌≡◌, true, sym, ap, ◌∙◌, slice_get, Some}
 use Rattle.sect_types.specs.Meaning.{begins_step}
 use Rattle.sect_lemmas.proofs.Places.{at_of}
-use Rattle.sect_graph.specs.declared.flow.Node.{Node}
-use Rattle.sect_graph.specs.Graphs.{GraphView}
-use Rattle.sect_graph.specs.Rests.{Begins, rest_at}
+use Rattle.sect_graph.specs.{declared.flow.Node.{Node}, Graphs.{GraphView}, Rests.{Begins, rest_at}}
 use Rattle.sect_names.specs.Schemes.{SchemeView}
 use Rattle.sect_table.specs.Contents.{held_by}
-use Rattle.sect_world.specs.declared.runner.Phase.{Phase}
-use Rattle.sect_world.specs.Events.{step_in}
-use Rattle.sect_world.specs.Viewing.{body_at, thread_of}
+use Rattle.sect_world.specs.{declared.runner.Phase.{Phase}, Events.{step_in}, Viewing.{body_at, thread_of}}
 use Rattle.sect_world.specs.steps.Moves.{grips_by}
 use Rattle.sect_world.proofs.NodeSteps.{inside_step, step_label, stage_by, acted, acted_store, more_held}
-use Rattle.sect_world.proofs.inside.step_inside.Goals as goal
 use Rattle.sect_world.proofs.inside.step_inside.Goals.{After-section-flow, in-Ok, in-Err}
+use Rattle.sect_world.proofs.inside.step_inside.Goals as goal
 
 -- the graph is the section's
 graph_at : (c : After-section-flow)

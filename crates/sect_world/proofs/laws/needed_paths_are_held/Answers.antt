@@ -1,5 +1,4 @@
-use Rattle.sect_world.proofs.GoodStates.{event_leaves}
-use Rattle.sect_world.proofs.GoodRuns.{runs_are_good, needed_beginnings_are_held}
+use Rattle.sect_world.proofs.{GoodStates.{event_leaves}, GoodRuns.{runs_are_good, needed_beginnings_are_held}}
 use Rattle.sect_world.proofs.laws.needed_paths_are_held.Goals as goal
 
 pub returns-clause-classes : goal.returns-clause-classes

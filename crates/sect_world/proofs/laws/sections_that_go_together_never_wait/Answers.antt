@@ -1,5 +1,4 @@
-use Rattle.sect_world.proofs.OwnObjects.{held_never_wait}
-use Rattle.sect_world.proofs.Together.{together_never_wait}
+use Rattle.sect_world.proofs.{OwnObjects.{held_never_wait}, Together.{together_never_wait}}
 use Rattle.sect_world.proofs.laws.sections_that_go_together_never_wait.Goals as goal
 
 pub returns-clause-taken : goal.returns-clause-taken

@@ -1,6 +1,4 @@
-use Rattle.sect_world.proofs.KeptStates.{runs_are_well_kept}
-use Rattle.sect_world.proofs.GoodStates.{event_keeps}
-use Rattle.sect_world.proofs.GoodRuns.{runs_are_good}
+use Rattle.sect_world.proofs.{KeptStates.{runs_are_well_kept}, GoodStates.{event_keeps}, GoodRuns.{runs_are_good}}
 use Rattle.sect_world.proofs.laws.states_are_well_kept.Goals as goal
 
 pub returns-clause-kept : goal.returns-clause-kept

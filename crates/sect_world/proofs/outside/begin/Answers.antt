@@ -1,8 +1,6 @@
 use Rattle.std.proofs.Common.{◌≡◌, sym, ap, ◌∙◌, subst, slice_get, Some}
 use Rattle.sect_lemmas.proofs.Places.{at_of, told_of}
-use Rattle.sect_graph.specs.declared.flow.Node.{Node}
-use Rattle.sect_graph.specs.Graphs.{GraphView}
-use Rattle.sect_graph.specs.Rests.{Begins, rest_at}
+use Rattle.sect_graph.specs.{declared.flow.Node.{Node}, Graphs.{GraphView}, Rests.{Begins, rest_at}}
 use Rattle.sect_names.specs.Schemes.{SchemeView}
 use Rattle.sect_world.specs.Viewing.{text_at}
 use Rattle.sect_world.proofs.NodeSteps.{thread_graph, after_node}

@@ -1,7 +1,6 @@
 use Rattle.std.proofs.Common.{arith, [], ◌∷◌, ◌∙◌}
 use Rattle.sect_table.specs.Contents.{held_by}
-use Rattle.sect_world.proofs.Meeting.{unmet, met_by}
-use Rattle.sect_world.proofs.Wishing.{and_true}
+use Rattle.sect_world.proofs.{Meeting.{unmet, met_by}, Wishing.{and_true}}
 use Rattle.sect_world.proofs.outside.has.Goals as goal
 
 pub returns-in-None : goal.returns-in-None

@@ -1,5 +1,4 @@
-use Rattle.std.proofs.Common.{[], get_or, refl, sym, ap, ◌∙◌, ◌&&◌}
-use Rattle.std.proofs.lemmas.Option.{get_or_from_slice_get}
+use Rattle.std.proofs.{Common.{[], get_or, refl, sym, ap, ◌∙◌, ◌&&◌}, lemmas.Option.{get_or_from_slice_get}}
 use Rattle.sect_table.specs.Contents.{held_by}
 use Rattle.sect_emit.specs.Plan.{meets, object_wishes}
 use Rattle.sect_world.specs.Waiting.{grips}

@@ -1,8 +1,7 @@
 use Rattle.std.proofs.Common.{◌≡◌, sym, ap, ◌∙◌, slice_get, Some}
 use Rattle.sect_types.specs.Programs.{environment_at}
 use Rattle.sect_lemmas.proofs.Places.{at_of}
-use Rattle.sect_graph.specs.Graphs.{GraphView}
-use Rattle.sect_graph.specs.Rests.{rest_at}
+use Rattle.sect_graph.specs.{Graphs.{GraphView}, Rests.{rest_at}}
 use Rattle.sect_names.specs.Schemes.{SchemeView}
 use Rattle.sect_emit.specs.Compiled.{program_of}
 use Rattle.sect_world.specs.Viewing.{text_at}

@@ -1,6 +1,5 @@
 use Rattle.std.proofs.Common.{◌≡◌, ◌<◌, ◌≤◌, sym, ap, ◌∙◌, slice_get, Some, length, arith}
-use Rattle.sect_graph.specs.Graphs.{GraphView}
-use Rattle.sect_graph.specs.Rests.{rest_at}
+use Rattle.sect_graph.specs.{Graphs.{GraphView}, Rests.{rest_at}}
 use Rattle.sect_names.specs.Schemes.{SchemeView}
 use Rattle.sect_world.specs.Viewing.{text_at}
 use Rattle.sect_world.proofs.NodeSteps.{at_exit, before_exit, settled_at_exit}

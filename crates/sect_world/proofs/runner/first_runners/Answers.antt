@@ -1,6 +1,5 @@
 -- The next thread is the one of the next number.
-use Rattle.std.proofs.Common.{ℕ, length, sym, ap, ◌∙◌, subst, arith}
-use Rattle.std.proofs.Common.{length-append}
+use Rattle.std.proofs.Common.{ℕ, length, sym, ap, ◌∙◌, subst, arith, length-append}
 use Rattle.sect_world.specs.Viewing.{IsFirst, AreFirst}
 use Rattle.sect_world.proofs.Opening.{each_more}
 use Rattle.sect_world.proofs.runner.first_runners.Goals as goal

@@ -1,6 +1,5 @@
 -- The trace has grown by the events of the turn.
-use Rattle.std.proofs.Common.{◌<◌, length, ap, ◌∙◌, subst, arith}
-use Rattle.std.proofs.Common.{length-append}
+use Rattle.std.proofs.Common.{◌<◌, length, ap, ◌∙◌, subst, arith, length-append}
 use Rattle.sect_world.specs.Worlds.{IsRefused}
 use Rattle.sect_world.proofs.KeptStates.{runs_are_well_kept}
 use Rattle.sect_world.proofs.schedule.counted_turn.Goals as goal

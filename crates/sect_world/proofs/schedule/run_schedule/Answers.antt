@@ -1,6 +1,5 @@
 -- The turns so far are those of a beginning of the schedule.
-use Rattle.std.proofs.Common.{◌≤◌, take, get_or, length, sym, ap, ◌∙◌, subst, arith}
-use Rattle.std.proofs.Common.{length-append}
+use Rattle.std.proofs.Common.{◌≤◌, take, get_or, length, sym, ap, ◌∙◌, subst, arith, length-append}
 use Rattle.std.proofs.lemmas.List.{take_all, take_more}
 use Rattle.sect_emit.specs.Compiled.{program_of}
 use Rattle.sect_world.specs.Worlds.{IsRefused}

@@ -1,6 +1,5 @@
 use Rattle.std.proofs.Common.{◌∙◌, length, sym, ap, arith}
-use Rattle.std.specs.Prelude.{slice_get}
-use Rattle.std.specs.Option.{option_map}
+use Rattle.std.specs.{Prelude.{slice_get}, Option.{option_map}}
 use Rattle.sect_cert.specs.declared.certificate.CertStep.{CertStep}
 use Rattle.sect_cert.proofs.SteppingLemmas.{length_stepped, lock_at}
 use Rattle.sect_cert.proofs.chain_steps.ChainSteps.lock.Goals as goal

@@ -1,7 +1,5 @@
-use Rattle.std.proofs.Common.{◌∙◌, length, refl, sym, ap, arith}
-use Rattle.std.specs.Prelude.{slice_get}
-use Rattle.std.specs.Option.{option_map}
-use Rattle.std.proofs.lemmas.Option.{slice_get_read}
+use Rattle.std.proofs.{Common.{◌∙◌, length, refl, sym, ap, arith}, lemmas.Option.{slice_get_read}}
+use Rattle.std.specs.{Prelude.{slice_get}, Option.{option_map}}
 use Rattle.sect_cert.specs.declared.certificate.CertStep.{CertStep}
 use Rattle.sect_cert.proofs.SteppingLemmas.{length_stepped, node_at}
 use Rattle.sect_cert.proofs.chain_steps.ChainSteps.node.Goals as goal

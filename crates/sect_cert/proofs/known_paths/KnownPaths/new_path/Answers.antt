@@ -1,9 +1,7 @@
-use Rattle.std.proofs.Common.{◌≡◌, ◌∙◌, Some, sym, ap, subst, nat_eq}
+use Rattle.std.proofs.{Common.{◌≡◌, ◌∙◌, Some, sym, ap, subst, nat_eq}, lemmas.Bool.Decides.{Decides-eqb}}
 use Rattle.std.specs.Cmp.Lexicographic.{pointwise, pointwise_decides}
-use Rattle.std.proofs.lemmas.Bool.Decides.{Decides-eqb}
 use Rattle.sect_cert.proofs.KnownLemmas.{read_more}
-use Rattle.sect_cert.specs.steps.Known.{AreRead}
-use Rattle.sect_cert.specs.steps.Subjects.{path_of}
+use Rattle.sect_cert.specs.steps.{Known.{AreRead}, Subjects.{path_of}}
 use Rattle.sect_cert.proofs.known_paths.KnownPaths.new_path.Goals as goal
 
 pub invariant_of-self-2 : goal.invariant_of-self-2

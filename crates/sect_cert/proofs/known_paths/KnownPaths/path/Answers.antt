@@ -1,6 +1,5 @@
-use Rattle.std.proofs.Common.{◌∙◌, Some, sym, ap, nat_eq}
+use Rattle.std.proofs.{Common.{◌∙◌, Some, sym, ap, nat_eq}, lemmas.Bool.Decides.{Decides-eqb}}
 use Rattle.std.specs.Cmp.Lexicographic.{pointwise, pointwise_decides}
-use Rattle.std.proofs.lemmas.Bool.Decides.{Decides-eqb}
 use Rattle.sect_cert.proofs.KnownLemmas.{read_there}
 use Rattle.sect_cert.proofs.known_paths.KnownPaths.path.Goals as goal
 

@@ -1,6 +1,5 @@
-use Rattle.std.proofs.Common.{◌<◌, ◌∙◌, length, refl, sym, ap, arith}
+use Rattle.std.proofs.{Common.{◌<◌, ◌∙◌, length, refl, sym, ap, arith}, lemmas.Option.{slice_get_read}}
 use Rattle.std.specs.Prelude.{slice_get}
-use Rattle.std.proofs.lemmas.Option.{slice_get_read}
 use Rattle.sect_check.proofs.Claimed.{length_linked, link_at}
 use Rattle.sect_check.proofs.claimed_links.ClaimedLinks.at.Goals as goal
 

@@ -1,9 +1,7 @@
 use Rattle.std.proofs.Common.{length, sym, ap, ◌∙◌, arith}
-use Rattle.std.specs.Prelude.{slice_get}
-use Rattle.std.specs.Option.{option_map}
+use Rattle.std.specs.{Prelude.{slice_get}, Option.{option_map}}
 use Rattle.sect_lemmas.proofs.Options.{some_injective}
-use Rattle.sect_names.specs.declared.link.Link.{Link}
-use Rattle.sect_names.specs.declared.lock.Lock.{Lock}
+use Rattle.sect_names.specs.{declared.link.Link.{Link}, declared.lock.Lock.{Lock}}
 use Rattle.sect_check.proofs.Claimed.{length_linked, lock_at}
 use Rattle.sect_check.proofs.claimed_links.ClaimedLinks.is_one.Goals as goal
 

@@ -1,6 +1,5 @@
 use Rattle.std.proofs.Common.{None, sym, ap, subst, ◌∙◌}
-use Rattle.sect_types.specs.First.{IsTyped}
-use Rattle.sect_types.specs.Programs.{ProgramView}
+use Rattle.sect_types.specs.{First.{IsTyped}, Programs.{ProgramView}}
 use Rattle.sect_types.specs.declared.declarations.local_name.LocalName.{LocalName}
 use Rattle.sect_check.specs.Names.{local_named}
 use Rattle.sect_check.specs.steps.Resolving.{NamingView}

@@ -1,16 +1,11 @@
 use Rattle.std.proofs.Common.{◌≡◌, subst}
-use Rattle.sect_types.specs.First.{IsTyped}
-use Rattle.sect_types.specs.Programs.{ProgramView, IsOfTree}
-use Rattle.sect_types.specs.Sound.{AreSound}
+use Rattle.sect_types.specs.{First.{IsTyped}, Programs.{ProgramView, IsOfTree}, Sound.{AreSound}}
 use Rattle.sect_check.specs.Valid.{IsValid}
-use Rattle.sect_emit.specs.Certificates.{IsCertificateOf}
-use Rattle.sect_emit.specs.Compiled.{CompiledView}
+use Rattle.sect_emit.specs.{Certificates.{IsCertificateOf}, Compiled.{CompiledView}}
 use Rattle.sect_emit.specs.steps.Spelled.{IsSpelled}
 use Rattle.sect_lemmas.proofs.Results.{if_ok}
-use Rattle.sect_emit.proofs.Spelling.{if_ok_both}
+use Rattle.sect_emit.proofs.{Spelling.{if_ok_both}, OneCertificate.{certificate_one}, Wholes.{is_certificate}}
 use Rattle.sect_cert.specs.declared.certificate.Cert.{Cert}
-use Rattle.sect_emit.proofs.OneCertificate.{certificate_one}
-use Rattle.sect_emit.proofs.Wholes.{is_certificate}
 use Rattle.sect_emit.proofs.compiled.Compiled.certificate.Goals as goal
 
 pub returns-clause-certificate : goal.returns-clause-certificate

@@ -2,8 +2,7 @@ use Rattle.std.proofs.Common.{◌≡◌, subst}
 use Rattle.std.specs.Prelude.{List, Some, IfOk, slice_get}
 use Rattle.sect_types.specs.Sections.{SectionView, sections_of}
 use Rattle.sect_graph.specs.declared.flow.Node.{Node}
-use Rattle.sect_names.specs.declared.lock.Lock.{Lock}
-use Rattle.sect_names.specs.Needed.{end_of}
+use Rattle.sect_names.specs.{declared.lock.Lock.{Lock}, Needed.{end_of}}
 use Rattle.sect_chains.specs.Chains.{AreChains}
 use Rattle.sect_emit.specs.Compiled.{CompiledView}
 use Rattle.sect_emit.proofs.Wholes.{entry_at, kept_at}

@@ -1,6 +1,5 @@
 use Rattle.std.proofs.Common.{subst}
-use Rattle.sect_types.specs.First.{IsTyped}
-use Rattle.sect_types.specs.Programs.{ProgramView, IsOfTree}
+use Rattle.sect_types.specs.{First.{IsTyped}, Programs.{ProgramView, IsOfTree}}
 use Rattle.sect_emit.specs.Compiled.{IsCompiled, AreSetsLeast}
 use Rattle.sect_emit.proofs.Wholes.{compiled, sets_least}
 use Rattle.sect_emit.proofs.compiled.Compiled.facts.Goals as goal

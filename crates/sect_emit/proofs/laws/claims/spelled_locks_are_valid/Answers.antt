@@ -1,5 +1,4 @@
-use Rattle.sect_emit.proofs.Chained.{section_lawful}
-use Rattle.sect_emit.proofs.Certifying.{certified}
+use Rattle.sect_emit.proofs.{Chained.{section_lawful}, Certifying.{certified}}
 use Rattle.sect_emit.proofs.laws.claims.spelled_locks_are_valid.Goals as goal
 
 pub returns : goal.returns

@@ -1,8 +1,7 @@
 use Rattle.std.proofs.Common.{◌≡◌, true, List, [], ◌∷◌, ◌++◌, ℕ, get_or, take, refl, sym, ap, ◌∙◌}
-use Rattle.std.proofs.lemmas.List.{take_more}
-use Rattle.std.proofs.lemmas.Str.Ascii.{encode_ascii}
-use Rattle.std.specs.Char.{encode_utf8}
+use Rattle.std.proofs.{lemmas.List.{take_more}, lemmas.Str.Ascii.{encode_ascii}}
 use Rattle.std.proofs.Output.{has_written_append, has_written_of_eq}
+use Rattle.std.specs.Char.{encode_utf8}
 use Rattle.sect_front.proofs.NamesLemmas.{name_small}
 use Rattle.sect_front.proofs.name.NameDisplay.fmt.Goals as goal
 

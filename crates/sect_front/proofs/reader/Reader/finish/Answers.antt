@@ -1,6 +1,5 @@
 use Rattle.std.proofs.Common.{◌≡◌, Bool, true, false, if◌then◌else◌, Some, None, ap, sym, ◌∙◌}
-use Rattle.sect_front.specs.TreeView.{TreeView}
-use Rattle.sect_front.specs.declared.reader.Stage.{Stage}
+use Rattle.sect_front.specs.{TreeView.{TreeView}, declared.reader.Stage.{Stage}}
 use Rattle.sect_front.specs.steps.Read.{finish_of, finish_at}
 use Rattle.sect_front.proofs.reader.Reader.finish.Goals as goal
 

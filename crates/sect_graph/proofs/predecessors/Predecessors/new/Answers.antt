@@ -1,6 +1,6 @@
 use Rattle.std.proofs.Common.{◌≡◌, ◌+◌, ℕ, List, [], ◌∷◌, ◌++◌, map, length, ap, ◌∙◌, length-append}
-use Rattle.std.specs.Prelude.{slice_index_or}
 use Rattle.std.proofs.lemmas.List.{map-append}
+use Rattle.std.specs.Prelude.{slice_index_or}
 use Rattle.sect_lemmas.proofs.Elements.{empty_more}
 use Rattle.sect_graph.proofs.predecessors.Predecessors.new.Goals as goal
 

@@ -1,6 +1,6 @@
 use Rattle.std.proofs.Common.{◌≡◌, ◌<◌, ◌+◌, ◌++◌, [], List, ℕ, set, length, sym, ap, ◌∙◌, subst, arith, length-append}
-use Rattle.std.specs.Prelude.{slice_index_or}
 use Rattle.std.proofs.lemmas.List.{append-nil, length-map}
+use Rattle.std.specs.Prelude.{slice_index_or}
 use Rattle.sect_infer.specs.declared.lists.Front.{Front}
 use Rattle.sect_infer.specs.steps.Fronts.{rows_of, front_of, fronts_of, AreFronts}
 use Rattle.sect_infer.proofs.Fronts.{IsLonger, front_at, front_has, row_at, row_put, are_fronts, longer_one, longer_put}

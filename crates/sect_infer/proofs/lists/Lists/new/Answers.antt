@@ -1,5 +1,4 @@
-use Rattle.std.proofs.Common.{◌∙◌}
-use Rattle.std.proofs.lemmas.List.{length-map}
+use Rattle.std.proofs.{Common.{◌∙◌}, lemmas.List.{length-map}}
 use Rattle.sect_infer.specs.steps.Fronts.{rows_of, front_of}
 use Rattle.sect_infer.proofs.Fronts.{empty_fronts, empty_lists}
 use Rattle.sect_infer.proofs.lists.Lists.new.Goals as goal

@@ -1,6 +1,5 @@
-use Rattle.std.proofs.Common.{[], map, sym, subst}
+use Rattle.std.proofs.{Common.{[], map, sym, subst}, lemmas.Result.{IfOk-weaker}}
 use Rattle.std.specs.Prelude.{slice_index_or}
-use Rattle.std.proofs.lemmas.Result.{IfOk-weaker}
 use Rattle.sect_lemmas.specs.Lists.{Has}
 use Rattle.sect_infer.specs.steps.Fronts.{rows_of}
 use Rattle.sect_infer.proofs.Fronts.{front_in_row}

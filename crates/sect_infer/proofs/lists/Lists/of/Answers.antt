@@ -1,9 +1,8 @@
 use Rattle.std.proofs.Common.{◌≡◌, ◌<◌, [], take, length, sym, ap, ◌∙◌, subst, arith}
-use Rattle.std.specs.Prelude.{slice_index_or}
 use Rattle.std.proofs.lemmas.List.{length-map, length-take-le}
+use Rattle.std.specs.Prelude.{slice_index_or}
 use Rattle.sect_infer.specs.steps.Fronts.{rows_of, IsFront}
-use Rattle.sect_infer.proofs.Fronts.{row_at, front_at, front_has}
-use Rattle.sect_infer.proofs.lists.Lists.of.Goals.{In-Some}
+use Rattle.sect_infer.proofs.{Fronts.{row_at, front_at, front_has}, lists.Lists.of.Goals.{In-Some}}
 use Rattle.sect_infer.proofs.lists.Lists.of.Goals as goal
 
 -- the front of the node

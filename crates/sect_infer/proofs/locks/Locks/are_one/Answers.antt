@@ -1,9 +1,7 @@
 use Rattle.std.proofs.Common.{◌≡◌, ◌<◌, ℕ, List, [], Some, length, map, get_or, sym, ◌∙◌, ap, arith}
-use Rattle.std.specs.Prelude.{slice_get}
-use Rattle.std.specs.Option.{option_map}
-use Rattle.std.proofs.lemmas.List.{length-map}
-use Rattle.std.proofs.lemmas.Option.{slice_get-map, slice_get-get_or}
+use Rattle.std.proofs.{lemmas.List.{length-map}, lemmas.Option.{slice_get-map, slice_get-get_or}}
 use Rattle.std.proofs.lemmas.Slice.Eq.{bytes_eq-Decides}
+use Rattle.std.specs.{Prelude.{slice_get}, Option.{option_map}}
 use Rattle.sect_infer.specs.Sets.{LocksView}
 use Rattle.sect_infer.specs.steps.Listing.{listed}
 use Rattle.sect_infer.proofs.locks.Locks.are_one.Goals as goal

@@ -1,8 +1,8 @@
 use Rattle.std.proofs.Common.{[], ◌∷◌}
-use Rattle.sect_names.specs.declared.lock.Effect.TheVariants as effect
-use Rattle.sect_names.specs.declared.lock.Lock.TheVariants as lock
 use Rattle.sect_names.proofs.shared.Climbing.{all_coverers, bare_coverers}
 use Rattle.sect_infer.proofs.Extending.{above_placed, read_placed, all_other, put_after}
+use Rattle.sect_names.specs.declared.lock.Effect.TheVariants as effect
+use Rattle.sect_names.specs.declared.lock.Lock.TheVariants as lock
 use Rattle.sect_infer.proofs.numbering.Numbering.put_bare.Goals as goal
 
 pub put_write-requires : goal.put_write-requires

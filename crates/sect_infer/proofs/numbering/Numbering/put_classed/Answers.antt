@@ -1,10 +1,10 @@
 use Rattle.std.proofs.Common.{[], ◌∷◌, Some}
-use Rattle.sect_names.specs.declared.lock.Effect.TheVariants as effect
-use Rattle.sect_names.specs.declared.lock.Right.TheVariants as right
-use Rattle.sect_names.specs.declared.lock.Lock.TheVariants as lock
 use Rattle.sect_names.proofs.shared.Climbing.{class_coverers, coverers_of_path}
 use Rattle.sect_infer.proofs.shared.Extending.{extends_at, extends_then}
 use Rattle.sect_infer.proofs.Extending.{ArePlaced, above_placed, read_placed, class_other, put_after}
+use Rattle.sect_names.specs.declared.lock.Effect.TheVariants as effect
+use Rattle.sect_names.specs.declared.lock.Right.TheVariants as right
+use Rattle.sect_names.specs.declared.lock.Lock.TheVariants as lock
 use Rattle.sect_infer.proofs.numbering.Numbering.put_classed.Goals as goal
 
 pub put_write-requires : goal.put_write-requires

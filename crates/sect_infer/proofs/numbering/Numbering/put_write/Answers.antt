@@ -1,10 +1,10 @@
 use Rattle.std.proofs.Common.{◌∙◌, [], ◌∷◌, Some, length, length-append, ap, sym, subst, arith}
 use Rattle.std.proofs.lemmas.Option.{slice_get_within}
 use Rattle.sect_lemmas.specs.Lists.{Has}
-use Rattle.sect_names.specs.declared.lock.Effect.TheVariants as effect
-use Rattle.sect_names.specs.declared.lock.Lock.TheVariants as lock
 use Rattle.sect_infer.specs.steps.Putting.{IsPut}
 use Rattle.sect_infer.proofs.Extending.{numbered_put, numbered_same, numbered_told, write_free}
+use Rattle.sect_names.specs.declared.lock.Effect.TheVariants as effect
+use Rattle.sect_names.specs.declared.lock.Lock.TheVariants as lock
 use Rattle.sect_infer.proofs.numbering.Numbering.put_write.Goals as goal
 
 pub tell-requires : goal.tell-requires

@@ -1,6 +1,6 @@
 use Rattle.std.proofs.Common.{◌≡◌, ◌<◌, ℕ, List, [], ◌∷◌, ◌++◌, map, set, length, ap, ◌∙◌, sym, arith, subst}
-use Rattle.std.specs.Prelude.{slice_index_or}
 use Rattle.std.proofs.lemmas.List.{get_or-map, length-map}
+use Rattle.std.specs.Prelude.{slice_index_or}
 use Rattle.sect_lemmas.proofs.Elements.{map-set}
 use Rattle.sect_infer.specs.Numberings.{NumberingView}
 use Rattle.sect_infer.proofs.numbering.Numbering.tell.Goals as goal

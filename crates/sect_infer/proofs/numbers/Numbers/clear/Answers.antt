@@ -1,5 +1,4 @@
-use Rattle.std.proofs.Common.{◌<◌, length, get_or, sym, ◌∙◌, subst, arith}
-use Rattle.std.proofs.lemmas.List.{get_or_default}
+use Rattle.std.proofs.{Common.{◌<◌, length, get_or, sym, ◌∙◌, subst, arith}, lemmas.List.{get_or_default}}
 use Rattle.sect_infer.specs.Numbers.{AreApart}
 use Rattle.sect_infer.proofs.Marking.{mark_within, has_at, unmark_next}
 use Rattle.sect_infer.proofs.numbers.Numbers.clear.Goals as goal

@@ -1,5 +1,4 @@
-use Rattle.std.proofs.Common.{◌<◌, length, get_or, ◌∙◌, ap, arith}
-use Rattle.std.proofs.lemmas.List.{get_or_default}
+use Rattle.std.proofs.{Common.{◌<◌, length, get_or, ◌∙◌, ap, arith}, lemmas.List.{get_or_default}}
 use Rattle.sect_infer.specs.Numbers.{with_number}
 use Rattle.sect_infer.proofs.Marking.{with_next}
 use Rattle.sect_infer.proofs.numbers.Numbers.insert_all.Goals as goal

@@ -1,5 +1,4 @@
-use Rattle.std.specs.List.Sorted.{IsStrictlySortedBy}
-use Rattle.std.specs.Ordering.{nat_cmp}
+use Rattle.std.specs.{List.Sorted.{IsStrictlySortedBy}, Ordering.{nat_cmp}}
 use Rattle.std.proofs.Common.{subst, arith}
 use Rattle.sect_infer.proofs.Queueing.{sorted_range}
 use Rattle.sect_infer.proofs.waiting.Waiting.facts.Goals as goal

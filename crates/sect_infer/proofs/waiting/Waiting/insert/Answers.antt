@@ -2,8 +2,7 @@ use Rattle.std.proofs.Common.{◌↔◌, ◌⊎◌, inl, inr, ◌≡◌, ◌++�
 use Rattle.std.specs.List.{range_with_len}
 use Rattle.sect_lemmas.specs.Lists.{Has}
 use Rattle.sect_lemmas.proofs.Membership.{Has-left}
-use Rattle.sect_infer.proofs.Queueing.{in_range, put_behind, put_node}
-use Rattle.sect_infer.proofs.waiting.Waiting.insert.Goals.{In_ok-insert}
+use Rattle.sect_infer.proofs.{Queueing.{in_range, put_behind, put_node}, waiting.Waiting.insert.Goals.{In_ok-insert}}
 use Rattle.sect_infer.proofs.waiting.Waiting.insert.Goals as goal
 
 -- one node more is among the others

@@ -1,5 +1,4 @@
-use Rattle.std.proofs.Common.{◌<◌, length, get_or, arith, inl, inr}
-use Rattle.std.proofs.lemmas.List.{get_or_default}
+use Rattle.std.proofs.{Common.{◌<◌, length, get_or, arith, inl, inr}, lemmas.List.{get_or_default}}
 use Rattle.sect_lemmas.proofs.Making.{last_of, so_far}
 use Rattle.sect_infer.proofs.waiting.Waiting.insert_all.Goals as goal
 

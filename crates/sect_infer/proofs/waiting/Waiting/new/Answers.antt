@@ -1,6 +1,5 @@
-use Rattle.std.proofs.Common.{◌++◌, arith, subst, sym, ap, ◌∙◌}
+use Rattle.std.proofs.{Common.{◌++◌, arith, subst, sym, ap, ◌∙◌}, lemmas.List.{append-nil}}
 use Rattle.std.specs.List.{range_with_len}
-use Rattle.std.proofs.lemmas.List.{append-nil}
 use Rattle.sect_lemmas.specs.Lists.{Has}
 use Rattle.sect_infer.proofs.Queueing.{in_range}
 use Rattle.sect_infer.proofs.waiting.Waiting.new.Goals as goal

@@ -1,5 +1,4 @@
-use Rattle.std.proofs.Common.{◌≡◌, ◌∙◌, [], ◌∷◌, ◌++◌, map, ap, subst}
-use Rattle.std.proofs.lemmas.List.{map-append}
+use Rattle.std.proofs.{Common.{◌≡◌, ◌∙◌, [], ◌∷◌, ◌++◌, map, ap, subst}, lemmas.List.{map-append}}
 use Rattle.sect_lemmas.specs.Lists.{Has}
 use Rattle.sect_json.specs.steps.Writes.{LockTextsView}
 use Rattle.sect_json.proofs.LockTexts.{put_last}

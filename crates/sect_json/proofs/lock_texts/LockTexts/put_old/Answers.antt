@@ -1,7 +1,6 @@
-use Rattle.std.proofs.Common.{◌≡◌, ◌++◌, ◌∙◌, Some, map, sym, ap}
-use Rattle.std.specs.Prelude.{slice_get}
-use Rattle.std.proofs.Math.ListN.{get_or-map}
+use Rattle.std.proofs.{Common.{◌≡◌, ◌++◌, ◌∙◌, Some, map, sym, ap}, Math.ListN.{get_or-map}}
 use Rattle.std.proofs.lemmas.Option.{get_or_from_slice_get}
+use Rattle.std.specs.Prelude.{slice_get}
 use Rattle.sect_json.specs.steps.Writes.{LockTextsView}
 use Rattle.sect_json.proofs.lock_texts.LockTexts.put_old.Goals as goal
 

@@ -1,7 +1,5 @@
-use Rattle.std.proofs.Common.{ap, sym, subst, not, ◌∙◌}
-use Rattle.std.specs.Prelude.{All, map}
-use Rattle.std.specs.Str.{bytes_eq}
-use Rattle.std.proofs.lemmas.List.Elements.{All-filter}
+use Rattle.std.proofs.{Common.{ap, sym, subst, not, ◌∙◌}, lemmas.List.Elements.{All-filter}}
+use Rattle.std.specs.{Prelude.{All, map}, Str.{bytes_eq}}
 use Rattle.sect_lsp.specs.Documents.{closed}
 use Rattle.sect_lsp.specs.steps.Keeping.{OpenView, document_of, IsKept}
 use Rattle.sect_lsp.proofs.Keeping.{closed_kept}

@@ -1,6 +1,5 @@
-use Rattle.std.proofs.Common.{◌≡◌, ℕ, sym, ap, subst, ◌∙◌}
+use Rattle.std.proofs.{Common.{◌≡◌, ℕ, sym, ap, subst, ◌∙◌}, lemmas.List.Elements.{All-push}}
 use Rattle.std.specs.Prelude.{All}
-use Rattle.std.proofs.lemmas.List.Elements.{All-push}
 use Rattle.sect_editor.specs.Accepted.{IsCompiledIf}
 use Rattle.sect_lsp.specs.steps.Keeping.{OpenView, IsKept}
 use Rattle.sect_lsp.proofs.documents.Documents.open.Goals as goal

@@ -1,5 +1,4 @@
-use Rattle.std.proofs.Common.{◌+◌, ℕ, List, ap, ◌∙◌, take, drop}
-use Rattle.std.proofs.lemmas.List.{drop-take}
+use Rattle.std.proofs.{Common.{◌+◌, ℕ, List, ap, ◌∙◌, take, drop}, lemmas.List.{drop-take}}
 use Rattle.sect_lsp.proofs.framing.Inbox.next.Goals as goal
 
 pub returns-in_ok-message-in-Message : goal.returns-in_ok-message-in-Message

@@ -2,11 +2,8 @@ use Rattle.std.proofs.Common.{◌≡◌, ℕ, List, Option, Some, sym, subst, ap
 use Rattle.std.specs.Prelude.{option_map}
 use Rattle.serde_json.specs.View.{view}
 use Rattle.sect_emit.specs.Compiled.{CompiledView}
-use Rattle.sect_editor.specs.declared.text.Reading.{Reading}
-use Rattle.sect_editor.specs.Accepted.{IsCompiledIf}
-use Rattle.sect_lsp.specs.Documents.{text_of}
-use Rattle.sect_editor.specs.Asking.{IsAnswerTo}
-use Rattle.sect_lsp.specs.Server.{ServerView, IsTextReply, reading_of}
+use Rattle.sect_editor.specs.{declared.text.Reading.{Reading}, Accepted.{IsCompiledIf}, Asking.{IsAnswerTo}}
+use Rattle.sect_lsp.specs.{Documents.{text_of}, Server.{ServerView, IsTextReply, reading_of}}
 use Rattle.sect_lsp.specs.steps.Replying.{reply_view}
 use Rattle.sect_lsp.proofs.server.Server.answer_text.Goals as goal
 

@@ -1,7 +1,7 @@
 use Rattle.sect_names.specs.Along.{NeededAlong}
 use Rattle.sect_names.proofs.shared.Beginning.{reads_before, reads_along}
-use Rattle.sect_names.proofs.AtNodes.{reads_at_node}
 use Rattle.sect_names.proofs.shared.Walking.{reads_in, section_stands, needed_walk}
+use Rattle.sect_names.proofs.AtNodes.{reads_at_node}
 use Rattle.sect_names.proofs.laws.needs.beginnings_are_needed.Goals as goal
 
 pub returns-clause-step : goal.returns-clause-step

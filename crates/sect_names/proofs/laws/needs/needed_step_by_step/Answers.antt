@@ -1,5 +1,4 @@
-use Rattle.sect_names.proofs.Splitting.{split_along}
-use Rattle.sect_names.proofs.AtNodes.{needed_node}
+use Rattle.sect_names.proofs.{Splitting.{split_along}, AtNodes.{needed_node}}
 use Rattle.sect_names.proofs.shared.Walking.{needed_step, needed_walk}
 use Rattle.sect_names.proofs.laws.needs.needed_step_by_step.Goals as goal
 

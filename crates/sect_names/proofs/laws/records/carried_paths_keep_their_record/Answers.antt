@@ -1,5 +1,4 @@
-use Rattle.sect_names.proofs.shared.Needing.{keeps_record, generated_needable, carried_needable}
-use Rattle.sect_names.proofs.shared.Placing.{step_sound}
+use Rattle.sect_names.proofs.shared.{Needing.{keeps_record, generated_needable, carried_needable}, Placing.{step_sound}}
 use Rattle.sect_names.proofs.laws.records.carried_paths_keep_their_record.Goals as goal
 
 pub returns-clause-sound : goal.returns-clause-sound

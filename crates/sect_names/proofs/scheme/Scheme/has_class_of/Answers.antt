@@ -1,6 +1,6 @@
 use Rattle.std.proofs.Common.{◌≡◌, true≢false, sym, subst}
-use Rattle.sect_names.specs.declared.lock.Lock.TheVariants as lock
 use Rattle.sect_lemmas.specs.Lists.{Has}
+use Rattle.sect_names.specs.declared.lock.Lock.TheVariants as lock
 use Rattle.sect_names.proofs.scheme.Scheme.has_class_of.Goals as goal
 
 pub returns-in-Some : goal.returns-in-Some

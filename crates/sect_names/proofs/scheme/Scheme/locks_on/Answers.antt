@@ -1,8 +1,8 @@
 use Rattle.std.proofs.Common.{sym, ap, ◌∙◌, arith, [], ◌∷◌, length, ◌<◌, ◌≤◌, Some}
 use Rattle.sect_names.specs.Carrying.{LockOn}
 use Rattle.sect_lemmas.proofs.Making.{makes_next, makes_skip, makes_done, one_has}
-use Rattle.sect_names.proofs.scheme.Scheme.locks_on.Goals as goal
 use Rattle.sect_names.proofs.scheme.Scheme.locks_on.Goals.{in-Some+in_ok-push, in_default}
+use Rattle.sect_names.proofs.scheme.Scheme.locks_on.Goals as goal
 
 pub loop-path-preserved : goal.loop-path-preserved
 loop-path-preserved c =

@@ -1,16 +1,13 @@
 use Rattle.std.proofs.Common.{◌≡◌, ◌↔◌, ◌⊎◌, sym, ◌∙◌, arith, length, ◌≤◌, true≢false, inl, inr, get_or, subst, IfOk}
-use Rattle.std.proofs.lemmas.Option.{slice_get_within, get_or_from_slice_get}
-use Rattle.std.proofs.lemmas.Iterator.{items_from_collect}
-use Rattle.std.proofs.lemmas.Iterator.Consumers.{YieldsList-from_rest}
-use Rattle.std.proofs.lemmas.List.{take_all}
+use Rattle.std.proofs.{lemmas.Option.{slice_get_within, get_or_from_slice_get}, lemmas.Iterator.{items_from_collect}}
+use Rattle.std.proofs.{lemmas.Iterator.Consumers.{YieldsList-from_rest}, lemmas.List.{take_all}}
 use Rattle.sect_lemmas.specs.Lists.{Has}
-use Rattle.sect_names.specs.declared.lock.Lock.{Lock}
-use Rattle.sect_names.specs.Locks.{IsOutdone}
+use Rattle.sect_names.specs.{declared.lock.Lock.{Lock}, Locks.{IsOutdone}}
 use Rattle.sect_lemmas.proofs.Making.{makes_put, makes_skip, makes_done, last_of}
 use Rattle.sect_names.proofs.Maximals.{are_maximal}
+use Rattle.sect_names.proofs.scheme.Scheme.maximal.Goals.{then-not-branch+in_ok-try_clone+in_ok-insert, else-not-branch}
 use Rattle.sect_names.proofs.shared.Ranking.{in_order, put_has}
 use Rattle.sect_names.proofs.scheme.Scheme.maximal.Goals as goal
-use Rattle.sect_names.proofs.scheme.Scheme.maximal.Goals.{then-not-branch+in_ok-try_clone+in_ok-insert, else-not-branch}
 
 pub loop-i-preserved : goal.loop-i-preserved
 loop-i-preserved c =

@@ -1,7 +1,6 @@
 use Rattle.std.proofs.Common.{◌≡◌, ◌⊎◌, take}
 use Rattle.sect_lemmas.specs.Lists.{Has}
-use Rattle.sect_names.specs.declared.lock.Lock.{Lock}
-use Rattle.sect_names.specs.Locks.{IsOutdone}
+use Rattle.sect_names.specs.{declared.lock.Lock.{Lock}, Locks.{IsOutdone}}
 use Rattle.sect_lemmas.proofs.Making.{Makes}
 use Rattle.sect_names.proofs.scheme.Scheme.maximal.Given as goal
 

@@ -1,11 +1,10 @@
 use Rattle.std.proofs.Common.{◌≡◌, ◌↔◌, ◌∙◌, sym, ap, subst, Some, None}
-use Rattle.sect_types.specs.declared.expansion.action.Action.TheVariants as action
-use Rattle.sect_types.specs.declared.expansion.action.Label.TheVariants as label
-use Rattle.sect_points.specs.declared.holders.Variable.TheVariants.{Local}
-use Rattle.sect_points.specs.Paths.{var, dot}
+use Rattle.sect_points.specs.{declared.holders.Variable.TheVariants.{Local}, Paths.{var, dot}}
 use Rattle.sect_points.specs.PathClasses.{variable_of, variable_in}
 use Rattle.sect_names.specs.Carrying.{Before}
 use Rattle.sect_names.proofs.Untouched.{untouched_base, untouched_assignment, untouched_field}
+use Rattle.sect_types.specs.declared.expansion.action.Action.TheVariants as action
+use Rattle.sect_types.specs.declared.expansion.action.Label.TheVariants as label
 use Rattle.sect_names.proofs.touching.Change.of.Goals as goal
 
 pub returns-in-Assign : goal.returns-in-Assign

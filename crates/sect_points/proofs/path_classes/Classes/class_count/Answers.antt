@@ -1,9 +1,8 @@
-use Rattle.std.proofs.Common.{◌∙◌, Some, ap, arith, length, subst, sym}
-use Rattle.std.proofs.lemmas.Option.{slice_get-get_or}
+use Rattle.std.proofs.{Common.{◌∙◌, Some, ap, arith, length, subst, sym}, lemmas.Option.{slice_get-get_or}}
 use Rattle.sect_points.specs.Partitions.{IsByLeast}
 use Rattle.sect_points.proofs.PartitionLaws.{parted_had, counted_more, counted_same}
-use Rattle.sect_points.proofs.path_classes.Classes.class_count.Goals as goal
 use Rattle.sect_points.proofs.path_classes.Classes.class_count.Goals.{then-number-count, else-number-count}
+use Rattle.sect_points.proofs.path_classes.Classes.class_count.Goals as goal
 
 pub overflow_add-count : goal.overflow_add-count
 overflow_add-count c =

@@ -1,5 +1,4 @@
-use Rattle.std.proofs.Common.{◌<◌, ◌^◌, get_or, rules, arith, refl, inl, inr, subst, sym}
-use Rattle.std.proofs.lemmas.Bool.{cases_eq}
+use Rattle.std.proofs.{Common.{◌<◌, ◌^◌, get_or, rules, arith, refl, inl, inr, subst, sym}, lemmas.Bool.{cases_eq}}
 use Rattle.sect_points.proofs.SiteLaws.{none_mapped, mapped_more, without, without_sites}
 use Rattle.sect_points.proofs.sites.SiteSet.without.Goals as goal
 

@@ -4,10 +4,9 @@ use Rattle.sect_lemmas.proofs.Membership.{Has-slice_get}
 use Rattle.sect_types.specs.Whole.{RunView, EndsAs}
 use Rattle.sect_serial.specs.Judging.{HasSectionLeft}
 use Rattle.sect_serial.specs.steps.Frames.{AreReady, Finishes}
-use Rattle.sect_serial.proofs.EndLemmas.{end_kept, no_end}
-use Rattle.sect_serial.proofs.JudgeLemmas.{left_over}
-use Rattle.sect_serial.proofs.exploring.Search.ends.Goals as goal
+use Rattle.sect_serial.proofs.{EndLemmas.{end_kept, no_end}, JudgeLemmas.{left_over}}
 use Rattle.sect_serial.proofs.exploring.Search.ends.Goals.{in-Ok+in_ok-keep-in-Ok, in-Err-SectionsLeft}
+use Rattle.sect_serial.proofs.exploring.Search.ends.Goals as goal
 
 pub finish-requires-clause-ready : goal.finish-requires-clause-ready
 finish-requires-clause-ready c =

@@ -1,15 +1,13 @@
 use Rattle.std.proofs.Common.{◌≡◌, ◌∙◌, ◌++◌, ◌∷◌, [], ap, sym, subst, arith, inl, inr, length, List, ℕ, Some, None}
-use Rattle.std.proofs.Common.{slice_get}
-use Rattle.std.proofs.lemmas.Bool.{cases_lt}
+use Rattle.std.proofs.{Common.{slice_get}, lemmas.Bool.{cases_lt}}
 use Rattle.std.specs.Map.Iter.{deref_pair}
-use Rattle.sect_lemmas.proofs.Membership.{Has-slice_get}
-use Rattle.sect_lemmas.proofs.Options.{none_or_some}
+use Rattle.sect_lemmas.proofs.{Membership.{Has-slice_get}, Options.{none_or_some}}
 use Rattle.sect_types.specs.Whole.{RunView, run_section}
 use Rattle.sect_serial.specs.steps.Frames.{AreReady, RanSection}
-use Rattle.sect_serial.proofs.StateLemmas.{no_thread, followed_none, followed_some, kept_leads, states_keep}
-use Rattle.sect_serial.proofs.StateLemmas.{grows_more, kept_grows}
-use Rattle.sect_serial.proofs.exploring.Search.follow.Goals as goal
+use Rattle.sect_serial.proofs.StateLemmas.{no_thread, followed_none, followed_some, kept_leads, states_keep, grows_more}
+use Rattle.sect_serial.proofs.StateLemmas.{kept_grows}
 use Rattle.sect_serial.proofs.exploring.Search.follow.Goals.{then-branch+in_ok-push+in_ok-keep, else-branch}
+use Rattle.sect_serial.proofs.exploring.Search.follow.Goals as goal
 
 pub run_section-requires : goal.run_section-requires
 run_section-requires c =

@@ -1,6 +1,5 @@
 use Rattle.std.proofs.Common.{ap, sym, ◌∙◌, subst, Some, None}
-use Rattle.sect_types.specs.Programs.{environment_at}
-use Rattle.sect_types.specs.Whole.{FrameView, ahead}
+use Rattle.sect_types.specs.{Programs.{environment_at}, Whole.{FrameView, ahead}}
 use Rattle.sect_serial.specs.steps.Frames.{IsReady}
 use Rattle.sect_serial.proofs.SoundLemmas.{after_step}
 use Rattle.sect_serial.proofs.frame.Frame.run_ahead.Goals as goal

@@ -1,6 +1,5 @@
 use Rattle.std.proofs.Common.{◌≡◌}
-use Rattle.sect_types.specs.Programs.{environment_at}
-use Rattle.sect_types.specs.Whole.{ahead}
+use Rattle.sect_types.specs.{Programs.{environment_at}, Whole.{ahead}}
 use Rattle.sect_serial.specs.steps.Frames.{IsReady}
 use Rattle.sect_serial.proofs.SoundLemmas.{room}
 use Rattle.sect_serial.proofs.frame.Frame.run_ahead.Given as goal

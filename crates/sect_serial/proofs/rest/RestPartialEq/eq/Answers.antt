@@ -1,5 +1,4 @@
-use Rattle.std.proofs.Common.{◌∙◌, sym}
-use Rattle.std.proofs.lemmas.Bool.Decides.{same_from_decides}
+use Rattle.std.proofs.{Common.{◌∙◌, sym}, lemmas.Bool.Decides.{same_from_decides}}
 use Rattle.sect_serial.specs.Comparing.{text_tells}
 use Rattle.sect_serial.proofs.rest.RestPartialEq.eq.Goals as goal
 

@@ -1,10 +1,9 @@
 use Rattle.std.proofs.Common.{◌≡◌, ◌≤◌, List, subst, [], ap, ◌∙◌, length, slice_index_or}
-use Rattle.sect_types.specs.declared.declarations.types.ValueType.{ValueType}
-use Rattle.sect_types.specs.Whole.{settled, first_work}
+use Rattle.sect_types.specs.{declared.declarations.types.ValueType.{ValueType}, Whole.{settled, first_work}}
 use Rattle.sect_lemmas.proofs.Changed.{or_past}
 use Rattle.sect_serial.proofs.RunLemmas.{frame_more, ready_more, long_more}
-use Rattle.sect_serial.proofs.run.Run.begin.Goals as goal
 use Rattle.sect_serial.proofs.run.Run.begin.Goals.{in-None+in_ok-frame-in-None, in-Some+in_ok-frame-in-Some}
+use Rattle.sect_serial.proofs.run.Run.begin.Goals as goal
 
 pub loop-thread-preserved : goal.loop-thread-preserved
 loop-thread-preserved c =

@@ -1,13 +1,10 @@
 use Rattle.std.proofs.Common.{◌≡◌, ap, sym, ◌∙◌, subst, length, map, take, slice_get, Some, List, ℕ}
 use Rattle.std.proofs.lemmas.Iterator.Adapters.{YieldsList-from_vec}
-use Rattle.std.proofs.lemmas.Iterator.Consumers.{YieldsList-turn, YieldsList-so_far}
-use Rattle.std.proofs.lemmas.List.{map-id}
-use Rattle.sect_types.specs.Programs.{environment_at}
-use Rattle.sect_types.specs.Whole.{FrameView, RunView, ahead, all_ahead}
+use Rattle.std.proofs.{lemmas.Iterator.Consumers.{YieldsList-turn, YieldsList-so_far}, lemmas.List.{map-id}}
+use Rattle.sect_types.specs.{Programs.{environment_at}, Whole.{FrameView, RunView, ahead, all_ahead}}
 use Rattle.sect_lemmas.proofs.Changed.{get_there}
 use Rattle.sect_serial.specs.steps.Frames.{AreReady, IsReady}
-use Rattle.sect_serial.proofs.FinishLemmas.{ends_more, least_left}
-use Rattle.sect_serial.proofs.RunLemmas.{long_more, ready_get}
+use Rattle.sect_serial.proofs.{FinishLemmas.{ends_more, least_left}, RunLemmas.{long_more, ready_get}}
 use Rattle.sect_serial.proofs.run.Run.finish.Goals as goal
 
 pub run_ahead-requires : goal.run_ahead-requires

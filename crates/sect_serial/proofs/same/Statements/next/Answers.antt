@@ -1,10 +1,8 @@
 use Rattle.std.proofs.Common.{◌≡◌, ◌∙◌, ◌-◌, sym, ap, arith, length, take, drop, Some, slice_get}
 use Rattle.std.proofs.lemmas.Option.{slice_get-get_or}
-use Rattle.sect_types.specs.Statements.{joined}
-use Rattle.sect_types.specs.Texts.{step_then, statements_of}
+use Rattle.sect_types.specs.{Statements.{joined}, Texts.{step_then, statements_of}}
 use Rattle.sect_serial.specs.steps.Rests.{after_first, rest_of}
-use Rattle.sect_serial.proofs.RestLemmas.{joined_step, full_take}
-use Rattle.sect_serial.proofs.Comparing.{after, has_steps, part_next, headed}
+use Rattle.sect_serial.proofs.{RestLemmas.{joined_step, full_take}, Comparing.{after, has_steps, part_next, headed}}
 use Rattle.sect_serial.proofs.same.Statements.next.Goals as goal
 
 pub unreachable-requires : goal.unreachable-requires

@@ -1,8 +1,8 @@
 use Rattle.std.proofs.Common.{rules, ◌≡◌, ap, sym, ◌∙◌, length, vec_len}
 use Rattle.sect_types.specs.Store.{with_field}
 use Rattle.sect_lemmas.proofs.Changed.{set_put, changed_past, not_below}
-use Rattle.sect_store.proofs.object.Object.put.Goals as goal
 use Rattle.sect_store.proofs.object.Object.put.Goals.{in-Some, in_default}
+use Rattle.sect_store.proofs.object.Object.put.Goals as goal
 
 pub returns : goal.returns
 returns c =

@@ -2,8 +2,8 @@ use Rattle.std.proofs.Common.{rules, ◌≡◌, ap, sym, ◌∙◌, length, vec_
 use Rattle.sect_types.specs.Store.{with_field}
 use Rattle.sect_lemmas.specs.Lists.{changed_at}
 use Rattle.sect_lemmas.proofs.Changed.{set_changed, changed_past, not_below}
-use Rattle.sect_store.proofs.object.Objects.put.Goals as goal
 use Rattle.sect_store.proofs.object.Objects.put.Goals.{in-Some, in_default}
+use Rattle.sect_store.proofs.object.Objects.put.Goals as goal
 
 pub returns : goal.returns
 returns c =

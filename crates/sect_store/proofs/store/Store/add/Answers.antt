@@ -1,8 +1,8 @@
 use Rattle.std.proofs.Common.{rules, ◌≡◌, ◌++◌, ◌∷◌, [], ap, sym, ◌∙◌, length, vec_len, slice_set, List}
 use Rattle.sect_types.specs.Store.{ObjectView, StoreView, add}
 use Rattle.sect_lemmas.proofs.Changed.{set_changed, changed_past, not_below}
-use Rattle.sect_store.proofs.store.Store.add.Goals as goal
 use Rattle.sect_store.proofs.store.Store.add.Goals.{in-Some+in_ok-push, in_default}
+use Rattle.sect_store.proofs.store.Store.add.Goals as goal
 
 pub returns-clause-ok : goal.returns-clause-ok
 returns-clause-ok c =

@@ -2,8 +2,8 @@ use Rattle.std.proofs.Common.{rules, ◌≡◌, ap, sym, ◌∙◌, length, vec_
 use Rattle.sect_types.specs.Store.{ObjectView, StoreView}
 use Rattle.sect_lemmas.proofs.Changed.{set_changed, changed_past, not_below}
 use Rattle.sect_store.specs.Undoing.{without_end, without_last}
-use Rattle.sect_store.proofs.store.Store.unmake.Goals as goal
 use Rattle.sect_store.proofs.store.Store.unmake.Goals.{in-Some, in_default}
+use Rattle.sect_store.proofs.store.Store.unmake.Goals as goal
 
 pub returns : goal.returns
 returns c =

@@ -1,9 +1,8 @@
 use Rattle.std.proofs.Common.{rules, ◌≡◌, ap, sym, ◌∙◌, length, vec_len, List}
-use Rattle.sect_types.specs.declared.meaning.store.Datum.{Datum}
-use Rattle.sect_types.specs.Meaning.{WorkView, assigned}
+use Rattle.sect_types.specs.{declared.meaning.store.Datum.{Datum}, Meaning.{WorkView, assigned}}
 use Rattle.sect_lemmas.proofs.Changed.{set_put, changed_past, not_below}
-use Rattle.sect_store.proofs.work.Work.assign.Goals as goal
 use Rattle.sect_store.proofs.work.Work.assign.Goals.{in-Some, in_default}
+use Rattle.sect_store.proofs.work.Work.assign.Goals as goal
 
 pub returns : goal.returns
 returns c =

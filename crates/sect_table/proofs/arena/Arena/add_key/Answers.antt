@@ -1,7 +1,6 @@
 use Rattle.std.proofs.Common.{◌++◌, ◌∷◌, [], sym, ◌∙◌, ap, refl}
 use Rattle.sect_table.specs.Contents.{Contents, no_entry}
-use Rattle.sect_table.proofs.Shown.{seen}
-use Rattle.sect_table.proofs.Growing.{KeyAdded, key_added}
+use Rattle.sect_table.proofs.{Shown.{seen}, Growing.{KeyAdded, key_added}}
 use Rattle.sect_table.proofs.arena.Arena.add_key.Goals as goal
 
 pub push_key-requires-clause-new : goal.push_key-requires-clause-new

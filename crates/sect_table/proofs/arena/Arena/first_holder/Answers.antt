@@ -1,10 +1,7 @@
-use Rattle.std.proofs.Common.{rules, arith, ◌≡◌, ◌+◌, length, sym, ◌∙◌, ap, vec_len}
+use Rattle.std.proofs.{Common.{rules, arith, ◌≡◌, ◌+◌, length, sym, ◌∙◌, ap, vec_len}, lemmas.List.{get_or_read}}
 use Rattle.std.specs.Option.{option_map}
-use Rattle.std.proofs.lemmas.List.{get_or_read}
-use Rattle.sect_table.specs.Contents.{claim_of}
-use Rattle.sect_table.specs.declared.claims.Grant.{Grant}
-use Rattle.sect_table.specs.steps.Links.{list_at}
-use Rattle.sect_table.specs.steps.Arena.{no_node}
+use Rattle.sect_table.specs.{Contents.{claim_of}, declared.claims.Grant.{Grant}}
+use Rattle.sect_table.specs.steps.{Links.{list_at}, Arena.{no_node}}
 use Rattle.sect_table.proofs.Shown.{queues-seen, first_claim, no_claim}
 use Rattle.sect_table.proofs.arena.Arena.first_holder.Goals as goal
 

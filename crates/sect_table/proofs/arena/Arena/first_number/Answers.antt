@@ -1,8 +1,7 @@
 use Rattle.std.proofs.Common.{◌+◌, ◌<◌, length, sym, ◌∙◌, subst, arith}
 use Rattle.std.specs.Prelude.{IsSome}
 use Rattle.sect_table.specs.steps.Links.{list_at}
-use Rattle.sect_table.proofs.Shown.{seen, chain-seen, held_first}
-use Rattle.sect_table.proofs.Roles.{FirstHeld, first_of_thread}
+use Rattle.sect_table.proofs.{Shown.{seen, chain-seen, held_first}, Roles.{FirstHeld, first_of_thread}}
 use Rattle.sect_table.proofs.arena.Arena.first_number.Goals as goal
 
 pub first-requires : goal.first-requires

@@ -1,7 +1,5 @@
-use Rattle.std.proofs.Common.{rules, arith, ◌≡◌, ◌+◌, length, sym, ◌∙◌, vec_len}
-use Rattle.std.proofs.lemmas.List.{get_or_read}
-use Rattle.sect_table.specs.steps.Links.{list_at}
-use Rattle.sect_table.specs.steps.Arena.{no_node}
+use Rattle.std.proofs.{Common.{rules, arith, ◌≡◌, ◌+◌, length, sym, ◌∙◌, vec_len}, lemmas.List.{get_or_read}}
+use Rattle.sect_table.specs.steps.{Links.{list_at}, Arena.{no_node}}
 use Rattle.sect_table.proofs.Shown.{queues-seen, first_claim, no_claim}
 use Rattle.sect_table.proofs.arena.Arena.first_waiter.Goals as goal
 

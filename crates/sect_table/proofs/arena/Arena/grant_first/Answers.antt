@@ -1,11 +1,8 @@
-use Rattle.std.proofs.Common.{◌≡◌, length, sym, ◌∙◌, subst}
+use Rattle.std.proofs.{Common.{◌≡◌, length, sym, ◌∙◌, subst}, lemmas.List.{get_or_read}}
 use Rattle.std.specs.Prelude.{IsSome}
-use Rattle.std.proofs.lemmas.List.{get_or_read}
 use Rattle.sect_table.specs.Contents.{put, entry_of, with_grant, claim_of, give}
-use Rattle.sect_table.specs.steps.Links.{list_at}
-use Rattle.sect_table.specs.steps.Arena.{no_node}
-use Rattle.sect_table.proofs.Shown.{queues-seen, claimed_first}
-use Rattle.sect_table.proofs.Moving.{Shows, first_granted, Waiter, first_waiting}
+use Rattle.sect_table.specs.steps.{Links.{list_at}, Arena.{no_node}}
+use Rattle.sect_table.proofs.{Shown.{queues-seen, claimed_first}, Moving.{Shows, first_granted, Waiter, first_waiting}}
 use Rattle.sect_table.proofs.arena.Arena.grant_first.Goals.{After-index-request}
 use Rattle.sect_table.proofs.arena.Arena.grant_first.Goals as goal
 

@@ -1,5 +1,4 @@
-use Rattle.std.proofs.Common.{arith, ◌∙◌, sym}
-use Rattle.std.proofs.lemmas.List.{length-map}
+use Rattle.std.proofs.{Common.{arith, ◌∙◌, sym}, lemmas.List.{length-map}}
 use Rattle.sect_table.proofs.Shown.{seen, chain-seen}
 use Rattle.sect_table.proofs.arena.Arena.held_count.Goals as goal
 

@@ -1,12 +1,8 @@
 use Rattle.std.proofs.Common.{◌≡◌, ◌+◌, length, set, drop, get_or, sym, ◌∙◌, ap, subst, None, Some, [], ◌∷◌}
-use Rattle.std.specs.Prelude.{IsSome}
-use Rattle.std.specs.Option.{option_map}
-use Rattle.sect_table.specs.declared.claims.Hold.{Hold}
-use Rattle.sect_table.specs.Contents.{put, entry_of, without_holder, first_hold}
-use Rattle.sect_table.specs.steps.Links.{head_or, list_at}
-use Rattle.sect_table.specs.steps.Arena.{node_at}
-use Rattle.sect_table.proofs.Shown.{chain-seen, held_key, found_first}
-use Rattle.sect_table.proofs.Moving.{Shows, first_released}
+use Rattle.std.specs.{Prelude.{IsSome}, Option.{option_map}}
+use Rattle.sect_table.specs.{declared.claims.Hold.{Hold}, Contents.{put, entry_of, without_holder, first_hold}}
+use Rattle.sect_table.specs.steps.{Links.{head_or, list_at}, Arena.{node_at}}
+use Rattle.sect_table.proofs.{Shown.{chain-seen, held_key, found_first}, Moving.{Shows, first_released}}
 use Rattle.sect_table.proofs.arena.Arena.release_first.Goals as goal
 
 outcome : (c : goal.After-move_to-2)

@@ -1,7 +1,6 @@
 use Rattle.std.proofs.Common.{arith, ◌∙◌, ap}
 use Rattle.std.specs.Prelude.{is_some}
-use Rattle.sect_table.proofs.Shown.{seen}
-use Rattle.sect_table.proofs.Roles.{waiting-seen}
+use Rattle.sect_table.proofs.{Shown.{seen}, Roles.{waiting-seen}}
 use Rattle.sect_table.proofs.arena.Arena.waits.Goals as goal
 
 pub first-requires : goal.first-requires

@@ -1,6 +1,5 @@
 use Rattle.std.proofs.Common.{arith, ◌≡◌, ◌+◌, ◌++◌, ◌∷◌, [], length, ap, ◌∙◌, length-append}
-use Rattle.sect_table.specs.steps.Arena.{chain_at, holds_at, queue_at, entries_from}
-use Rattle.sect_table.specs.steps.Links.{list_at}
+use Rattle.sect_table.specs.steps.{Arena.{chain_at, holds_at, queue_at, entries_from}, Links.{list_at}}
 use Rattle.sect_table.proofs.Growing.{arena_fresh, held_from-empty, padded}
 use Rattle.sect_table.proofs.arena.Arena.with_threads.Goals as goal
 

@@ -1,5 +1,4 @@
-use Rattle.std.proofs.Common.{rules, arith}
-use Rattle.std.proofs.lemmas.Grind.{common_steps}
+use Rattle.std.proofs.{Common.{rules, arith}, lemmas.Grind.{common_steps}}
 use Rattle.sect_table.proofs.Whole.{placed_sized}
 use Rattle.sect_table.proofs.lists.Lists.add_list.Goals as goal
 

@@ -1,5 +1,4 @@
-use Rattle.std.proofs.Common.{rules, arith, ◌≡◌, length, get_or, ap, sym, ◌∙◌, vec_len}
-use Rattle.std.proofs.lemmas.List.{get_or_read}
+use Rattle.std.proofs.{Common.{rules, arith, ◌≡◌, length, get_or, ap, sym, ◌∙◌, vec_len}, lemmas.List.{get_or_read}}
 use Rattle.sect_table.specs.declared.links.Link.{Link}
 use Rattle.sect_table.specs.steps.Links.{Shape, no_link}
 use Rattle.sect_table.proofs.Whole.{get_or-labels}

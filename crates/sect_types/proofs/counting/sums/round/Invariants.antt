@@ -1,7 +1,6 @@
 use Rattle.std.proofs.Common.{◌≡◌, ◌++◌, drop, map}
 use Rattle.sect_types.specs.declared.counting.sums.Summary.{Summary}
-use Rattle.sect_types.specs.steps.Capped.{capped, AreSmall}
-use Rattle.sect_types.specs.steps.Summaries.{summary_sums}
+use Rattle.sect_types.specs.steps.{Capped.{capped, AreSmall}, Summaries.{summary_sums}}
 use Rattle.sect_types.proofs.counting.sums.round.Given as goal
 
 abbrev pub invariant-loop-summary : goal.invariant-loop-summary

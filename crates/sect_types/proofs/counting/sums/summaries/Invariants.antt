@@ -1,11 +1,9 @@
 use Rattle.std.proofs.Common.{◌≡◌, ◌++◌, List, drop, map}
 use Rattle.std.specs.List.{AllByRecursion}
 use Rattle.sect_front.specs.declared.tree.Procedure.{Procedure}
-use Rattle.sect_types.specs.declared.counting.sums.Sums.{Sums}
-use Rattle.sect_types.specs.declared.counting.sums.Summary.{Summary}
+use Rattle.sect_types.specs.{declared.counting.sums.Sums.{Sums}, declared.counting.sums.Summary.{Summary}}
 use Rattle.sect_types.specs.Sums.{procedure_sums}
-use Rattle.sect_types.specs.steps.Capped.{capped, IsSmall}
-use Rattle.sect_types.specs.steps.Summaries.{summary_sums}
+use Rattle.sect_types.specs.steps.{Capped.{capped, IsSmall}, Summaries.{summary_sums}}
 use Rattle.sect_types.proofs.counting.sums.summaries.Given as goal
 
 abbrev pub invariant-loop-procedure : goal.invariant-loop-procedure

@@ -1,10 +1,7 @@
 use Rattle.std.proofs.Common.{◌≡◌, ◌∙◌, ap, arith, map, length}
-use Rattle.sect_types.specs.Sums.{sums_within}
-use Rattle.sect_types.specs.declared.counting.sums.Summary.{Summary}
-use Rattle.sect_types.specs.steps.Capped.{capped}
-use Rattle.sect_types.specs.steps.Summaries.{summary_sums}
-use Rattle.sect_types.proofs.Capping.{one_round}
-use Rattle.sect_types.proofs.Summing.{as_many_summaries}
+use Rattle.sect_types.specs.{Sums.{sums_within}, declared.counting.sums.Summary.{Summary}}
+use Rattle.sect_types.specs.steps.{Capped.{capped}, Summaries.{summary_sums}}
+use Rattle.sect_types.proofs.{Capping.{one_round}, Summing.{as_many_summaries}}
 use Rattle.sect_types.proofs.counting.sums.table.Goals as goal
 
 pub loop-preserved : goal.loop-preserved

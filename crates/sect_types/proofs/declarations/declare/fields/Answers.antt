@@ -1,12 +1,8 @@
 use Rattle.std.proofs.Common.{[], ◌∷◌, ◌++◌, ◌+◌, drop, arith, ap, sym, ◌∙◌, append-nil}
-use Rattle.sect_types.specs.Items.{AField, field_items}
-use Rattle.sect_types.specs.Rules.{declared_in, Counts}
-use Rattle.sect_types.specs.steps.Judging.{judge}
-use Rattle.sect_types.specs.steps.Listing.{IsListed}
+use Rattle.sect_types.specs.{Items.{AField, field_items}, Rules.{declared_in, Counts}}
+use Rattle.sect_types.specs.steps.{Judging.{judge}, Listing.{IsListed}}
 use Rattle.sect_lemmas.proofs.Elements.{drop_next}
-use Rattle.sect_types.proofs.Records.{fault_after}
-use Rattle.sect_types.proofs.Listed.{field_more}
-use Rattle.sect_types.proofs.PassedElements.{none_left}
+use Rattle.sect_types.proofs.{Records.{fault_after}, Listed.{field_more}, PassedElements.{none_left}}
 use Rattle.sect_types.proofs.ThreadLemmas.{handed_on}
 use Rattle.sect_types.proofs.declarations.declare.fields.Goals as goal
 

@@ -1,5 +1,4 @@
-use Rattle.std.proofs.Common.{◌++◌, ◌∷◌, [], take, ap, ◌∙◌, sym, arith}
-use Rattle.std.proofs.lemmas.List.{take_more}
+use Rattle.std.proofs.{Common.{◌++◌, ◌∷◌, [], take, ap, ◌∙◌, sym, arith}, lemmas.List.{take_more}}
 use Rattle.sect_types.specs.Sight.{has_name}
 use Rattle.sect_types.proofs.Known.{knows_more}
 use Rattle.sect_types.proofs.declarations.declare.known_records.Goals as goal

@@ -1,12 +1,8 @@
 use Rattle.std.proofs.Common.{[], ◌∷◌, ◌++◌, ◌+◌, drop, arith, ap, sym, ◌∙◌, append-nil}
-use Rattle.sect_types.specs.Items.{ALocal, local_items}
-use Rattle.sect_types.specs.Rules.{declared_in}
-use Rattle.sect_types.specs.steps.Judging.{judge}
-use Rattle.sect_types.specs.steps.Listing.{AreLocals}
+use Rattle.sect_types.specs.{Items.{ALocal, local_items}, Rules.{declared_in}}
+use Rattle.sect_types.specs.steps.{Judging.{judge}, Listing.{AreLocals}}
 use Rattle.sect_lemmas.proofs.Elements.{drop_next}
-use Rattle.sect_types.proofs.Records.{fault_after}
-use Rattle.sect_types.proofs.Listed.{local_more}
-use Rattle.sect_types.proofs.PassedElements.{none_left}
+use Rattle.sect_types.proofs.{Records.{fault_after}, Listed.{local_more}, PassedElements.{none_left}}
 use Rattle.sect_types.proofs.ThreadLemmas.{handed_on}
 use Rattle.sect_types.proofs.declarations.declare.locals.Goals as goal
 

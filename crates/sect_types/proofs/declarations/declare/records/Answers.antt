@@ -1,6 +1,5 @@
 use Rattle.std.proofs.Common.{[], ◌∷◌, ◌++◌, ◌+◌, drop, arith, ap, sym, ◌∙◌, append-nil}
-use Rattle.sect_types.specs.Rules.{declared_in}
-use Rattle.sect_types.specs.Items.{ARecord, field_items, record_items}
+use Rattle.sect_types.specs.{Rules.{declared_in}, Items.{ARecord, field_items, record_items}}
 use Rattle.sect_types.proofs.Records.{go_on, fault_after, fault_next, records_done}
 use Rattle.sect_types.proofs.declarations.declare.records.Goals as goal
 

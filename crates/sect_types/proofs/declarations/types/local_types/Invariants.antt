@@ -1,6 +1,5 @@
 use Rattle.std.proofs.Common.{◌≡◌, ◌++◌, drop, true}
-use Rattle.sect_types.specs.steps.Listing.{locals_fine}
-use Rattle.sect_types.specs.steps.FreshTypes.{local_types, all_fresh_known}
+use Rattle.sect_types.specs.steps.{Listing.{locals_fine}, FreshTypes.{local_types, all_fresh_known}}
 use Rattle.sect_types.proofs.declarations.types.local_types.Given as goal
 
 abbrev pub invariant-loop-number : goal.invariant-loop-number

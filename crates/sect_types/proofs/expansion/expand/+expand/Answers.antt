@@ -2,21 +2,15 @@ use Rattle.std.proofs.Common.{◌≡◌, suc, arith, ap, sym, ◌∙◌, length,
 use Rattle.std.specs.Prelude.{ℕ, ◌-◌, [], IsSome, true}
 use Rattle.sect_front.specs.Trees.{statement_of, statement_size, block_size}
 use Rattle.sect_front.proofs.shared.Bodies.{size_at}
-use Rattle.sect_types.specs.steps.Threads.{VariablesView}
-use Rattle.sect_types.specs.steps.Expanding.{FrontView, most_size, tree_of}
-use Rattle.sect_types.specs.steps.Expansion.{view_of}
-use Rattle.sect_types.specs.Expanded.{moved_action}
-use Rattle.sect_types.specs.steps.Written.{action_in}
-use Rattle.sect_types.specs.Numbered.{action_of}
-use Rattle.sect_types.specs.Sight.{Sight}
+use Rattle.sect_types.specs.steps.{Threads.{VariablesView}, Expanding.{FrontView, most_size, tree_of}}
+use Rattle.sect_types.specs.steps.{Expansion.{view_of}, Written.{action_in}}
+use Rattle.sect_types.specs.{Expanded.{moved_action}, Numbered.{action_of}, Sight.{Sight}}
 use Rattle.sect_types.specs.Rules.{sight, knows_operands}
 use Rattle.sect_types.proofs.Writing.{primitive_written, if_written, while_written, section_written}
 use Rattle.sect_types.proofs.Fronts.{starts, next_fits, next_known, one_more, ends_text, ends_front, call_front}
-use Rattle.sect_types.proofs.Fronts.{call_fits}
-use Rattle.sect_types.proofs.Fronts.{CallFits, CallRoom, call_room, other_fits, call_text, size_most, falls, anew}
-use Rattle.sect_types.proofs.Fronts.{either_text, shown_names}
-use Rattle.sect_types.proofs.Parts.{one_less, call_named, arguments_known, body_known}
-use Rattle.sect_types.proofs.Parts.{other_known}
+use Rattle.sect_types.proofs.Fronts.{call_fits, CallFits, CallRoom, call_room, other_fits, call_text, size_most, falls}
+use Rattle.sect_types.proofs.Fronts.{anew, either_text, shown_names}
+use Rattle.sect_types.proofs.Parts.{one_less, call_named, arguments_known, body_known, other_known}
 use Rattle.sect_types.proofs.expansion.expand.+expand.Goals.{expand_call-After-scope-scope}
 use Rattle.sect_types.proofs.expansion.expand.+expand.Goals.{expand_call-After-procedure-procedure}
 use Rattle.sect_types.proofs.expansion.expand.+expand.Goals as goal

@@ -1,7 +1,6 @@
 use Rattle.std.proofs.Common.{◌+◌, ◌*◌, drop}
 use Rattle.sect_front.specs.Trees.{statement_of, block_of, statement_size, block_size}
-use Rattle.sect_types.specs.steps.Expanding.{most_size, IsFront}
-use Rattle.sect_types.specs.steps.Expansion.{view_of}
+use Rattle.sect_types.specs.steps.{Expanding.{most_size, IsFront}, Expansion.{view_of}}
 use Rattle.sect_types.proofs.expansion.expand.+expand.Given as goal
 
 abbrev pub decreases-expand_call : goal.decreases-expand_call

@@ -1,8 +1,7 @@
 use Rattle.std.proofs.Common.{arith, ap, refl, length, ◌∙◌}
 use Rattle.sect_types.specs.steps.Expanding.{thread_start}
 use Rattle.sect_types.specs.Rules.{sight}
-use Rattle.sect_types.proofs.Fronts.{front_same, anew}
-use Rattle.sect_types.proofs.WrittenThreads.{thread_written}
+use Rattle.sect_types.proofs.{Fronts.{front_same, anew}, WrittenThreads.{thread_written}}
 use Rattle.sect_types.proofs.expansion.expand.expand_thread.Goals as goal
 
 pub returns-clause-text : goal.returns-clause-text

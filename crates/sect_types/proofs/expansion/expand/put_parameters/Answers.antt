@@ -1,11 +1,7 @@
-use Rattle.std.proofs.Common.{ap, arith, ◌∙◌, sym, refl, length}
-use Rattle.std.proofs.lemmas.Option.{slice_get_read}
-use Rattle.sect_types.specs.steps.Expansion.{argument_of}
-use Rattle.sect_types.proofs.Parts.{operand_known}
+use Rattle.std.proofs.{Common.{ap, arith, ◌∙◌, sym, refl, length}, lemmas.Option.{slice_get_read}}
+use Rattle.sect_types.specs.steps.{Expansion.{argument_of}, Written.{write_parameters}, Inside.{scene_in}}
+use Rattle.sect_types.proofs.{Parts.{operand_known}, Writing.{set_more, set_all}}
 use Rattle.sect_types.specs.Statements.{joined}
-use Rattle.sect_types.specs.steps.Written.{write_parameters}
-use Rattle.sect_types.specs.steps.Inside.{scene_in}
-use Rattle.sect_types.proofs.Writing.{set_more, set_all}
 use Rattle.sect_types.proofs.expansion.expand.put_parameters.Goals as goal
 
 pub loop-place-init : goal.loop-place-init

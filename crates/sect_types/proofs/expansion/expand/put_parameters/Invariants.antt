@@ -1,7 +1,6 @@
 use Rattle.std.proofs.Common.{◌≡◌, ◌+◌, drop}
 use Rattle.sect_types.specs.Statements.{TextView, joined}
-use Rattle.sect_types.specs.steps.Written.{write_parameters}
-use Rattle.sect_types.specs.steps.Inside.{scene_in}
+use Rattle.sect_types.specs.steps.{Written.{write_parameters}, Inside.{scene_in}}
 use Rattle.sect_types.proofs.expansion.expand.put_parameters.Given as goal
 
 abbrev pub invariant-loop-place : goal.invariant-loop-place

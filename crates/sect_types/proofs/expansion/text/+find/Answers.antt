@@ -1,6 +1,5 @@
 use Rattle.std.proofs.Common.{arith, ap}
-use Rattle.sect_types.specs.Statements.{Stop, weight}
-use Rattle.sect_types.specs.Texts.{step_then}
+use Rattle.sect_types.specs.{Statements.{Stop, weight}, Texts.{step_then}}
 use Rattle.sect_types.proofs.shared.FindLemmas.{weight_at}
 use Rattle.sect_types.proofs.FindLemmas.{here, not_here, nowhere}
 use Rattle.sect_types.proofs.expansion.text.+find.Goals as goal

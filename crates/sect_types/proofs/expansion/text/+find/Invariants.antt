@@ -1,6 +1,5 @@
 use Rattle.std.proofs.Common.{◌+◌, ◌*◌}
-use Rattle.sect_types.specs.Statements.{Stop, weight}
-use Rattle.sect_types.specs.Texts.{step_then}
+use Rattle.sect_types.specs.{Statements.{Stop, weight}, Texts.{step_then}}
 use Rattle.sect_types.proofs.FindLemmas.{IsSought}
 use Rattle.sect_types.proofs.expansion.text.+find.Given as goal
 

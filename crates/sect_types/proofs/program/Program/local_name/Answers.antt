@@ -1,9 +1,8 @@
 use Rattle.std.proofs.Common.{◌≤◌, ◌<◌, ◌-◌, sym, ap, ◌∙◌, length, [], get_or, arith}
-use Rattle.std.specs.Prelude.{slice_get, slice_index_or}
 use Rattle.std.proofs.lemmas.Bool.{ltb-false, ltb-true}
+use Rattle.std.specs.Prelude.{slice_get, slice_index_or}
 use Rattle.sect_front.specs.declared.tree.Thread.{Thread}
-use Rattle.sect_types.specs.LocalNames.{all_local_names}
-use Rattle.sect_types.specs.Programs.{ProgramView}
+use Rattle.sect_types.specs.{LocalNames.{all_local_names}, Programs.{ProgramView}}
 use Rattle.sect_types.proofs.LocalRows.{has_name_there, own_here, fresh_here}
 use Rattle.sect_types.proofs.program.Program.local_name.Goals as goal
 

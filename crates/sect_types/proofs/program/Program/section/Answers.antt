@@ -1,9 +1,6 @@
 use Rattle.std.proofs.Common.{◌≡◌, ap, sym, refl, ◌∙◌, subst, Some}
-use Rattle.std.specs.Option.{IsSome}
-use Rattle.std.specs.Prelude.{slice_get}
-use Rattle.sect_types.specs.Sections.{section_shown}
-use Rattle.sect_types.specs.Sections.{AllNumbered, section_from, sections_of}
-use Rattle.sect_types.specs.Sound.{AreSound}
+use Rattle.std.specs.{Option.{IsSome}, Prelude.{slice_get}}
+use Rattle.sect_types.specs.{Sections.{section_shown, AllNumbered, section_from, sections_of}, Sound.{AreSound}}
 use Rattle.sect_types.specs.Programs.{ProgramView}
 use Rattle.sect_types.proofs.NumberedSections.{found}
 use Rattle.sect_types.proofs.shared.SectionSound.{section_sound}

@@ -1,8 +1,6 @@
-use Rattle.std.proofs.Common.{◌<◌, ap, sym, ◌∙◌, subst, length, Some, arith}
+use Rattle.std.proofs.{Common.{◌<◌, ap, sym, ◌∙◌, subst, length, Some, arith}, lemmas.Option.{slice_get-get_or}}
 use Rattle.std.specs.Prelude.{slice_get}
-use Rattle.std.proofs.lemmas.Option.{slice_get-get_or}
-use Rattle.sect_types.specs.Sound.{AreSound}
-use Rattle.sect_types.specs.Programs.{ProgramView}
+use Rattle.sect_types.specs.{Sound.{AreSound}, Programs.{ProgramView}}
 use Rattle.sect_types.proofs.SectionSound.{text_sound}
 use Rattle.sect_types.proofs.program.Program.text.Goals as goal
 

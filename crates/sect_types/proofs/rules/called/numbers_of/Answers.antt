@@ -2,8 +2,8 @@ use Rattle.std.proofs.Common.{◌≡◌, ◌∙◌, arith, nat_eq, ap, sym, is_s
 use Rattle.std.specs.Cmp.Lexicographic.{pointwise}
 use Rattle.indexmap.specs.IndexMap.{get}
 use Rattle.sect_types.proofs.Numbering.{numbered, numbered_before, copied}
-use Rattle.sect_types.proofs.rules.called.numbers_of.Goals as goal
 use Rattle.sect_types.proofs.rules.called.numbers_of.Goals.{then-is_none+in_ok-insert, else-is_none}
+use Rattle.sect_types.proofs.rules.called.numbers_of.Goals as goal
 
 pub loop-number-preserved : goal.loop-number-preserved
 loop-number-preserved c =

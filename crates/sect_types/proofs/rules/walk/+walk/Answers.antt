@@ -1,10 +1,8 @@
 use Rattle.std.proofs.Common.{arith, ap, sym, subst, ℕ, Err}
-use Rattle.sect_front.specs.Trees.{statement_of, statement_size, block_size}
-use Rattle.sect_front.specs.Depth.{statement_depth, block_depth}
+use Rattle.sect_front.specs.{Trees.{statement_of, statement_size, block_size}, Depth.{statement_depth, block_depth}}
 use Rattle.sect_front.proofs.shared.Bodies.{size_at}
 use Rattle.sect_types.specs.Items.{TestHead, AtomicHead, deeper, in_section, statement_items, block_items}
-use Rattle.sect_types.specs.steps.Walks.{Walks}
-use Rattle.sect_types.specs.steps.Standing.{StandingView, declared_by}
+use Rattle.sect_types.specs.steps.{Walks.{Walks}, Standing.{StandingView, declared_by}}
 use Rattle.sect_types.proofs.Passing.{kept, depth_at, one_block, first_fails}
 use Rattle.sect_types.proofs.rules.walk.+walk.Goals as goal
 

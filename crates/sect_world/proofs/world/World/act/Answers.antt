@@ -4,15 +4,12 @@ use Rattle.std.specs.Prelude.{ℕ, slice_get, slice_set}
 use Rattle.sect_types.specs.Meaning.{begins_step}
 use Rattle.sect_graph.specs.Rests.{rest_at}
 use Rattle.sect_emit.specs.State.{ThreadState, IsThread, Running}
-use Rattle.sect_world.specs.declared.turned.EventKind.TheVariants as kind
-use Rattle.sect_world.specs.declared.turned.Turned.TheVariants.{Moved}
-use Rattle.sect_world.specs.Moments.{world_at}
-use Rattle.sect_world.specs.Worlds.{WorldView}
+use Rattle.sect_world.specs.{declared.turned.Turned.TheVariants.{Moved}, Moments.{world_at}, Worlds.{WorldView}}
 use Rattle.sect_world.specs.Viewing.{body_at}
 use Rattle.sect_world.proofs.MoveTurns.{text_inside, running_there, before_end, free_key, turns_inside}
-use Rattle.sect_world.proofs.Turning.{standing}
-use Rattle.sect_world.proofs.Viewing.{runs_here, read_here, TurnsInto, still_room}
+use Rattle.sect_world.proofs.{Turning.{standing}, Viewing.{runs_here, read_here, TurnsInto, still_room}}
 use Rattle.sect_world.proofs.world.World.act.Goals.{After-index_mut}
+use Rattle.sect_world.specs.declared.turned.EventKind.TheVariants as kind
 use Rattle.sect_world.proofs.world.World.act.Goals as goal
 
 -- the thread is in section i, and its next step is at node n

@@ -1,18 +1,14 @@
 -- Others take what is given back.
-use Rattle.std.proofs.Common.{refl, sym, subst, arith}
+use Rattle.std.proofs.{Common.{refl, sym, subst, arith}, lemmas.List.{append-nil}}
 use Rattle.std.specs.Prelude.{ℕ, slice_set}
-use Rattle.std.proofs.lemmas.List.{append-nil}
 use Rattle.sect_emit.specs.State.{State}
-use Rattle.sect_world.specs.declared.event.Deed.TheVariants.{Again}
-use Rattle.sect_world.specs.declared.runner.Phase.TheVariants as phase
-use Rattle.sect_world.specs.declared.turned.EventKind.TheVariants as kind
-use Rattle.sect_world.specs.declared.turned.Turned.TheVariants.{Moved}
-use Rattle.sect_world.specs.Events.{Happens}
-use Rattle.sect_world.specs.Moments.{world_at}
-use Rattle.sect_world.specs.Worlds.{WorldView}
+use Rattle.sect_world.specs.{declared.event.Deed.TheVariants.{Again}, declared.turned.Turned.TheVariants.{Moved}}
+use Rattle.sect_world.specs.{Events.{Happens}, Moments.{world_at}, Worlds.{WorldView}}
 use Rattle.sect_world.proofs.Leaving.{GivesBack, goes_again, gave_back}
 use Rattle.sect_world.proofs.Viewing.{runs_here, read_here, TurnsInto, still_room}
 use Rattle.sect_world.proofs.world.World.again.Goals.{After-index_mut}
+use Rattle.sect_world.specs.declared.runner.Phase.TheVariants as phase
+use Rattle.sect_world.specs.declared.turned.EventKind.TheVariants as kind
 use Rattle.sect_world.proofs.world.World.again.Goals as goal
 
 -- the thread may give all back

@@ -3,8 +3,7 @@ use Rattle.std.proofs.Common.{sym, ap, ◌∙◌, subst, refl, IsTrue}
 use Rattle.std.specs.List.{list_all}
 use Rattle.sect_types.specs.Whole.{has_ended}
 use Rattle.sect_emit.specs.Compiled.{program_of}
-use Rattle.sect_world.specs.declared.runner.Runner.{Runner}
-use Rattle.sect_world.specs.Worlds.{WorldView, AllEnded}
+use Rattle.sect_world.specs.{declared.runner.Runner.{Runner}, Worlds.{WorldView, AllEnded}}
 use Rattle.sect_world.proofs.Finishing.{threads_ended, runners_ended}
 use Rattle.sect_world.proofs.world.World.all_ended.Goals as goal
 

@@ -2,12 +2,9 @@
 use Rattle.std.proofs.Common.{[], refl, sym, ◌∙◌, subst}
 use Rattle.sect_lemmas.proofs.Options.{some_injective}
 use Rattle.sect_emit.specs.Plan.{grip}
-use Rattle.sect_world.specs.Worlds.{WorldView}
-use Rattle.sect_world.specs.Waiting.{Asks}
+use Rattle.sect_world.specs.{Worlds.{WorldView}, Waiting.{Asks}, Moments.{world_at}}
 use Rattle.sect_world.specs.steps.Taking.{Wishes, turn_by}
-use Rattle.sect_world.specs.Moments.{world_at}
-use Rattle.sect_world.proofs.Viewing.{TurnsInto, still_room}
-use Rattle.sect_world.proofs.Waiting.{asker, world_asked}
+use Rattle.sect_world.proofs.{Viewing.{TurnsInto, still_room}, Waiting.{asker, world_asked}}
 use Rattle.sect_world.proofs.world.World.ask.Goals as goal
 
 pub ask-requires-clause-held : goal.ask-requires-clause-held

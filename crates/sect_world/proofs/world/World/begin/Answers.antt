@@ -2,16 +2,13 @@
 use Rattle.std.proofs.Common.{◌≡◌, true, Some, refl, sym, ◌∙◌, subst, arith}
 use Rattle.std.specs.Prelude.{ℕ, slice_get, slice_set}
 use Rattle.sect_types.specs.Statements.{TextView}
-use Rattle.sect_emit.specs.Plan.{meets}
-use Rattle.sect_emit.specs.State.{ThreadState, IsThread, plan_at}
-use Rattle.sect_world.specs.declared.turned.EventKind.TheVariants as kind
-use Rattle.sect_world.specs.declared.turned.Turned.TheVariants.{Moved}
-use Rattle.sect_world.specs.Events.{IsReady}
-use Rattle.sect_world.specs.Moments.{world_at}
+use Rattle.sect_emit.specs.{Plan.{meets}, State.{ThreadState, IsThread, plan_at}}
+use Rattle.sect_world.specs.{declared.turned.Turned.TheVariants.{Moved}, Events.{IsReady}, Moments.{world_at}}
 use Rattle.sect_world.specs.Worlds.{WorldView}
 use Rattle.sect_world.proofs.MoveTurns.{text_is, section_on, before, turns_begun}
 use Rattle.sect_world.proofs.Viewing.{runs_here, read_here, TurnsInto, still_room}
 use Rattle.sect_world.proofs.world.World.begin.Goals.{After-index_mut}
+use Rattle.sect_world.specs.declared.turned.EventKind.TheVariants as kind
 use Rattle.sect_world.proofs.world.World.begin.Goals as goal
 
 -- the thread is ready for section i, whose plan is met

@@ -1,10 +1,7 @@
 -- A runner knows how its thread has ended.
-use Rattle.std.proofs.Common.{◌≡◌, ◌<◌, length, refl, sym, subst, arith}
-use Rattle.std.proofs.lemmas.Option.{slice_get_read}
-use Rattle.sect_world.specs.Sights.{end_of}
-use Rattle.sect_world.specs.Worlds.{WorldView}
-use Rattle.sect_world.proofs.Viewing.{runner_there}
-use Rattle.sect_world.proofs.Sights.{ended_so}
+use Rattle.std.proofs.{Common.{◌≡◌, ◌<◌, length, refl, sym, subst, arith}, lemmas.Option.{slice_get_read}}
+use Rattle.sect_world.specs.{Sights.{end_of}, Worlds.{WorldView}}
+use Rattle.sect_world.proofs.{Viewing.{runner_there}, Sights.{ended_so}}
 use Rattle.sect_world.proofs.world.World.end_of.Goals as goal
 
 pub index-requires : goal.index-requires

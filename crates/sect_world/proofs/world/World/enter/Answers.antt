@@ -3,14 +3,12 @@ use Rattle.std.proofs.Common.{◌≡◌, Some, refl, sym, subst, arith}
 use Rattle.std.specs.Prelude.{ℕ, slice_get, slice_set}
 use Rattle.sect_types.specs.Statements.{TextView, Section}
 use Rattle.sect_emit.specs.State.{ThreadState, IsThread}
-use Rattle.sect_world.specs.declared.turned.EventKind.TheVariants as kind
-use Rattle.sect_world.specs.declared.turned.Turned.TheVariants.{Moved}
-use Rattle.sect_world.specs.Events.{IsFree}
-use Rattle.sect_world.specs.Moments.{world_at}
+use Rattle.sect_world.specs.{declared.turned.Turned.TheVariants.{Moved}, Events.{IsFree}, Moments.{world_at}}
 use Rattle.sect_world.specs.Worlds.{WorldView}
 use Rattle.sect_world.proofs.MoveTurns.{section_there, turns_in}
 use Rattle.sect_world.proofs.Viewing.{runs_here, read_here, TurnsInto, still_room}
 use Rattle.sect_world.proofs.world.World.enter.Goals.{After-index_mut}
+use Rattle.sect_world.specs.declared.turned.EventKind.TheVariants as kind
 use Rattle.sect_world.proofs.world.World.enter.Goals as goal
 
 -- the thread is outside sections, before section i

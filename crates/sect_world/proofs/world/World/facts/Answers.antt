@@ -1,7 +1,6 @@
 -- No state of a run is stuck.
 use Rattle.std.proofs.Common.{subst}
-use Rattle.sect_world.specs.Blocked.{IsStuck}
-use Rattle.sect_world.specs.Worlds.{WorldView}
+use Rattle.sect_world.specs.{Blocked.{IsStuck}, Worlds.{WorldView}}
 use Rattle.sect_world.proofs.Stuck.{no_state_is_stuck}
 use Rattle.sect_world.proofs.world.World.facts.Goals as goal
 

@@ -2,8 +2,7 @@
 use Rattle.std.proofs.Common.{◌++◌, map, ap, ◌∙◌, subst}
 use Rattle.sect_types.specs.Whole.{SerialEndView, RunsWhole}
 use Rattle.sect_emit.specs.Compiled.{program_of}
-use Rattle.sect_world.specs.declared.runner.Runner.{Runner}
-use Rattle.sect_world.specs.Runs.{IsComplete}
+use Rattle.sect_world.specs.{declared.runner.Runner.{Runner}, Runs.{IsComplete}}
 use Rattle.sect_world.specs.Worlds.{WorldView, AllEnded, outcome_at}
 use Rattle.sect_world.proofs.Finishing.{runners_end, whole_at_end}
 use Rattle.sect_world.proofs.world.World.finish.Goals as goal

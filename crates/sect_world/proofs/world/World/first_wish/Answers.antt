@@ -1,9 +1,7 @@
 -- A runner knows what its thread wants first.
-use Rattle.std.proofs.Common.{◌≡◌, ◌≤◌, ◌<◌, length, None, refl, sym, subst, ◌∙◌, get_or}
-use Rattle.std.proofs.lemmas.Bool.{ltb-false}
+use Rattle.std.proofs.{Common.{◌≡◌, ◌≤◌, ◌<◌, length, None, refl, sym, subst, ◌∙◌, get_or}, lemmas.Bool.{ltb-false}}
 use Rattle.std.proofs.lemmas.Option.{slice_get_read}
-use Rattle.sect_world.specs.Sights.{first_wish}
-use Rattle.sect_world.specs.Worlds.{WorldView}
+use Rattle.sect_world.specs.{Sights.{first_wish}, Worlds.{WorldView}}
 use Rattle.sect_world.proofs.Sights.{wish_none, wish_some}
 use Rattle.sect_world.proofs.world.World.first_wish.Goals as goal
 

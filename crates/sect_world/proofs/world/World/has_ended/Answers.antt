@@ -2,9 +2,8 @@
 use Rattle.std.proofs.Common.{sym, ◌∙◌, ap, subst, arith}
 use Rattle.sect_emit.specs.State.{ThreadState, IsThread}
 use Rattle.sect_world.specs.Worlds.{WorldView}
-use Rattle.sect_world.proofs.Viewing.{runs_here, read_here}
+use Rattle.sect_world.proofs.{Viewing.{runs_here, read_here}, TurnPlaces.{ended_is, shown_ended}}
 use Rattle.sect_types.specs.Whole.{has_ended}
-use Rattle.sect_world.proofs.TurnPlaces.{ended_is, shown_ended}
 use Rattle.sect_world.proofs.world.World.has_ended.Goals as goal
 
 pub index-requires : goal.index-requires

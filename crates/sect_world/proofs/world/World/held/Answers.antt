@@ -1,9 +1,7 @@
 -- The table knows what a thread holds.
 use Rattle.std.proofs.Common.{◌≡◌, ◌<◌, length, sym, ◌∙◌, subst, arith}
-use Rattle.sect_world.specs.Sights.{mode_of}
-use Rattle.sect_world.specs.Worlds.{WorldView}
-use Rattle.sect_world.proofs.Viewing.{runner_there}
-use Rattle.sect_world.proofs.Sights.{holds_so}
+use Rattle.sect_world.specs.{Sights.{mode_of}, Worlds.{WorldView}}
+use Rattle.sect_world.proofs.{Viewing.{runner_there}, Sights.{holds_so}}
 use Rattle.sect_world.proofs.world.World.held.Goals as goal
 
 pub held-requires : goal.held-requires

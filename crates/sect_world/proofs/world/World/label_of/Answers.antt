@@ -1,12 +1,9 @@
 -- A thread that is free has something to do.
 use Rattle.std.proofs.Common.{sym, ◌∙◌, subst, arith}
 use Rattle.sect_emit.specs.State.{ThreadState, IsThread}
-use Rattle.sect_world.specs.Worlds.{WorldView}
-use Rattle.sect_world.proofs.Viewing.{runs_here, read_here}
-use Rattle.sect_world.specs.Events.{IsFree}
+use Rattle.sect_world.specs.{Worlds.{WorldView}, Events.{IsFree}}
+use Rattle.sect_world.proofs.{Viewing.{runs_here, read_here}, MoveTurns.{text_is}, TurnPlaces.{ended_is, on_outside}}
 use Rattle.sect_world.specs.steps.Moves.{IsNext}
-use Rattle.sect_world.proofs.MoveTurns.{text_is}
-use Rattle.sect_world.proofs.TurnPlaces.{ended_is, on_outside}
 use Rattle.sect_world.proofs.world.World.label_of.Goals as goal
 
 pub index-requires : goal.index-requires

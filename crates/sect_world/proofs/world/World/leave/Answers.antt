@@ -3,15 +3,12 @@ use Rattle.std.proofs.Common.{◌++◌, sym, subst, arith}
 use Rattle.std.specs.Prelude.{ℕ, Option, slice_set}
 use Rattle.sect_types.specs.declared.meaning.store.Fault.{Fault}
 use Rattle.sect_emit.specs.State.{ThreadState, IsThread}
-use Rattle.sect_world.specs.declared.event.Deed.TheVariants.{Leave}
-use Rattle.sect_world.specs.declared.turned.EventKind.TheVariants as kind
-use Rattle.sect_world.specs.declared.turned.Turned.TheVariants.{Moved}
-use Rattle.sect_world.specs.Events.{IsOver}
-use Rattle.sect_world.specs.Moments.{world_at}
-use Rattle.sect_world.specs.Worlds.{WorldView}
+use Rattle.sect_world.specs.{declared.event.Deed.TheVariants.{Leave}, declared.turned.Turned.TheVariants.{Moved}}
+use Rattle.sect_world.specs.{Events.{IsOver}, Moments.{world_at}, Worlds.{WorldView}}
 use Rattle.sect_world.proofs.Leaving.{GivesBack, leaves, gave_back}
 use Rattle.sect_world.proofs.Viewing.{runs_here, read_here, TurnsInto, still_room}
 use Rattle.sect_world.proofs.world.World.leave.Goals.{In_ok-come_out}
+use Rattle.sect_world.specs.declared.turned.EventKind.TheVariants as kind
 use Rattle.sect_world.proofs.world.World.leave.Goals as goal
 
 -- the thread is at the end of its section

@@ -3,14 +3,12 @@ use Rattle.std.proofs.Common.{◌≡◌, true, Some, refl, sym, ap, ◌∙◌, s
 use Rattle.std.specs.Prelude.{ℕ, slice_get, slice_set}
 use Rattle.sect_types.specs.Meaning.{begins_step}
 use Rattle.sect_emit.specs.State.{ThreadState, IsThread}
-use Rattle.sect_world.specs.declared.turned.EventKind.TheVariants as kind
-use Rattle.sect_world.specs.declared.turned.Turned.TheVariants.{Moved}
-use Rattle.sect_world.specs.Events.{IsFree}
-use Rattle.sect_world.specs.Moments.{world_at}
+use Rattle.sect_world.specs.{declared.turned.Turned.TheVariants.{Moved}, Events.{IsFree}, Moments.{world_at}}
 use Rattle.sect_world.specs.Worlds.{WorldView}
 use Rattle.sect_world.proofs.MoveTurns.{begins_on, stands, text_is, before, sound, turns_local}
 use Rattle.sect_world.proofs.Viewing.{runs_here, read_here, TurnsInto, still_room}
 use Rattle.sect_world.proofs.world.World.local.Goals.{After-index_mut}
+use Rattle.sect_world.specs.declared.turned.EventKind.TheVariants as kind
 use Rattle.sect_world.proofs.world.World.local.Goals as goal
 
 -- the thread is outside sections, before a statement or test

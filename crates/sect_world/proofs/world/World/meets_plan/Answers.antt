@@ -1,13 +1,10 @@
 -- The plan of a thread is that of its runner.
 use Rattle.std.proofs.Common.{◌≡◌, sym, ◌∙◌, subst, arith}
-use Rattle.sect_emit.specs.State.{ThreadState, IsThread, plan_at}
+use Rattle.sect_emit.specs.{State.{ThreadState, IsThread, plan_at}, Plan.{meets}}
 use Rattle.sect_world.specs.Worlds.{WorldView}
-use Rattle.sect_world.proofs.Viewing.{runs_here, read_here}
-use Rattle.sect_types.specs.Statements.{TextView, Section}
-use Rattle.sect_emit.specs.Plan.{meets}
-use Rattle.sect_world.proofs.MoveTurns.{section_there}
-use Rattle.sect_world.proofs.Turning.{standing}
+use Rattle.sect_world.proofs.{Viewing.{runs_here, read_here}, MoveTurns.{section_there}, Turning.{standing}}
 use Rattle.sect_world.proofs.TurnPlaces.{meets_as}
+use Rattle.sect_types.specs.Statements.{TextView, Section}
 use Rattle.sect_world.proofs.world.World.meets_plan.Goals as goal
 
 pub index-requires : goal.index-requires

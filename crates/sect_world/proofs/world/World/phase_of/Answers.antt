@@ -1,9 +1,7 @@
 -- A runner's phase says where its thread is.
-use Rattle.std.proofs.Common.{◌≡◌, ◌<◌, length, refl, sym, subst, arith}
-use Rattle.std.proofs.lemmas.Option.{slice_get_read}
+use Rattle.std.proofs.{Common.{◌≡◌, ◌<◌, length, refl, sym, subst, arith}, lemmas.Option.{slice_get_read}}
 use Rattle.sect_emit.specs.State.{ThreadState, IsThread}
-use Rattle.sect_world.specs.Worlds.{WorldView}
-use Rattle.sect_world.specs.Viewing.{position_of, IsSited}
+use Rattle.sect_world.specs.{Worlds.{WorldView}, Viewing.{position_of, IsSited}}
 use Rattle.sect_world.proofs.Viewing.{runner_there, place_of}
 use Rattle.sect_world.proofs.world.World.phase_of.Goals as goal
 

@@ -3,14 +3,10 @@ use Rattle.std.proofs.Common.{◌≡◌, Some, sym, ◌∙◌, subst, arith}
 use Rattle.std.specs.Prelude.{ℕ, slice_get}
 use Rattle.sect_graph.specs.Rests.{rest_at}
 use Rattle.sect_emit.specs.State.{ThreadState, IsThread, Entered}
-use Rattle.sect_world.specs.Moments.{world_at}
-use Rattle.sect_world.specs.Worlds.{WorldView}
+use Rattle.sect_world.specs.{Moments.{world_at}, Worlds.{WorldView}, Viewing.{text_at}}
 use Rattle.sect_world.specs.steps.Moves.{IsNext}
-use Rattle.sect_world.specs.Viewing.{text_at}
-use Rattle.sect_world.proofs.MoveTurns.{text_is}
-use Rattle.sect_world.proofs.TurnPlaces.{on_entered, no_step_entered}
-use Rattle.sect_world.proofs.Viewing.{runs_here, read_here}
-use Rattle.sect_world.proofs.world.World.section_of.Goals.{After-index}
+use Rattle.sect_world.proofs.{MoveTurns.{text_is}, TurnPlaces.{on_entered, no_step_entered}}
+use Rattle.sect_world.proofs.{Viewing.{runs_here, read_here}, world.World.section_of.Goals.{After-index}}
 use Rattle.sect_world.proofs.world.World.section_of.Goals as goal
 
 -- the thread has entered

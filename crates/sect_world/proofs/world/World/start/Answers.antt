@@ -1,10 +1,8 @@
 -- The parts at the start are the first world.
 use Rattle.std.proofs.Common.{length, ap, ◌∙◌, subst, arith}
-use Rattle.sect_types.specs.Programs.{ProgramView}
-use Rattle.sect_types.specs.Whole.{first_store}
+use Rattle.sect_types.specs.{Programs.{ProgramView}, Whole.{first_store}}
 use Rattle.sect_names.specs.Schemes.{SchemeView}
-use Rattle.sect_table.specs.Contents.{IsEmptyFor}
-use Rattle.sect_table.specs.Granted.{Granted}
+use Rattle.sect_table.specs.{Contents.{IsEmptyFor}, Granted.{Granted}}
 use Rattle.sect_world.proofs.Opening.{opens, opened}
 use Rattle.sect_world.proofs.world.World.start.Goals as goal
 

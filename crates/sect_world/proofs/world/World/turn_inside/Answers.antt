@@ -1,20 +1,13 @@
 -- In a section a thread is at its end, or has a step to do.
 use Rattle.std.proofs.Common.{◌≡◌, ◌<◌, true, length, sym, ap, ◌∙◌, subst, arith}
-use Rattle.sect_emit.specs.State.{ThreadState, IsThread, Running}
-use Rattle.sect_world.specs.Worlds.{WorldView}
+use Rattle.sect_emit.specs.{State.{ThreadState, IsThread, Running}, Compiled.{program_of}}
+use Rattle.sect_world.specs.{Worlds.{WorldView}, Viewing.{body_at}}
 use Rattle.std.specs.Prelude.{ℕ, slice_get}
-use Rattle.sect_types.specs.Meaning.{begins_step}
-use Rattle.sect_types.specs.Sections.{sections_of}
-use Rattle.sect_types.specs.Statements.{Stop}
+use Rattle.sect_types.specs.{Meaning.{begins_step}, Sections.{sections_of}, Statements.{Stop}}
 use Rattle.sect_lemmas.proofs.Places.{at_of}
-use Rattle.sect_graph.specs.Graphs.{GraphView}
-use Rattle.sect_graph.specs.Rests.{rest_at}
+use Rattle.sect_graph.specs.{Graphs.{GraphView}, Rests.{rest_at}}
 use Rattle.sect_names.specs.Schemes.{SchemeView}
-use Rattle.sect_emit.specs.Compiled.{program_of}
-use Rattle.sect_world.specs.Viewing.{body_at}
-use Rattle.sect_world.proofs.MoveTurns.{text_inside}
-use Rattle.sect_world.proofs.NodeSteps.{at_end, inside_step}
-use Rattle.sect_world.proofs.Turning.{standing}
+use Rattle.sect_world.proofs.{MoveTurns.{text_inside}, NodeSteps.{at_end, inside_step}, Turning.{standing}}
 use Rattle.sect_world.proofs.world.World.turn_inside.Goals as goal
 
 pub act-requires : goal.act-requires

@@ -2,8 +2,7 @@
 use Rattle.std.proofs.Common.{sym, ◌∙◌, subst}
 use Rattle.sect_world.specs.steps.Moves.{IsNext}
 use Rattle.sect_world.specs.Events.{IsFree}
-use Rattle.sect_world.proofs.TurnPlaces.{none_ended}
-use Rattle.sect_world.proofs.world.World.turn_outside.Goals.{After-label_of}
+use Rattle.sect_world.proofs.{TurnPlaces.{none_ended}, world.World.turn_outside.Goals.{After-label_of}}
 use Rattle.sect_world.proofs.world.World.turn_outside.Goals as goal
 
 pub label_of-requires : goal.label_of-requires

@@ -1,13 +1,9 @@
 -- A runner knows what its thread wants.
-use Rattle.std.proofs.Common.{◌≡◌, sym, subst, arith}
+use Rattle.std.proofs.{Common.{◌≡◌, sym, subst, arith}, lemmas.Bool.Decides.{Decides-ltb, not_from_Decides}}
 use Rattle.sect_emit.specs.State.{ThreadState, IsThread, Entered}
-use Rattle.sect_world.specs.Worlds.{WorldView}
-use Rattle.sect_world.proofs.Viewing.{runs_here, read_here}
-use Rattle.std.proofs.lemmas.Bool.Decides.{Decides-ltb, not_from_Decides}
-use Rattle.sect_modes.specs.declared.key.Key.{Key}
-use Rattle.sect_modes.specs.declared.mode.Mode.{Mode}
-use Rattle.sect_world.specs.Waiting.{Asks}
-use Rattle.sect_world.proofs.TurnPlaces.{asks_first, wants_none}
+use Rattle.sect_world.specs.{Worlds.{WorldView}, Waiting.{Asks}}
+use Rattle.sect_world.proofs.{Viewing.{runs_here, read_here}, TurnPlaces.{asks_first, wants_none}}
+use Rattle.sect_modes.specs.{declared.key.Key.{Key}, declared.mode.Mode.{Mode}}
 use Rattle.sect_world.proofs.world.World.wants_more.Goals as goal
 
 pub index-runner-requires : goal.index-runner-requires

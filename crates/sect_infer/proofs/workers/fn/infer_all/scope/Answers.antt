@@ -1,8 +1,8 @@
 use Rattle.std.proofs.Common.{rules}
 use denote.Param.Send.{IsSend, IsSync, sendable, param_send}
-use Rattle.std.proofs.alloc.Global.TheSendSync as heap
 use Rattle.sect_names.proofs.shared.Crossing.{scheme_sync}
 use Rattle.sect_infer.proofs.workers.fn.infer_all.scope.Lts.{arg-5-2}
+use Rattle.std.proofs.alloc.Global.TheSendSync as heap
 use Rattle.sect_infer.proofs.workers.fn.infer_all.scope.Goals as goal
 
 pub spawn_with-requires-send-F : goal.spawn_with-requires-send-F

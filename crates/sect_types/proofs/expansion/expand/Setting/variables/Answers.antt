@@ -1,9 +1,6 @@
-use Rattle.std.proofs.lemmas.Bool.{ltb-true}
-use Rattle.std.proofs.lemmas.Option.{slice_get_read}
-use Rattle.std.proofs.Common.{refl, length, ap, sym, ◌∙◌}
+use Rattle.std.proofs.{lemmas.Bool.{ltb-true}, lemmas.Option.{slice_get_read}, Common.{refl, length, ap, sym, ◌∙◌}}
 use Rattle.std.specs.Prelude.{map}
-use Rattle.sect_types.specs.steps.Threads.{variables_shown}
-use Rattle.sect_types.specs.steps.Expanding.{SettingView}
+use Rattle.sect_types.specs.steps.{Threads.{variables_shown}, Expanding.{SettingView}}
 use Rattle.sect_types.proofs.Fronts.{variables_found}
 use Rattle.sect_types.proofs.expansion.expand.Setting.variables.Goals as goal
 

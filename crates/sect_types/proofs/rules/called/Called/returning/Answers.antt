@@ -2,8 +2,8 @@ use Rattle.std.proofs.Common.{arith, ◌∙◌, subst, ap, refl, length}
 use Rattle.std.specs.Prelude.{replicate, false, []}
 use Rattle.sect_types.specs.steps.Called.{Marks}
 use Rattle.sect_types.proofs.Marking.{begun, searched, passed_by, all_searched, found_there, read_found}
-use Rattle.sect_types.proofs.rules.called.Called.returning.Goals as goal
 use Rattle.sect_types.proofs.rules.called.Called.returning.Goals.{then-next-len+in_ok-mark_callers, else-next-len}
+use Rattle.sect_types.proofs.rules.called.Called.returning.Goals as goal
 
 pub loop-next-init : goal.loop-next-init
 loop-next-init c = begun c.args.self.now c.args.number (length c.args.self.now) c.mark.new.marked.items

@@ -2,6 +2,7 @@ mod Placing
 mod Passing
 mod Lining
 mod Columns
+mod Blocks
 mod Following
 mod Walked
 mod Lists

@@ -6,7 +6,8 @@ use Rattle.std.specs.{Prelude.{◌==◌, if◌then◌else◌}, List.{count_by}}
 use Rattle.sect_front.specs.Gaps.{line_feed}
 use Rattle.sect_places.specs.{Positions.{position, next_column}, declared.position.Position.{Position}}
 use Rattle.sect_places.specs.declared.positions.Cursor.{Cursor}
-use Rattle.sect_places.specs.steps.Passing.{next_position, IsAt}
+use Rattle.sect_places.specs.steps.{Passing.{next_position, IsAt}, Feeding.{feeds_in}}
+use Rattle.sect_places.proofs.shared.Bounds.{column_grows}
 
 abbrev is_feed : ℕ → Bool
 is_feed b = b == line_feed
@@ -36,6 +37,12 @@ column_behind (x ∷ xs) p = column_behind xs (next_position p x) ∙ ap (λ c. 
     one true = refl
     one false = refl
 
+-- where bytes end, by their line feeds and by their last column
+pub position_behind : (p : Position) (xs : List ℕ) (line column : ℕ) → line ≡ p.line + feeds_in xs
+    → column ≡ fold next_column p.column xs → record { line = line; column = column } ≡ fold next_position p xs
+position_behind p xs line column lines columns =
+    one_position _ _ (lines ∙ sym (line_behind xs p)) (columns ∙ sym (column_behind xs p))
+
 abbrev first_position : Position
 first_position = record { line = 1; column = 1 }
 
@@ -52,17 +59,6 @@ position_on xs a b within =
     ∙ sym (fold-append next_position first_position (take a xs) (take (b - a) (drop a xs)))
     ∙ ap (fold next_position first_position) (sym (take-add a (b - a) xs))
     ∙ position_is xs (a + (b - a)) ∙ ap (position xs) (omega (arith, within))
-
-column_grows : (xs : List ℕ) (c : ℕ) → fold next_column c xs ≤ c + length xs
-column_grows [] c = omega arith
-column_grows (x ∷ xs) c =
-    let before = column_grows xs (next_column c x) in
-    let step : next_column c x ≤ c + 1 = one (is_feed x) in
-    omega (arith, before, step)
-  where
-    one : (b : Bool) → (if b then 1 else c + 1) ≤ c + 1
-    one true = omega arith
-    one false = omega arith
 
 pub stands_at : (xs : List ℕ) (at : ℕ) (c : Cursor) → at ≤ length xs → c.at ≡ at → c.position ≡ position xs at → IsAt xs c
 stands_at xs at c within there is =

@@ -3,3 +3,4 @@ pub mod Ordered
 pub mod Names
 pub mod Fitting
 pub mod Naming
+pub mod Bounds

@@ -10,3 +10,4 @@ pub mod Standing
 pub mod Wanting
 pub mod Wanted
 pub mod Feeding
+pub mod Blocks

@@ -7,6 +7,7 @@ mod faults;
 mod inside;
 mod item_counts;
 mod items;
+mod line_index;
 mod lines;
 mod name_use;
 mod named;
@@ -30,6 +31,7 @@ pub use declarations::{
 };
 pub use faults::fault_span;
 pub use items::{item_ranges, item_spans, tree_spans};
+pub use line_index::LineIndex;
 pub use lines::{NodeLine, node_lines};
 pub use name_use::{NameSpan, NameUse, Role, Thing};
 pub use named::{ItemWords, item_words, name_spans, tree_names};

@@ -1,9 +1,9 @@
 //! Lines and columns.
 
-ghost use Rattle.std.specs.Prelude.{◌≡◌, ◌≤◌, ◌<◌, ◌+◌, length};
+ghost use Rattle.std.specs.Prelude.{◌≡◌, ◌≤◌, ◌<◌, ◌+◌, ◌^◌, fold, length};
 ghost use Rattle.sect_front.specs.Front.{line_of as line};
-ghost use Rattle.sect_places.specs.Positions.{position, column_of as column};
-ghost use Rattle.sect_places.specs.steps.Feeding.{feeds_in};
+ghost use Rattle.sect_places.specs.Positions.{position, next_column, column_of as column};
+ghost use Rattle.sect_places.specs.steps.{Feeding.{feeds_in}, Passing.{next_position}};
 
 use memchr::memrchr;
 
@@ -51,6 +51,29 @@ fn line_of(source: &[u8], at: usize) -> usize
     feeds_of(&source[..at]) + 1
 }
 
+/// The column behind these bytes, the first of which stands in this column.
+fn column_behind(column: usize, bytes: &[u8]) -> usize
+    requires { column + length bytes.now < 2 ^ 64 }
+    ensures { result ≡ fold next_column column bytes.now }
+{
+    match memrchr(b'\n', bytes) {
+        Some(feed) => bytes.len() - feed,
+        None => column + bytes.len(),
+    }
+}
+
+/// The line and the column behind these bytes, the first of which stands at this line and column.
+pub fn position_behind(from: Position, bytes: &[u8]) -> Position
+    requires line { from.line + length bytes.now < 2 ^ 64 }
+    requires column { from.column + length bytes.now < 2 ^ 64 }
+    ensures { result ≡ fold next_position from bytes.now }
+{
+    Position {
+        line: from.line + feeds_of(bytes),
+        column: column_behind(from.column, bytes),
+    }
+}
+
 /// The column of a place.
 pub fn column_of(source: &[u8], at: usize) -> usize
     requires { at ≤ length source.now }
@@ -58,10 +81,7 @@ pub fn column_of(source: &[u8], at: usize) -> usize
     ensures least { 1 ≤ result }
     ensures most { result ≤ at + 1 }
 {
-    match memrchr(b'\n', &source[..at]) {
-        Some(feed) => at - feed,
-        None => at + 1,
-    }
+    column_behind(1, &source[..at])
 }
 
 /// The line and the column of a place.

@@ -1,17 +1,17 @@
 //! Lines and columns of many places.
 
-ghost use Rattle.std.specs.{Prelude.{◌≡◌, ◌≤◌, ◌<◌, ◌+◌, ◌^◌, ℕ, length, map, fold, IfOk}, List.{All}};
-ghost use Rattle.sect_places.specs.Positions.{position};
-ghost use Rattle.sect_places.specs.steps.Passing.{next_position, IsAt};
+ghost use Rattle.std.specs.{Prelude.{◌≡◌, ◌≤◌, length, map, IfOk}, List.{All}};
+ghost use Rattle.sect_places.specs.{Positions.{position}};
+ghost use Rattle.sect_places.specs.steps.Passing.{IsAt};
 
-use crate::position::Position;
+use crate::position::{Position, position_behind};
 use std::alloc::{AllocError, Global};
 
 /// A place of a text, with its line and its column.
 #[derive(Clone, Copy)]
-struct Cursor {
-    at: usize,
-    position: Position,
+pub struct Cursor {
+    pub at: usize,
+    pub position: Position,
 }
 
 /// The first place of a text.
@@ -26,29 +26,6 @@ fn start(source: &[u8]) -> Cursor
     }
 }
 
-/// The line and the column behind these bytes.
-fn passed(from: Position, bytes: &[u8]) -> Position
-    requires line { from.line + length bytes.now < 2 ^ 64 }
-    requires column { from.column + length bytes.now < 2 ^ 64 }
-    ensures { result ≡ fold next_position from bytes.now }
-{
-    let mut position = from;
-    for byte in bytes {
-        position = if *byte == b'\n' {
-            Position {
-                line: position.line + 1,
-                column: 1,
-            }
-        } else {
-            Position {
-                line: position.line,
-                column: position.column + 1,
-            }
-        };
-    }
-    position
-}
-
 /// Where to go on from to a place: where the cursor is, or the start of the text where that lies behind the place.
 fn nearest(source: &[u8], from: Cursor, at: usize) -> Cursor
     requires { IsAt source.now from }
@@ -58,17 +35,17 @@ fn nearest(source: &[u8], from: Cursor, at: usize) -> Cursor
     if at < from.at { start(source) } else { from }
 }
 
-/// The cursor at a place.
-fn moved(source: &[u8], from: Cursor, at: usize) -> Cursor
+/// The cursor at a place that it hasn't passed.
+pub fn moved(source: &[u8], from: Cursor, at: usize) -> Cursor
     requires from { IsAt source.now from }
+    requires before { from.at ≤ at }
     requires within { at ≤ length source.now }
     ensures is { IsAt source.now result }
     ensures there { result.at ≡ at }
 {
-    let from = nearest(source, from, at);
     Cursor {
         at,
-        position: passed(from.position, &source[from.at..at]),
+        position: position_behind(from.position, &source[from.at..at]),
     }
 }
 
@@ -84,7 +61,7 @@ pub fn positions_of(
     let mut positions = Vec::with_capacity(alloc, places.len())?;
     let mut cursor = start(source);
     for at in places {
-        cursor = moved(source, cursor, *at);
+        cursor = moved(source, nearest(source, cursor, *at), *at);
         positions.push(cursor.position)?;
     }
     Ok(positions)

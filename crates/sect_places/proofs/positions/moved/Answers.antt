@@ -6,8 +6,8 @@ use Rattle.sect_places.proofs.positions.moved.Goals as goal
 pub returns-clause-is : goal.returns-clause-is
 returns-clause-is c =
     let source = c.args.source.now in
-    let from = c.nearest-from.result in
+    let from = c.args.from in
     stands_at source c.args.at _ c.requires.within refl
-    (c.passed.ensures
-    ∙ ap (λ p. fold next_position p (take (c.args.at - from.at) (drop from.at source))) c.nearest-from.ensures.is.is
-    ∙ position_on source from.at c.args.at c.nearest-from.ensures.before)
+    (c.position_behind.ensures
+    ∙ ap (λ p. fold next_position p (take (c.args.at - from.at) (drop from.at source))) c.requires.from.is
+    ∙ position_on source from.at c.args.at c.requires.before)

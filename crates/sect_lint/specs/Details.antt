@@ -1,10 +1,11 @@
 -- What is said beside the carets.
 use Rattle.std.specs.Prelude.{◌≡◌, ◌<◌, ⊤, ℕ, ◌-◌, List, [], ◌∷◌, ◌++◌, Option, Some, None, length, slice_get, codes}
 use Rattle.std.specs.{Prelude.{All, take, drop, get_or}, List.{flat_map}, Fmt.{decimal}}
-use Rattle.sect_front.specs.{Front.{line_of}, FaultPlaces.{open_braces, IsWithin}, Lexing.{Spells}, TokenAt.{TokenAt}}
+use Rattle.sect_front.specs.{FaultPlaces.{open_braces, IsWithin}, Lexing.{Spells}, TokenAt.{TokenAt}}
 use Rattle.sect_front.specs.{TreeView.{TreeView}, Grammar.{tokens_of}, declared.token.Token.{Token}}
 use Rattle.sect_front.specs.{declared.parsing.FrontFault.{FrontFault}, declared.span.Span.{Span}}
-use Rattle.sect_places.specs.{Positions.{column_of}, declared.name_use.NameSpan.{NameSpan}}
+use Rattle.sect_places.specs.{Positions.{position}, declared.position.Position.{Position}}
+use Rattle.sect_places.specs.declared.name_use.NameSpan.{NameSpan}
 use Rattle.sect_places.specs.{declared.range.TokenRange.{TokenRange}, Ranges.{item_tokens}}
 use Rattle.sect_types.specs.declared.rules.rule.TypeFault.{TypeFault}
 use Rattle.sect_lint.specs.Naming.{found, declared_at, earlier_name, earlier_detail}
@@ -64,9 +65,12 @@ IsDetailBy tree names spans why told =
     let item : ℕ = item_number tree (of_types why) in
     IsToldOf names why (item_detail tree names (own_tokens tree item) (own_spans tree spans item) why) told
 
--- the line and the column of a place
+-- a line and a column, and those of a place
+abbrev pub position_text : Position → List ℕ
+position_text p = decimal p.line ++ codes ":" ++ decimal p.column
+
 abbrev pub place_text : List ℕ → ℕ → List ℕ
-place_text source at = decimal (line_of source at) ++ codes ":" ++ decimal (column_of source at)
+place_text source at = position_text (position source at)
 
 abbrev pub earlier_text : List ℕ → ℕ → List ℕ
 earlier_text source at = codes " first declared at " ++ place_text source at

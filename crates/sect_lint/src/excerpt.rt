@@ -9,7 +9,6 @@ ghost use Rattle.sect_lint.specs.Excerpts.{line_text, most_shown, left_out as le
 ghost use Rattle.sect_lint.specs.Excerpts.{marked_line, margin, excerpt};
 
 use sect_front::Span;
-use sect_places::column_of;
 use std::alloc::AllocError;
 use std::fmt::Write;
 
@@ -215,19 +214,21 @@ pub fn put_margin(text: &mut String, number: &str) -> Result<(), AllocError>
     put_blanks(text, number.len() + 1)
 }
 
-/// Adds the place of a span, its line and what stands under it. `number` is the number of the line.
-#[tactic(auto, unfolding(crate::specs::Excerpts::excerpt))]
+/// Adds the place of a span, its line and what stands under it. `number` is the number of the line, and `column` the
+/// column of the first byte.
+#[tactic(auto, unfolding(crate::specs::Excerpts::excerpt), using(sect_places::proofs::shared::Bounds::column_least, sect_places::proofs::shared::Bounds::column_most))]
 pub fn put_excerpt(
     text: &mut String,
     source: &[u8],
     span: Span,
     number: &str,
+    column: usize,
 ) -> Result<(), AllocError>
     requires within { IsWithin (length source.now) span }
     requires number { number.now ≡ decimal (line_of source.now span.start) }
+    requires column { column ≡ column_by source.now span.start }
     ensures { OnOk result (string_bytes text.new ≡ string_bytes text.old ++ excerpt source.now span) }
 {
-    let column = column_of(source, span.start);
     let line = line_at(source, span.start, column);
     let from = left_out(line.len(), column - 1);
     write!(text, " --> {number}:{column}\n")?;

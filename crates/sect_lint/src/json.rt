@@ -12,22 +12,22 @@ use crate::diagnostic::{Counts, Detail, Diagnostic, Typed};
 use crate::kinds::put_kinds;
 use crate::label::{put_counts, put_quoted, put_typed};
 use sect_front::{Span, TokenKind};
-use sect_places::position_of;
+use sect_places::LineIndex;
 use serde_json::{Value, json};
 use std::alloc::{AllocError, Global};
 
 /// A place.
-fn place_value(alloc: Global, source: &[u8], at: usize) -> Result<Value, AllocError>
+fn place_value(alloc: Global, source: &LineIndex<'_>, at: usize) -> Result<Value, AllocError>
     requires { at ≤ length source.now }
     ensures { IfOk result (λ v. view v ≡ place_json source.now at) }
 {
-    let position = position_of(source, at);
+    let position = source.position(at);
     let (line, column) = (position.line, position.column);
     json!(in alloc; {"column": column, "line": line, "offset": at})
 }
 
 /// The places at which a span begins and ends.
-pub fn span_value(alloc: Global, source: &[u8], span: Span) -> Result<Value, AllocError>
+pub fn span_value(alloc: Global, source: &LineIndex<'_>, span: Span) -> Result<Value, AllocError>
     requires { IsWithin (length source.now) span }
     ensures { IfOk result (λ v. view v ≡ span_json source.now span) }
 {
@@ -37,7 +37,7 @@ pub fn span_value(alloc: Global, source: &[u8], span: Span) -> Result<Value, All
 /// What is said of a span.
 pub fn label_value(
     alloc: Global,
-    source: &[u8],
+    source: &LineIndex<'_>,
     message: &str,
     span: Span,
 ) -> Result<Value, AllocError>
@@ -48,27 +48,27 @@ pub fn label_value(
 }
 
 /// What a part of a text is.
-fn typed_value(alloc: Global, source: &[u8], typed: Typed) -> Result<Value, AllocError>
+fn typed_value(alloc: Global, source: &LineIndex<'_>, typed: Typed) -> Result<Value, AllocError>
     requires { IsTypedWithin (length source.now) typed }
     ensures { IfOk result (λ v. view v ≡ label_json source.now (typed_text source.now typed) typed.span) }
 {
     let mut text = String::new(alloc);
-    put_typed(&mut text, source, typed)?;
+    put_typed(&mut text, source.text(), typed)?;
     label_value(alloc, source, text.as_str(), typed.span)
 }
 
 /// How many arguments a call gives, and how many the procedure takes.
-fn counts_value(alloc: Global, source: &[u8], counts: Counts) -> Result<Value, AllocError>
+fn counts_value(alloc: Global, source: &LineIndex<'_>, counts: Counts) -> Result<Value, AllocError>
     requires { IsWithin (length source.now) counts.procedure }
     ensures { IfOk result (λ v. view v ≡ label_json source.now (counts_text source.now counts) counts.procedure) }
 {
     let mut text = String::new(alloc);
-    put_counts(&mut text, source, counts)?;
+    put_counts(&mut text, source.text(), counts)?;
     label_value(alloc, source, text.as_str(), counts.procedure)
 }
 
 /// What two parts of a text are.
-fn types_value(alloc: Global, source: &[u8], left: Typed, right: Typed) -> Result<Value, AllocError>
+fn types_value(alloc: Global, source: &LineIndex<'_>, left: Typed, right: Typed) -> Result<Value, AllocError>
     requires left { IsTypedWithin (length source.now) left }
     requires right { IsTypedWithin (length source.now) right }
     ensures { IfOk result (λ v. view v ≡ list (label_json source.now (typed_text source.now left) left.span
@@ -80,7 +80,7 @@ fn types_value(alloc: Global, source: &[u8], left: Typed, right: Typed) -> Resul
 /// Which kinds of tokens may stand somewhere.
 fn kinds_value(
     alloc: Global,
-    source: &[u8],
+    source: &LineIndex<'_>,
     kinds: &[TokenKind],
     span: Span,
 ) -> Result<Value, AllocError>
@@ -93,18 +93,18 @@ fn kinds_value(
 }
 
 /// A call of a circle.
-fn call_value(alloc: Global, source: &[u8], called: Span) -> Result<Value, AllocError>
+fn call_value(alloc: Global, source: &LineIndex<'_>, called: Span) -> Result<Value, AllocError>
     requires { IsWithin (length source.now) called }
     ensures { IfOk result (λ v. view v ≡ call_json source.now called) }
 {
     let mut text = String::new(alloc);
-    put_quoted(&mut text, source, called)?;
+    put_quoted(&mut text, source.text(), called)?;
     text.push_str(" is called here")?;
     label_value(alloc, source, text.as_str(), called)
 }
 
 /// The calls of a circle.
-fn circle_value(alloc: Global, source: &[u8], calls: &[Span]) -> Result<Value, AllocError>
+fn circle_value(alloc: Global, source: &LineIndex<'_>, calls: &[Span]) -> Result<Value, AllocError>
     requires { All (IsWithin (length source.now)) calls.now }
     ensures { IfOk result (λ v. view v ≡ list (map (call_json source.now) calls.now)) }
 {
@@ -123,7 +123,7 @@ pub fn one_of(alloc: Global, value: Value) -> Result<Value, AllocError>
 }
 
 /// What is said beside the carets.
-fn labels_value(alloc: Global, source: &[u8], diagnostic: &Diagnostic) -> Result<Value, AllocError>
+fn labels_value(alloc: Global, source: &LineIndex<'_>, diagnostic: &Diagnostic) -> Result<Value, AllocError>
     requires span { IsWithin (length source.now) diagnostic.now.span }
     requires detail { IsDetailWithin (length source.now) diagnostic.now.detail }
     ensures { IfOk result (λ v. view v ≡ labels_json source.now diagnostic.now) }
@@ -182,9 +182,10 @@ pub fn diagnostic_value(
     requires detail { IsDetailWithin (length source.now) diagnostic.now.detail }
     ensures { IfOk result (λ v. view v ≡ diagnostic_json source.now diagnostic.now) }
 {
+    let lines = LineIndex::new(alloc, source)?;
     let code = diagnostic.mistake.number();
     let title = diagnostic.mistake.title();
     let note = diagnostic.mistake.note();
-    json!(in alloc; {"code": code, "labels": labels_value(alloc, source, diagnostic)?, "message": title,
-        "notes": [note], "severity": "error", "span": span_value(alloc, source, diagnostic.span)?})
+    json!(in alloc; {"code": code, "labels": labels_value(alloc, &lines, diagnostic)?, "message": title,
+        "notes": [note], "severity": "error", "span": span_value(alloc, &lines, diagnostic.span)?})
 }

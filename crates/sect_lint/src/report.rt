@@ -3,7 +3,7 @@
 ghost use Rattle.std.specs.{Prelude.{◌≡◌, ◌≤◌, ◌++◌, All, OnOk, length}, Fmt.{decimal}, String.{string_bytes}};
 ghost use Rattle.std.specs.List.{flat_map};
 ghost use Rattle.sect_front.specs.FaultPlaces.{IsWithin};
-ghost use Rattle.sect_lint.specs.Details.{place_text, detail_text, earlier_text, called_text, next_text, circle_text};
+ghost use Rattle.sect_lint.specs.Details.{position_text, place_text, detail_text, earlier_text, called_text, next_text, circle_text};
 ghost use Rattle.sect_lint.specs.{Details.{IsDetailWithin}, Reports.{heading, note_line, report}};
 
 use crate::diagnostic::{Detail, Diagnostic};
@@ -12,17 +12,23 @@ use crate::kinds::put_kinds;
 use crate::label::{put_counts, put_quoted, put_typed, put_types};
 use crate::mistake::Mistake;
 use sect_front::Span;
-use sect_places::position_of;
+use sect_places::{LineIndex, Position, position_of};
 use std::alloc::{AllocError, Global};
 use std::fmt::Write;
+
+/// Adds a line and a column.
+fn put_position(text: &mut String, position: Position) -> Result<(), AllocError>
+    ensures { OnOk result (string_bytes text.new ≡ string_bytes text.old ++ position_text position) }
+{
+    Ok(write!(text, "{}:{}", position.line, position.column)?)
+}
 
 /// Adds the line and the column of a place.
 fn put_place(text: &mut String, source: &[u8], at: usize) -> Result<(), AllocError>
     requires { at ≤ length source.now }
     ensures { OnOk result (string_bytes text.new ≡ string_bytes text.old ++ place_text source.now at) }
 {
-    let position = position_of(source, at);
-    Ok(write!(text, "{}:{}", position.line, position.column)?)
+    put_position(text, position_of(source, at))
 }
 
 /// Adds where a name is first declared.
@@ -36,18 +42,18 @@ fn put_earlier(text: &mut String, source: &[u8], at: usize) -> Result<(), AllocE
 }
 
 /// Adds a call with its place, behind these words.
-fn put_call(text: &mut String, source: &[u8], called: Span, words: &str) -> Result<(), AllocError>
+fn put_call(text: &mut String, source: &LineIndex<'_>, called: Span, words: &str) -> Result<(), AllocError>
     requires { IsWithin (length source.now) called }
     ensures { OnOk result (string_bytes text.new ≡ string_bytes text.old
         ++ called_text source.now called words.now) }
 {
-    put_quoted(text, source, called)?;
+    put_quoted(text, source.text(), called)?;
     text.push_str(words)?;
-    put_place(text, source, called.start)
+    put_position(text, source.position(called.start))
 }
 
 /// Adds a call behind others.
-fn put_next(text: &mut String, source: &[u8], called: Span) -> Result<(), AllocError>
+fn put_next(text: &mut String, source: &LineIndex<'_>, called: Span) -> Result<(), AllocError>
     requires { IsWithin (length source.now) called }
     ensures { OnOk result (string_bytes text.new ≡ string_bytes text.old ++ next_text source.now called) }
 {
@@ -56,7 +62,7 @@ fn put_next(text: &mut String, source: &[u8], called: Span) -> Result<(), AllocE
 }
 
 /// Adds calls behind another.
-fn put_others(text: &mut String, source: &[u8], calls: &[Span]) -> Result<(), AllocError>
+fn put_others(text: &mut String, source: &LineIndex<'_>, calls: &[Span]) -> Result<(), AllocError>
     requires { All (IsWithin (length source.now)) calls.now }
     ensures { OnOk result (string_bytes text.new
         ≡ string_bytes text.old ++ flat_map (next_text source.now) calls.now) }
@@ -68,7 +74,7 @@ fn put_others(text: &mut String, source: &[u8], calls: &[Span]) -> Result<(), Al
 }
 
 /// Adds the calls of a circle, each with its place.
-fn put_circle(text: &mut String, source: &[u8], calls: &[Span]) -> Result<(), AllocError>
+fn put_circle(text: &mut String, source: &LineIndex<'_>, calls: &[Span]) -> Result<(), AllocError>
     requires { All (IsWithin (length source.now)) calls.now }
     ensures { OnOk result (string_bytes text.new ≡ string_bytes text.old ++ circle_text source.now calls.now) }
 {
@@ -80,7 +86,12 @@ fn put_circle(text: &mut String, source: &[u8], calls: &[Span]) -> Result<(), Al
 }
 
 /// Adds what is said beside the carets.
-fn put_detail(text: &mut String, source: &[u8], detail: &Detail) -> Result<(), AllocError>
+fn put_detail(
+    alloc: Global,
+    text: &mut String,
+    source: &[u8],
+    detail: &Detail,
+) -> Result<(), AllocError>
     requires { IsDetailWithin (length source.now) detail.now }
     ensures { OnOk result (string_bytes text.new ≡ string_bytes text.old ++ detail_text source.now detail.now) }
 {
@@ -111,7 +122,7 @@ fn put_detail(text: &mut String, source: &[u8], detail: &Detail) -> Result<(), A
         }
         Detail::Circle(calls) => {
             text.push_str(" ")?;
-            put_circle(text, source, calls.as_slice())
+            put_circle(text, &LineIndex::new(alloc, source)?, calls.as_slice())
         }
         Detail::Expected(kinds) => {
             text.push_str(" ")?;
@@ -157,11 +168,11 @@ pub fn put_report(
     requires detail { IsDetailWithin (length source.now) diagnostic.now.detail }
     ensures { OnOk result (string_bytes text.new ≡ string_bytes text.old ++ report source.now diagnostic.now) }
 {
-    let line = position_of(source, diagnostic.span.start).line;
+    let Position { line, column } = position_of(source, diagnostic.span.start);
     let number = format!(in alloc; "{line}")?;
     put_heading(text, diagnostic.mistake)?;
-    put_excerpt(text, source, diagnostic.span, number.as_str())?;
-    put_detail(text, source, &diagnostic.detail)?;
+    put_excerpt(text, source, diagnostic.span, number.as_str(), column)?;
+    put_detail(alloc, text, source, &diagnostic.detail)?;
     put_note(text, diagnostic.mistake, number.as_str(), line)?;
     Ok(())
 }

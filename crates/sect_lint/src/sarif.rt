@@ -14,18 +14,18 @@ use crate::kinds::put_kinds;
 use crate::label::{put_counts, put_quoted, put_typed, put_types};
 use crate::mistake::Mistake;
 use sect_front::Span;
-use sect_places::position_of;
+use sect_places::LineIndex;
 use serde_json::{Value, json};
 use std::alloc::{AllocError, Global};
 use std::fmt::Write;
 
 /// The bytes, lines and columns of a span.
-fn region_value(alloc: Global, source: &[u8], span: Span) -> Result<Value, AllocError>
+fn region_value(alloc: Global, source: &LineIndex<'_>, span: Span) -> Result<Value, AllocError>
     requires { IsWithin (length source.now) span }
     ensures { IfOk result (λ v. view v ≡ region_json source.now span) }
 {
-    let start = position_of(source, span.start);
-    let end = position_of(source, span.end);
+    let start = source.position(span.start);
+    let end = source.position(span.end);
     let (offset, bytes) = (span.start, span.end - span.start);
     let (start_line, start_column) = (start.line, start.column);
     let (end_line, end_column) = (end.line, end.column);
@@ -34,7 +34,7 @@ fn region_value(alloc: Global, source: &[u8], span: Span) -> Result<Value, Alloc
 }
 
 /// Where a span stands.
-pub fn location_value(alloc: Global, source: &[u8], span: Span) -> Result<Value, AllocError>
+pub fn location_value(alloc: Global, source: &LineIndex<'_>, span: Span) -> Result<Value, AllocError>
     requires { IsWithin (length source.now) span }
     ensures { IfOk result (λ v. view v ≡ location_json source.now span) }
 {
@@ -45,7 +45,7 @@ pub fn location_value(alloc: Global, source: &[u8], span: Span) -> Result<Value,
 /// What is said of another place.
 fn related_value(
     alloc: Global,
-    source: &[u8],
+    source: &LineIndex<'_>,
     message: &str,
     span: Span,
 ) -> Result<Value, AllocError>
@@ -57,18 +57,18 @@ fn related_value(
 }
 
 /// A call of a circle.
-fn call_value(alloc: Global, source: &[u8], called: Span) -> Result<Value, AllocError>
+fn call_value(alloc: Global, source: &LineIndex<'_>, called: Span) -> Result<Value, AllocError>
     requires { IsWithin (length source.now) called }
     ensures { IfOk result (λ v. view v ≡ related_call source.now called) }
 {
     let mut text = String::new(alloc);
-    put_quoted(&mut text, source, called)?;
+    put_quoted(&mut text, source.text(), called)?;
     text.push_str(" is called here")?;
     related_value(alloc, source, text.as_str(), called)
 }
 
 /// The calls of a circle.
-fn circle_value(alloc: Global, source: &[u8], calls: &[Span]) -> Result<Value, AllocError>
+fn circle_value(alloc: Global, source: &LineIndex<'_>, calls: &[Span]) -> Result<Value, AllocError>
     requires { All (IsWithin (length source.now)) calls.now }
     ensures { IfOk result (λ v. view v ≡ list (map (related_call source.now) calls.now)) }
 {
@@ -80,7 +80,7 @@ fn circle_value(alloc: Global, source: &[u8], calls: &[Span]) -> Result<Value, A
 }
 
 /// The places beside that of the mistake.
-fn related_values(alloc: Global, source: &[u8], detail: &Detail) -> Result<Value, AllocError>
+fn related_values(alloc: Global, source: &LineIndex<'_>, detail: &Detail) -> Result<Value, AllocError>
     requires { IsDetailWithin (length source.now) detail.now }
     ensures { IfOk result (λ v. view v ≡ list (related_by source.now detail.now)) }
 {
@@ -149,13 +149,13 @@ fn message_of(alloc: Global, source: &[u8], diagnostic: &Diagnostic) -> Result<S
 }
 
 /// A mistake, and where it stands.
-fn result_value(alloc: Global, source: &[u8], diagnostic: &Diagnostic) -> Result<Value, AllocError>
+fn result_value(alloc: Global, source: &LineIndex<'_>, diagnostic: &Diagnostic) -> Result<Value, AllocError>
     requires span { IsWithin (length source.now) diagnostic.now.span }
     requires detail { IsDetailWithin (length source.now) diagnostic.now.detail }
     ensures { IfOk result (λ v. view v ≡ result_json source.now diagnostic.now) }
 {
     json!(in alloc; {"level": "error", "locations": [location_value(alloc, source, diagnostic.span)?],
-        "message": {"text": message_of(alloc, source, diagnostic)?},
+        "message": {"text": message_of(alloc, source.text(), diagnostic)?},
         "relatedLocations": related_values(alloc, source, &diagnostic.detail)?,
         "ruleId": format!(in alloc; "{}", diagnostic.mistake.number())?})
 }
@@ -203,7 +203,8 @@ pub fn diagnostic_log(
 {
     let rules = one_of(alloc, rule_value(alloc, diagnostic.mistake)?)?;
     let tool = tool_value(alloc, rules)?;
-    let results = one_of(alloc, result_value(alloc, source, diagnostic)?)?;
+    let lines = LineIndex::new(alloc, source)?;
+    let results = one_of(alloc, result_value(alloc, &lines, diagnostic)?)?;
     log_value(alloc, run_value(alloc, results, tool)?)
 }
 

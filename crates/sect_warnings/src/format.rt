@@ -16,7 +16,7 @@ use crate::sarif::warnings_log;
 use crate::spare::spares;
 use sect_emit::Compiled;
 use sect_lint::{Format, clean_text, compact};
-use sect_places::tree_names;
+use sect_places::{LineIndex, tree_names};
 use std::alloc::{AllocError, Global};
 
 /// Adds a warning as an object of JSON, and a line feed.
@@ -24,7 +24,7 @@ use std::alloc::{AllocError, Global};
 fn put_json(
     alloc: Global,
     text: &mut String,
-    source: &[u8],
+    source: &LineIndex<'_>,
     placed: &Placed,
 ) -> Result<(), AllocError>
     requires { IsWithin (length source.now) placed.now.span }
@@ -40,7 +40,7 @@ fn put_json(
 fn put_lines(
     alloc: Global,
     text: &mut String,
-    source: &[u8],
+    source: &LineIndex<'_>,
     placed: &[Placed],
 ) -> Result<(), AllocError>
     requires { AreWithin (length source.now) placed.now }
@@ -59,7 +59,8 @@ fn json_lines(alloc: Global, source: &[u8], placed: &[Placed]) -> Result<String,
     ensures { IfOk result (λ text. string_bytes text ≡ flat_map (json_line source.now) placed.now) }
 {
     let mut text = String::new(alloc);
-    put_lines(alloc, &mut text, source, placed)?;
+    let lines = LineIndex::new(alloc, source)?;
+    put_lines(alloc, &mut text, &lines, placed)?;
     Ok(text)
 }
 

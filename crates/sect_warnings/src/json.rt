@@ -8,11 +8,12 @@ ghost use Rattle.sect_warnings.specs.Json.{labels_json, warning_json};
 use crate::placed::Placed;
 use crate::report::title;
 use sect_lint::{label_value, span_value};
+use sect_places::LineIndex;
 use serde_json::{Value, json};
 use std::alloc::{AllocError, Global};
 
 /// What is said of the bytes that are marked, if anything.
-fn labels_value(alloc: Global, source: &[u8], placed: &Placed) -> Result<Value, AllocError>
+fn labels_value(alloc: Global, source: &LineIndex<'_>, placed: &Placed) -> Result<Value, AllocError>
     requires { IsWithin (length source.now) placed.now.span }
     ensures { IfOk result (λ v. view v ≡ labels_json source.now placed.now.span placed.now.label) }
 {
@@ -23,7 +24,7 @@ fn labels_value(alloc: Global, source: &[u8], placed: &Placed) -> Result<Value, 
 }
 
 /// A warning of a source text.
-pub fn warning_value(alloc: Global, source: &[u8], placed: &Placed) -> Result<Value, AllocError>
+pub fn warning_value(alloc: Global, source: &LineIndex<'_>, placed: &Placed) -> Result<Value, AllocError>
     requires { IsWithin (length source.now) placed.now.span }
     ensures { IfOk result (λ v. view v ≡ warning_json source.now placed.now) }
 {

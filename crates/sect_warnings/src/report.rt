@@ -10,7 +10,7 @@ use crate::placed::{Placed, put_behind};
 use crate::warning::{Finding, Told, Warning};
 use sect_lint::{put_excerpt, put_margin};
 use sect_names::Effect;
-use sect_places::position_of;
+use sect_places::{LineIndex, Position};
 use std::alloc::{AllocError, Global};
 use std::fmt::Write;
 
@@ -92,17 +92,17 @@ fn put_note(text: &mut String, note: &str, number: &str, line: usize) -> Result<
 fn put_report(
     alloc: Global,
     text: &mut String,
-    source: &[u8],
+    source: &LineIndex<'_>,
     placed: &Placed,
 ) -> Result<(), AllocError>
     requires { IsWithin (length source.now) placed.now.span }
     ensures { OnOk result (string_bytes text.new ≡ string_bytes text.old ++ report source.now placed.now) }
 {
     let (told, span) = (placed.told(), placed.span());
-    let line = position_of(source, span.start).line;
+    let Position { line, column } = source.position(span.start);
     let number = format!(in alloc; "{line}")?;
     put_heading(text, told)?;
-    put_excerpt(text, source, span, number.as_str())?;
+    put_excerpt(text, source.text(), span, number.as_str(), column)?;
     put_behind(text, " ", placed.label())?;
     put_note(text, placed.note(), number.as_str(), line)
 }
@@ -111,7 +111,7 @@ fn put_report(
 fn put_others(
     alloc: Global,
     text: &mut String,
-    source: &[u8],
+    source: &LineIndex<'_>,
     others: &[Placed],
 ) -> Result<(), AllocError>
     requires { AreWithin (length source.now) others.now }
@@ -134,7 +134,8 @@ pub fn reports_text(alloc: Global, source: &[u8], placed: &[Placed]) -> Result<S
     let Some((first, others)) = placed.split_first() else {
         return Ok(text);
     };
-    put_report(alloc, &mut text, source, first)?;
-    put_others(alloc, &mut text, source, others)?;
+    let lines = LineIndex::new(alloc, source)?;
+    put_report(alloc, &mut text, &lines, first)?;
+    put_others(alloc, &mut text, &lines, others)?;
     Ok(text)
 }

@@ -13,7 +13,7 @@ use crate::report::title;
 use crate::warning::{Finding, Spare};
 use sect_lint::{location_value, log_value, run_value, tool_value};
 use sect_names::Effect;
-use sect_places::Thing;
+use sect_places::{LineIndex, Thing};
 use serde_json::{Value, json};
 use std::alloc::{AllocError, Global};
 
@@ -27,7 +27,7 @@ fn message_of(alloc: Global, placed: &Placed) -> Result<String, AllocError>
 }
 
 /// A warning, and where it stands.
-fn result_value(alloc: Global, source: &[u8], placed: &Placed) -> Result<Value, AllocError>
+fn result_value(alloc: Global, source: &LineIndex<'_>, placed: &Placed) -> Result<Value, AllocError>
     requires { IsWithin (length source.now) placed.now.span }
     ensures { IfOk result (λ v. view v ≡ result_json source.now placed.now) }
 {
@@ -41,7 +41,7 @@ fn result_value(alloc: Global, source: &[u8], placed: &Placed) -> Result<Value, 
 }
 
 /// All of them.
-fn results_value(alloc: Global, source: &[u8], placed: &[Placed]) -> Result<Value, AllocError>
+fn results_value(alloc: Global, source: &LineIndex<'_>, placed: &[Placed]) -> Result<Value, AllocError>
     requires { AreWithin (length source.now) placed.now }
     ensures { IfOk result (λ v. view v ≡ list (map (result_json source.now) placed.now)) }
 {
@@ -93,6 +93,7 @@ pub fn warnings_log(alloc: Global, source: &[u8], placed: &[Placed]) -> Result<V
     ensures { IfOk result (λ v. view v ≡ log_by source.now placed.now) }
 {
     let tool = tool_value(alloc, rules_value(alloc)?)?;
-    let results = results_value(alloc, source, placed)?;
+    let lines = LineIndex::new(alloc, source)?;
+    let results = results_value(alloc, &lines, placed)?;
     log_value(alloc, run_value(alloc, results, tool)?)
 }

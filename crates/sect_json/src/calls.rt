@@ -11,12 +11,11 @@ ghost use Rattle.sect_json.specs.steps.Inspected.{AreNamesWithin};
 ghost use Rattle.sect_front.specs.FaultPlaces.{IsWithin};
 
 use crate::context::Inspected;
-use crate::placed_text::{PlacedText, span_value};
 use crate::sites::{bytes_value, found_bytes};
 use sect_front::{Name, Procedure};
-use sect_lint::{is_call_in, procedure_item};
+use sect_lint::{is_call_in, procedure_item, span_value};
 use sect_object::Members;
-use sect_places::{NameSpan, Role, Thing, procedure_of};
+use sect_places::{LineIndex, NameSpan, Role, Thing, procedure_of};
 use serde_json::Value;
 use std::alloc::{AllocError, Global};
 use std::fmt::Write;
@@ -83,7 +82,7 @@ fn thread_item(names: &[NameSpan], name: &Name) -> Option<usize>
 /// A call by its number.
 fn call_value(
     alloc: Global,
-    source: &PlacedText<'_>,
+    source: &LineIndex<'_>,
     number: usize,
     named: &NameSpan,
 ) -> Result<Value, AllocError>

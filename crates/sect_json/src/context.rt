@@ -1,13 +1,12 @@
 //! What a document of a whole program is made of.
 
-use crate::placed_text::PlacedText;
 use sect_emit::Compiled;
-use sect_places::{NameSpan, NodeSpans};
+use sect_places::{LineIndex, NameSpan, NodeSpans};
 
 /// A compiled program, its text, where its nodes come from, and the names of the text.
 #[derive(Clone, Copy)]
 pub struct Inspected<'a> {
-    pub source: &'a PlacedText<'a>,
+    pub source: &'a LineIndex<'a>,
     pub compiled: &'a Compiled,
     pub spans: &'a NodeSpans,
     pub names: &'a [NameSpan],

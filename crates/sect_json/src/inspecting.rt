@@ -14,12 +14,11 @@ use crate::calls::{calls_value, procedure_values};
 use crate::context::Inspected;
 use crate::inspected_sections::put_sections;
 use crate::placed_nodes::placed_node;
-use crate::placed_text::PlacedText;
 use crate::sites::{class_values, locals_value, site_values};
 use crate::writing::{put_member, put_name, put_tail};
 use sect_emit::{Compiled, GraphOf, graphed_flow, put_thread_name};
 use sect_object::Members;
-use sect_places::{node_spans, tree_names};
+use sect_places::{LineIndex, node_spans, tree_names};
 use serde_json::Value;
 use std::alloc::{AllocError, Global};
 
@@ -37,9 +36,9 @@ pub fn inspection_document(
     let program = compiled.scheme().program();
     let spans = node_spans(alloc, source, program)?;
     let names = tree_names(alloc, source, program.tree())?;
-    let placed = PlacedText::new(alloc, source)?;
+    let lines = LineIndex::new(alloc, source)?;
     let of = Inspected {
-        source: &placed,
+        source: &lines,
         compiled,
         spans: &spans,
         names: names.as_slice(),

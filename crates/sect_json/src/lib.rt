@@ -15,7 +15,6 @@ mod nodes;
 mod objects;
 mod outcomes;
 mod placed_nodes;
-mod placed_text;
 mod sites;
 mod step_texts;
 mod turns;

@@ -11,11 +11,11 @@ ghost use Rattle.sect_json.specs.steps.Inspected.{IsInspected};
 
 use crate::context::Inspected;
 use crate::nodes::next_value;
-use crate::placed_text::{PlacedText, span_value};
 use crate::sites::bytes_value;
 use sect_emit::{GraphOf, put_graphed_node};
+use sect_lint::span_value;
 use sect_object::Members;
-use sect_places::NodeSpan;
+use sect_places::{LineIndex, NodeSpan};
 use serde_json::Value;
 use std::alloc::{AllocError, Global};
 
@@ -97,7 +97,7 @@ fn told_node(alloc: Global, told: NodeTold, node: u16) -> Result<Value, AllocErr
 /// Where a node comes from: the statement, and the call that it is of.
 fn origin_value(
     alloc: Global,
-    source: &PlacedText<'_>,
+    source: &LineIndex<'_>,
     spans: &[NodeSpan],
     node: u16,
 ) -> Result<Value, AllocError>
@@ -111,7 +111,7 @@ fn origin_value(
 }
 
 /// Where a node comes from that comes from there.
-fn span_origin(alloc: Global, source: &PlacedText<'_>, span: NodeSpan) -> Result<Value, AllocError>
+fn span_origin(alloc: Global, source: &LineIndex<'_>, span: NodeSpan) -> Result<Value, AllocError>
     requires { IsNodeWithin (length source.now) span }
     ensures { IfOk result (λ v. view v ≡ origin_with (bytes_json source.now span.call)
         (span_json source.now span.item)) }

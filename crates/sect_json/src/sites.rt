@@ -18,11 +18,11 @@ ghost use Rattle.sect_json.specs.steps.Inspected.{IsInspected, AreNamesWithin, s
 ghost use Rattle.sect_emit.specs.declared.graphs.GraphOf.TheVariants as graphed;
 
 use crate::context::Inspected;
-use crate::placed_text::{PlacedText, span_value};
 use sect_emit::{GraphOf, graphed_flow};
 use sect_front::{Declaration, GlobalObject, Name, Span, Tree};
+use sect_lint::span_value;
 use sect_object::Members;
-use sect_places::{NameSpan, NodeSpan, NodeSpans, global_of};
+use sect_places::{LineIndex, NameSpan, NodeSpan, NodeSpans, global_of};
 use sect_points::{Classes, Holder, PointsTo};
 use sect_store::Printer;
 use sect_types::{Action, Label};
@@ -33,7 +33,7 @@ use std::fmt::Write;
 /// Bytes of the text, where there are some.
 pub fn bytes_value(
     alloc: Global,
-    source: &PlacedText<'_>,
+    source: &LineIndex<'_>,
     span: Option<Span>,
 ) -> Result<Value, AllocError>
     requires { IsCallWithin (length source.now) span }
@@ -247,7 +247,7 @@ fn record_name(alloc: Global, tree: &Tree, number: u16) -> Result<String, AllocE
 /// The bytes of the call that a node is of.
 fn call_value(
     alloc: Global,
-    source: &PlacedText<'_>,
+    source: &LineIndex<'_>,
     from: Option<NodeSpan>,
 ) -> Result<Value, AllocError>
     requires { IfSome from (IsNodeWithin (length source.now)) }
@@ -262,7 +262,7 @@ fn call_value(
 /// The bytes of a node's statement.
 fn place_value(
     alloc: Global,
-    source: &PlacedText<'_>,
+    source: &LineIndex<'_>,
     from: Option<NodeSpan>,
 ) -> Result<Value, AllocError>
     requires { IfSome from (IsNodeWithin (length source.now)) }

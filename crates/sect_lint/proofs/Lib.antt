@@ -5,6 +5,7 @@ mod Keeping
 mod KeepingTold
 mod KeepingTypes
 mod Marked
+mod Clipping
 mod Parts
 mod Plainly
 mod Referring

@@ -64,16 +64,22 @@ marked_line line from place count =
     ++ carets (take count (drop (place - from) (take most_shown (drop from line))))
 
 -- the blanks under a line's number
+abbrev pub blanks_under : List ℕ → List ℕ
+blanks_under number = replicate (length number + 1) 32
+
 abbrev pub margin : ℕ → List ℕ
-margin line = replicate (length (decimal line) + 1) 32
+margin line = blanks_under (decimal line)
+
+-- a line of this number and its place, with what stands under so many of its bytes from this column on
+unfoldable pub excerpt_of : List ℕ → ℕ → List ℕ → ℕ → List ℕ
+excerpt_of number column line count =
+    let from : ℕ = left_out (length line) (column - 1) in
+    codes " --> " ++ number ++ codes ":" ++ decimal column ++ codes "\n" ++ blanks_under number ++ codes "|\n"
+    ++ number ++ codes " | " ++ shown_line line from ++ codes "\n" ++ blanks_under number ++ codes "| "
+    ++ marked_line line from (column - 1) count
 
 -- the place of a span, its line and what stands under it
-unfoldable pub excerpt : List ℕ → Span → List ℕ
+abbrev pub excerpt : List ℕ → Span → List ℕ
 excerpt source span =
-    let line : ℕ = line_of source span.start in
-    let column : ℕ = column_of source span.start in
-    let text : List ℕ = line_text source span.start in
-    let from : ℕ = left_out (length text) (column - 1) in
-    codes " --> " ++ decimal line ++ codes ":" ++ decimal column ++ codes "\n" ++ margin line ++ codes "|\n"
-    ++ decimal line ++ codes " | " ++ shown_line text from ++ codes "\n" ++ margin line ++ codes "| "
-    ++ marked_line text from (column - 1) (span.end - span.start)
+    excerpt_of (decimal (line_of source span.start)) (column_of source span.start) (line_text source span.start)
+    (span.end - span.start)

@@ -6,7 +6,7 @@ ghost use Rattle.sect_front.specs.{Front.{line_of}, FaultPlaces.{IsWithin}};
 ghost use Rattle.sect_places.specs.Positions.{column_of as column_by};
 ghost use Rattle.sect_lint.specs.Excerpts.{is_plain as plain_by, hexadecimal as hexadecimal_by, shown, under, in_line};
 ghost use Rattle.sect_lint.specs.Excerpts.{line_text, most_shown, left_out as left_out_by, shown_line, carets};
-ghost use Rattle.sect_lint.specs.Excerpts.{marked_line, margin, excerpt};
+ghost use Rattle.sect_lint.specs.Excerpts.{marked_line, blanks_under, excerpt_of, excerpt};
 
 use sect_front::Span;
 use std::alloc::AllocError;
@@ -105,22 +105,27 @@ fn put_carets(text: &mut String, bytes: &[u8]) -> Result<(), AllocError>
 
 /// How many bytes stand before the first line feed.
 fn line_length(bytes: &[u8]) -> usize
-    ensures { result ≡ length (take_while in_line bytes.now) }
+    ensures is { result ≡ length (take_while in_line bytes.now) }
+    ensures within { result ≤ length bytes.now }
 {
     bytes.iter().take_while(|byte| **byte != b'\n').count()
 }
 
-/// The line in which a place stands that has this column, without its line feed.
+/// The line in which a place stands that has this column, without its line feed and only as far as it may be shown:
+/// behind the place no more bytes are looked at.
 fn line_at(source: &[u8], at: usize, column: usize) -> &[u8]
     requires within { at ≤ length source.now }
     requires column { column ≡ column_by source.now at }
     requires least { 1 ≤ column }
     requires most { column ≤ at + 1 }
-    ensures { result.now ≡ line_text source.now at }
+    ensures { result.now ≡ take (column + most_shown) (line_text source.now at) }
 {
-    let (_, rest) = source.split_at(at + 1 - column);
-    let (line, _) = rest.split_at(line_length(rest));
-    line
+    let (_, line) = source.split_at(at + 1 - column);
+    let (_, behind) = source.split_at(at);
+    first_of(
+        line,
+        column - 1 + line_length(first_of(behind, MOST_SHOWN + 1)),
+    )
 }
 
 /// How many bytes are left out at the front of a line of so many, so that its byte of this number is shown.
@@ -214,9 +219,32 @@ pub fn put_margin(text: &mut String, number: &str) -> Result<(), AllocError>
     put_blanks(text, number.len() + 1)
 }
 
+/// Adds a line of this number and its place, and what stands under so many of its bytes from this column on.
+#[tactic(auto, unfolding(crate::specs::Excerpts::excerpt_of))]
+fn put_marked_line(
+    text: &mut String,
+    number: &str,
+    column: usize,
+    line: &[u8],
+    count: usize,
+) -> Result<(), AllocError>
+    requires { 1 ≤ column }
+    ensures { OnOk result (string_bytes text.new
+        ≡ string_bytes text.old ++ excerpt_of number.now column line.now count) }
+{
+    let from = left_out(line.len(), column - 1);
+    write!(text, " --> {number}:{column}\n")?;
+    put_margin(text, number)?;
+    write!(text, "|\n{number} | ")?;
+    put_line(text, line, from)?;
+    text.push_str("\n")?;
+    put_margin(text, number)?;
+    text.push_str("| ")?;
+    put_marked(text, line, from, column - 1, count)
+}
+
 /// Adds the place of a span, its line and what stands under it. `number` is the number of the line, and `column` the
 /// column of the first byte.
-#[tactic(auto, unfolding(crate::specs::Excerpts::excerpt), using(sect_places::proofs::shared::Bounds::column_least, sect_places::proofs::shared::Bounds::column_most))]
 pub fn put_excerpt(
     text: &mut String,
     source: &[u8],
@@ -230,13 +258,5 @@ pub fn put_excerpt(
     ensures { OnOk result (string_bytes text.new ≡ string_bytes text.old ++ excerpt source.now span) }
 {
     let line = line_at(source, span.start, column);
-    let from = left_out(line.len(), column - 1);
-    write!(text, " --> {number}:{column}\n")?;
-    put_margin(text, number)?;
-    write!(text, "|\n{number} | ")?;
-    put_line(text, line, from)?;
-    text.push_str("\n")?;
-    put_margin(text, number)?;
-    text.push_str("| ")?;
-    put_marked(text, line, from, column - 1, span.end - span.start)
+    put_marked_line(text, number, column, line, span.end - span.start)
 }

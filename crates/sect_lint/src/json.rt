@@ -68,7 +68,12 @@ fn counts_value(alloc: Global, source: &LineIndex<'_>, counts: Counts) -> Result
 }
 
 /// What two parts of a text are.
-fn types_value(alloc: Global, source: &LineIndex<'_>, left: Typed, right: Typed) -> Result<Value, AllocError>
+fn types_value(
+    alloc: Global,
+    source: &LineIndex<'_>,
+    left: Typed,
+    right: Typed,
+) -> Result<Value, AllocError>
     requires left { IsTypedWithin (length source.now) left }
     requires right { IsTypedWithin (length source.now) right }
     ensures { IfOk result (λ v. view v ≡ list (label_json source.now (typed_text source.now left) left.span
@@ -123,7 +128,11 @@ pub fn one_of(alloc: Global, value: Value) -> Result<Value, AllocError>
 }
 
 /// What is said beside the carets.
-fn labels_value(alloc: Global, source: &LineIndex<'_>, diagnostic: &Diagnostic) -> Result<Value, AllocError>
+fn labels_value(
+    alloc: Global,
+    source: &LineIndex<'_>,
+    diagnostic: &Diagnostic,
+) -> Result<Value, AllocError>
     requires span { IsWithin (length source.now) diagnostic.now.span }
     requires detail { IsDetailWithin (length source.now) diagnostic.now.detail }
     ensures { IfOk result (λ v. view v ≡ labels_json source.now diagnostic.now) }
@@ -138,6 +147,7 @@ fn labels_value(alloc: Global, source: &LineIndex<'_>, diagnostic: &Diagnostic) 
             )
         }
         Detail::OpenBrace(at) => {
+            let _facts = source.text();
             let brace = Span {
                 start: *at,
                 end: *at + 1,

@@ -42,7 +42,12 @@ fn put_earlier(text: &mut String, source: &[u8], at: usize) -> Result<(), AllocE
 }
 
 /// Adds a call with its place, behind these words.
-fn put_call(text: &mut String, source: &LineIndex<'_>, called: Span, words: &str) -> Result<(), AllocError>
+fn put_call(
+    text: &mut String,
+    source: &LineIndex<'_>,
+    called: Span,
+    words: &str,
+) -> Result<(), AllocError>
     requires { IsWithin (length source.now) called }
     ensures { OnOk result (string_bytes text.new ≡ string_bytes text.old
         ++ called_text source.now called words.now) }

@@ -34,7 +34,11 @@ fn region_value(alloc: Global, source: &LineIndex<'_>, span: Span) -> Result<Val
 }
 
 /// Where a span stands.
-pub fn location_value(alloc: Global, source: &LineIndex<'_>, span: Span) -> Result<Value, AllocError>
+pub fn location_value(
+    alloc: Global,
+    source: &LineIndex<'_>,
+    span: Span,
+) -> Result<Value, AllocError>
     requires { IsWithin (length source.now) span }
     ensures { IfOk result (λ v. view v ≡ location_json source.now span) }
 {
@@ -80,12 +84,17 @@ fn circle_value(alloc: Global, source: &LineIndex<'_>, calls: &[Span]) -> Result
 }
 
 /// The places beside that of the mistake.
-fn related_values(alloc: Global, source: &LineIndex<'_>, detail: &Detail) -> Result<Value, AllocError>
+fn related_values(
+    alloc: Global,
+    source: &LineIndex<'_>,
+    detail: &Detail,
+) -> Result<Value, AllocError>
     requires { IsDetailWithin (length source.now) detail.now }
     ensures { IfOk result (λ v. view v ≡ list (related_by source.now detail.now)) }
 {
     match detail {
         Detail::OpenBrace(at) => {
+            let _facts = source.text();
             let brace = Span {
                 start: *at,
                 end: *at + 1,
@@ -149,7 +158,11 @@ fn message_of(alloc: Global, source: &[u8], diagnostic: &Diagnostic) -> Result<S
 }
 
 /// A mistake, and where it stands.
-fn result_value(alloc: Global, source: &LineIndex<'_>, diagnostic: &Diagnostic) -> Result<Value, AllocError>
+fn result_value(
+    alloc: Global,
+    source: &LineIndex<'_>,
+    diagnostic: &Diagnostic,
+) -> Result<Value, AllocError>
     requires span { IsWithin (length source.now) diagnostic.now.span }
     requires detail { IsDetailWithin (length source.now) diagnostic.now.detail }
     ensures { IfOk result (λ v. view v ≡ result_json source.now diagnostic.now) }

@@ -27,9 +27,9 @@ put_program-requires c =
     let program = c.program-program.ensures ∙ ap (λ (s : SchemeView). s.program) c.scheme.ensures in
     record {
       placed = subst (λ (s : List ℕ). AreNodeSpans s (program_of c.args.compiled.now) spans)
-          (sym c.in_ok-placed.ensures)
+          (sym c.in_ok-lines.ensures)
           (subst (λ (p : ProgramView). AreNodeSpans source p spans) program c.in_ok-spans.ensures);
-      named = subst (λ (s : List ℕ). AreNamesWithin (length s) c.as_slice.result.now) (sym c.in_ok-placed.ensures)
+      named = subst (λ (s : List ℕ). AreNamesWithin (length s) c.as_slice.result.now) (sym c.in_ok-lines.ensures)
           (subst (λ (ns : List NameSpan). AreNamesWithin (length source) ns) (sym c.as_slice.ensures.value)
           c.in_ok-names.ensures.proper);
     }
@@ -43,7 +43,7 @@ returns c =
     let program = c.program-program.ensures ∙ ap (λ (s : SchemeView). s.program) c.scheme.ensures in
     let tree = c.tree.ensures.tree ∙ ap (λ (p : ProgramView). p.source) program in
     let told = c.in_ok-put_program.ensures in
-    let same = c.in_ok-placed.ensures in
+    let same = c.in_ok-lines.ensures in
     record {
       spans = spans;
       placed = subst (λ (p : ProgramView). AreNodeSpans source p spans) program c.in_ok-spans.ensures;

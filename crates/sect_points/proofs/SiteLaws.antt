@@ -1,8 +1,9 @@
 -- Laws of sets of sites.
 use Rattle.std.proofs.Common.{◌≡◌, ℕ, ◌+◌, ◌-◌, ◌*◌, ◌/◌, ◌%◌, ◌^◌, ◌<◌, ◌≤◌, ◌⊎◌, ◌↔◌, Bool, true, false, true≢false}
-use Rattle.std.proofs.Common.{List, length, max, min, get_or, refl, sym, ap, ◌∙◌, inl, inr, arith, slice_set, w64}
-use Rattle.std.proofs.lemmas.List.{get_or-set_same, get_or-set_other, length-set, get_or_past}
-use Rattle.std.proofs.lemmas.Bool.{cases_eq, cases_lt}
+use Rattle.std.proofs.Common.{List, length, max, min, get_or, refl, sym, ap, ◌∙◌, inl, inr, arith, slice_set, w64, not}
+use Rattle.std.proofs.Common.{nat_eq, subst}
+use Rattle.std.proofs.lemmas.List.{get_or-set_same, get_or-set_other, length-set, get_or_past, set-get_or}
+use Rattle.std.proofs.lemmas.Bool.{cases_eq, cases_lt, Decides.{nat_tests}}
 use Rattle.std.proofs.lemmas.Nat.Bits.{bit_at_set_same, bit_at_set_other, bit_at_or, bit_at_and, bit_at_not}
 use Rattle.std.proofs.lemmas.Nat.Bits.{bit_at_above, bit_at-lt, bit_at-zero, bit_at-trailing_zeros}
 use Rattle.std.proofs.{lemmas.Nat.{le_or_l, shr-shr}, lemmas.List.Sums.{sum_by-set}}
@@ -95,6 +96,25 @@ joined_more n w old other new grew h within is apart fits =
       less = λ e. omega (arith, shrinks, h.most);
       most = omega (arith, shrinks, h.most);
     }
+
+-- the next word is joined, whether it grows or not
+pub joined_word : (n w : ℕ) (old other new : List ℕ) (grew more : Bool) → IsJoined n old other new grew
+    → n < length new → w ≡ bit_or (get_or new n 0) (get_or other n 0) → w < 2 ^ 64
+    → (w ≡ get_or new n 0 → more ≡ grew) → ((w ≡ get_or new n 0 → ⊥) → more ≡ true)
+    → IsJoined (n + 1) old other (slice_set new n w) more
+joined_word n w old other new grew more h within is fits kept grows = elim (cases_eq w (get_or new n 0)) [
+  | inl same ↦ subst (IsJoined (n + 1) old other (slice_set new n w)) (sym (kept same))
+      (subst (λ l. IsJoined (n + 1) old other l grew) (sym (ap (slice_set new n) same ∙ set-get_or new n 0))
+      (joined_same n old other new grew h (sym is ∙ same)))
+  | inr apart ↦ subst (IsJoined (n + 1) old other (slice_set new n w)) (sym (grows apart))
+      (joined_more n w old other new grew h within is apart fits)
+]
+
+pub tested_same : (x y : ℕ) → x ≡ y → not (nat_eq x y) ≡ false
+tested_same x y e = grind (arith, nat_tests)
+
+pub tested_apart : (x y : ℕ) → (x ≡ y → ⊥) → not (nat_eq x y) ≡ true
+tested_apart x y apart = grind (arith, nat_tests)
 
 -- all words are joined
 pub all_joined : (n : ℕ) (old other new : List ℕ) (grew : Bool) → IsJoined n old other new grew → length old ≤ n

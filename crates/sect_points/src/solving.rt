@@ -276,6 +276,9 @@ fn carry_locals(
         → HasMark marks.new (Local thread local) → ⊥ }
 {
     let grown = marks.take_locals(row);
+    if grown.is_empty() {
+        return false;
+    }
     let mut grew = false;
     let mut from = 0;
     while let Some(at) = grown.next(from) {

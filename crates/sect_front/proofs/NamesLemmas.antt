@@ -1,12 +1,16 @@
 -- Lemmas on names.
 use Rattle.std.proofs.Common.{◌≡◌, ℕ, suc, ◌+◌, ◌<◌, ◌≤◌, get_or, eqb, Bool, true, false, not, ◌||◌, ◌&&◌, cond, List}
+use Rattle.std.proofs.Common.{take, inl, inr}
+use Rattle.std.specs.{Cmp.Lexicographic.{pointwise}, Prelude.{Decides}}
 use Rattle.std.proofs.Common.{[], ◌∷◌, ◌++◌, map, Option, Some, None, length, replicate, refl, sym, ◌∙◌, ap, arith}
 use Rattle.std.proofs.{Common.{length-append, length-drop, true≢false}, Math.Seq.{take-append_seam}}
 use Rattle.std.proofs.{lemmas.Bool.{leb-true, le-leb, eq-eqb, and_parts, not-true}, lemmas.Bool.Decides.{nat_tests}}
+use Rattle.std.proofs.lemmas.Bool.{cases_Bool, and_from, false_from_ne_true}
+use Rattle.std.proofs.lemmas.{List.{take_more, length-take-le}, Slice.Eq.{slice_eq-Decides}}
 use Rattle.std.proofs.{lemmas.List.Folds.{length-prefix_len, list_all_at}, Math.Dec.{leb}, Math.Bool.{and-false}}
 use Rattle.std.specs.{Cmp.{unsigned_Decides}, List.{list_all, list_any, take_while, prefix_len, filter}, Str.{bytes_eq}}
 use Rattle.std.specs.Prelude.{is_some, is_none, nat_eq, codes}
-use Rattle.sect_front.specs.{declared.token.Token.{Token}, Names.{IsPadded, zeros_from}}
+use Rattle.sect_front.specs.{declared.token.Token.{Token}, Names.{IsPadded, zeros_from, length_back, bytes_back}}
 use Rattle.sect_front.specs.{Words.{is_name, is_letter, is_name_byte, is_keyword, begins}, Limits.{most_name_bytes}}
 use Rattle.sect_front.specs.steps.Recognition.{keyword_of, keyword_table, keywords_of, token_beside}
 use Rattle.sect_front.specs.declared.token.Token.TheVariants as token
@@ -161,3 +165,62 @@ name_small bytes h i lt = go (is_name_byte (get_or bytes i 0)) refl
     go : (b : Bool) → is_name_byte (get_or bytes i 0) ≡ b → get_or bytes i 0 < 128
     go true e = small_letter (get_or bytes i 0) e
     go false e = let none = list_all_at is_name_byte bytes i 0 lt e in let all = (named bytes h).all in absurd cc
+
+pointwise_last : (xs ys : List ℕ) (x y : ℕ) → length xs ≡ length ys
+    → pointwise nat_eq (xs ++ x ∷ []) (ys ++ y ∷ []) ≡ (pointwise nat_eq xs ys && nat_eq x y)
+pointwise_last [] [] x y e = go (nat_eq x y)
+  where
+    go : (b : Bool) → (b && true) ≡ b
+    go true = refl
+    go false = refl
+pointwise_last [] (v ∷ ys) x y e = absurd (omega (arith, e))
+pointwise_last (u ∷ xs) [] x y e = absurd (omega (arith, e))
+pointwise_last (u ∷ xs) (v ∷ ys) x y e = go (nat_eq u v) (pointwise_last xs ys x y (omega (arith, e)))
+  where
+    go : (b : Bool) → pointwise nat_eq (xs ++ x ∷ []) (ys ++ y ∷ []) ≡ (pointwise nat_eq xs ys && nat_eq x y)
+        → (b && pointwise nat_eq (xs ++ x ∷ []) (ys ++ y ∷ [])) ≡ ((b && pointwise nat_eq xs ys) && nat_eq x y)
+    go true h = h
+    go false h = refl
+
+-- the first bytes are the same, and then one more is or isn't
+pub same_more : (i : ℕ) (one other : List ℕ) (same more : Bool) → i < length one → i < length other
+    → same ≡ pointwise nat_eq (take i one) (take i other)
+    → more ≡ (same && nat_eq (get_or one i 0) (get_or other i 0))
+    → more ≡ pointwise nat_eq (take (i + 1) one) (take (i + 1) other)
+same_more i one other same more lt less before is =
+    is ∙ ap (λ b. b && nat_eq (get_or one i 0) (get_or other i 0)) before
+    ∙ (sym (pointwise_last (take i one) (take i other) (get_or one i 0) (get_or other i 0)
+    (length-take-le i one (omega arith) ∙ sym (length-take-le i other (omega arith))))
+    ∙ (ap (λ xs. pointwise nat_eq xs (take i other ++ get_or other i 0 ∷ [])) (sym (take_more one i 0 lt))
+    ∙ ap (pointwise nat_eq (take (i + 1) one)) (sym (take_more other i 0 less))))
+
+decided : (xs ys : List ℕ) → Decides (pointwise nat_eq xs ys) (xs ≡ ys)
+decided xs ys = slice_eq-Decides unsigned_Decides xs ys (pointwise nat_eq xs ys) refl
+
+-- names are the same exactly where their fields are
+pub same_fields : (a b : List ℕ) (n m : ℕ) → IsPadded a n → IsPadded b m
+    → (nat_eq n m && pointwise nat_eq a b) ≡ pointwise nat_eq (take n a) (take m b)
+same_fields a b n m ha hb = elim (cases_Bool (pointwise nat_eq (take n a) (take m b))) [
+  | inl same ↦
+      let names : take n a ≡ take m b = (decided (take n a) (take m b)).0 same in
+      let lengths : n ≡ m = sym (length_back a n ha) ∙ (ap (λ v. length v) names ∙ length_back b m hb) in
+      let fields : a ≡ b =
+      sym (bytes_back a n ha) ∙ (ap (λ v. v ++ zeros_from (length v)) names ∙ bytes_back b m hb) in
+      and_from (nat_eq n m) (pointwise nat_eq a b) ((unsigned_Decides n m).1 lengths) ((decided a b).1 fields)
+      ∙ sym same
+  | inr apart ↦
+      false_from_ne_true (nat_eq n m && pointwise nat_eq a b) (λ both.
+      let parts = and_parts (nat_eq n m) (pointwise nat_eq a b) both in
+      let names : take n a ≡ take m b =
+      ap (λ k. take k a) ((unsigned_Decides n m).0 parts.0) ∙ ap (λ v. take m v) ((decided a b).0 parts.1) in
+      true≢false (sym ((decided (take n a) (take m b)).1 names) ∙ apart))
+      ∙ sym apart
+]
+
+-- where the lengths differ nothing else is looked at
+pub other_length : (a b : List ℕ) (n m : ℕ) → (n ≡ m → ⊥) → nat_eq n m ≡ (nat_eq n m && pointwise nat_eq a b)
+other_length a b n m apart =
+    let none = false_from_ne_true (nat_eq n m) (λ same. apart ((unsigned_Decides n m).0 same)) in rw none refl
+
+pub one_length : (a b : List ℕ) (n m : ℕ) → n ≡ m → pointwise nat_eq a b ≡ (nat_eq n m && pointwise nat_eq a b)
+one_length a b n m same = rw (eq-eqb n m same) refl

@@ -88,13 +88,26 @@ pub(crate) fn are_same(one: &[u8], other: &[u8]) -> bool
     right.is_empty()
 }
 
+/// Whether the bytes of two names and the zeros behind them are the same. Each is looked at, whatever the others are, so
+/// that a processor compares many at a time.
+fn are_equal(one: &[u8; MOST_NAME_BYTES], other: &[u8; MOST_NAME_BYTES]) -> bool
+    ensures { result ≡ pointwise nat_eq one.now other.now }
+{
+    let mut same = true;
+    for i in 0..MOST_NAME_BYTES {
+        let equal = one[i] == other[i];
+        same = same && equal;
+    }
+    same
+}
+
 impl PartialEq for Name {
     ghost eq = { pointwise nat_eq };
 
     ghost laws = { Prim.search (comparing, rules) };
 
     fn eq(&self, other: &Name) -> bool {
-        are_same(self.as_bytes(), other.as_bytes())
+        self.len == other.len && are_equal(&self.bytes, &other.bytes)
     }
 }
 

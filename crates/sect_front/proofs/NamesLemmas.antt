@@ -1,19 +1,20 @@
 -- Lemmas on names.
 use Rattle.std.proofs.Common.{◌≡◌, ℕ, suc, ◌+◌, ◌<◌, ◌≤◌, get_or, eqb, Bool, true, false, not, ◌||◌, ◌&&◌, cond, List}
-use Rattle.std.proofs.Common.{take, inl, inr}
-use Rattle.std.specs.{Cmp.Lexicographic.{pointwise}, Prelude.{Decides}}
 use Rattle.std.proofs.Common.{[], ◌∷◌, ◌++◌, map, Option, Some, None, length, replicate, refl, sym, ◌∙◌, ap, arith}
-use Rattle.std.proofs.{Common.{length-append, length-drop, true≢false}, Math.Seq.{take-append_seam}}
+use Rattle.std.proofs.Common.{length-append, length-drop, true≢false, take, inl, inr, ◌↔◌}
 use Rattle.std.proofs.{lemmas.Bool.{leb-true, le-leb, eq-eqb, and_parts, not-true}, lemmas.Bool.Decides.{nat_tests}}
-use Rattle.std.proofs.lemmas.Bool.{cases_Bool, and_from, false_from_ne_true}
-use Rattle.std.proofs.lemmas.{List.{take_more, length-take-le}, Slice.Eq.{slice_eq-Decides}}
+use Rattle.std.proofs.lemmas.{Bool.{cases_Bool, and_from, false_from_ne_true}, Nat.{le_or_l, le_or_r}}
+use Rattle.std.proofs.lemmas.{List.{take_more, take_all, take-take, get_or-take}, Slice.Eq.{slice_eq-Decides}}
 use Rattle.std.proofs.{lemmas.List.Folds.{length-prefix_len, list_all_at}, Math.Dec.{leb}, Math.Bool.{and-false}}
+use Rattle.std.proofs.Math.Seq.{take-append_seam}
 use Rattle.std.specs.{Cmp.{unsigned_Decides}, List.{list_all, list_any, take_while, prefix_len, filter}, Str.{bytes_eq}}
-use Rattle.std.specs.Prelude.{is_some, is_none, nat_eq, codes}
+use Rattle.std.specs.{Prelude.{is_some, is_none, nat_eq, codes, bit_or, bit_xor, Decides}}
+use Rattle.std.specs.Cmp.Lexicographic.{pointwise}
 use Rattle.sect_front.specs.{declared.token.Token.{Token}, Names.{IsPadded, zeros_from, length_back, bytes_back}}
 use Rattle.sect_front.specs.{Words.{is_name, is_letter, is_name_byte, is_keyword, begins}, Limits.{most_name_bytes}}
 use Rattle.sect_front.specs.steps.Recognition.{keyword_of, keyword_table, keywords_of, token_beside}
 use Rattle.sect_front.specs.declared.token.Token.TheVariants as token
+use lib.Bits.{xor_self, xor_assoc, xor_zero_l, xor_zero_r}
 
 -- what a name is
 pub record IsNamed (bytes : List ℕ) : Type 0 where
@@ -166,36 +167,49 @@ name_small bytes h i lt = go (is_name_byte (get_or bytes i 0)) refl
     go true e = small_letter (get_or bytes i 0) e
     go false e = let none = list_all_at is_name_byte bytes i 0 lt e in let all = (named bytes h).all in absurd cc
 
-pointwise_last : (xs ys : List ℕ) (x y : ℕ) → length xs ≡ length ys
-    → pointwise nat_eq (xs ++ x ∷ []) (ys ++ y ∷ []) ≡ (pointwise nat_eq xs ys && nat_eq x y)
-pointwise_last [] [] x y e = go (nat_eq x y)
-  where
-    go : (b : Bool) → (b && true) ≡ b
-    go true = refl
-    go false = refl
-pointwise_last [] (v ∷ ys) x y e = absurd (omega (arith, e))
-pointwise_last (u ∷ xs) [] x y e = absurd (omega (arith, e))
-pointwise_last (u ∷ xs) (v ∷ ys) x y e = go (nat_eq u v) (pointwise_last xs ys x y (omega (arith, e)))
-  where
-    go : (b : Bool) → pointwise nat_eq (xs ++ x ∷ []) (ys ++ y ∷ []) ≡ (pointwise nat_eq xs ys && nat_eq x y)
-        → (b && pointwise nat_eq (xs ++ x ∷ []) (ys ++ y ∷ [])) ≡ ((b && pointwise nat_eq xs ys) && nat_eq x y)
-    go true h = h
-    go false h = refl
-
--- the first bytes are the same, and then one more is or isn't
-pub same_more : (i : ℕ) (one other : List ℕ) (same more : Bool) → i < length one → i < length other
-    → same ≡ pointwise nat_eq (take i one) (take i other)
-    → more ≡ (same && nat_eq (get_or one i 0) (get_or other i 0))
-    → more ≡ pointwise nat_eq (take (i + 1) one) (take (i + 1) other)
-same_more i one other same more lt less before is =
-    is ∙ ap (λ b. b && nat_eq (get_or one i 0) (get_or other i 0)) before
-    ∙ (sym (pointwise_last (take i one) (take i other) (get_or one i 0) (get_or other i 0)
-    (length-take-le i one (omega arith) ∙ sym (length-take-le i other (omega arith))))
-    ∙ (ap (λ xs. pointwise nat_eq xs (take i other ++ get_or other i 0 ∷ [])) (sym (take_more one i 0 lt))
-    ∙ ap (pointwise nat_eq (take (i + 1) one)) (sym (take_more other i 0 less))))
-
 decided : (xs ys : List ℕ) → Decides (pointwise nat_eq xs ys) (xs ≡ ys)
 decided xs ys = slice_eq-Decides unsigned_Decides xs ys (pointwise nat_eq xs ys) refl
+
+apart_zero : (x y : ℕ) → bit_xor x y ≡ 0 → x ≡ y
+apart_zero x y e =
+    sym (xor_zero_r x) ∙ (ap (bit_xor x) (sym (xor_self y)) ∙ (sym (xor_assoc x y y)
+    ∙ (ap (λ w. bit_xor w y) e ∙ xor_zero_l y)))
+
+-- the first bytes are the same exactly where nothing is apart, and so with one byte more
+pub apart_more : (i apart : ℕ) (one other : List ℕ) → i < length one → i < length other
+    → ((apart ≡ 0) ↔ (take i one ≡ take i other))
+    → ((bit_or apart (bit_xor (get_or one i 0) (get_or other i 0)) ≡ 0) ↔ (take (i + 1) one ≡ take (i + 1) other))
+apart_more i apart one other lt less h =
+    let x = get_or one i 0 in
+    let y = get_or other i 0 in (
+      λ e.
+          let none : apart ≡ 0 = omega (arith, e, le_or_l apart (bit_xor x y)) in
+          let same : bit_xor x y ≡ 0 = omega (arith, e, le_or_r apart (bit_xor x y)) in
+          take_more one i 0 lt ∙ (ap (λ v. v ++ x ∷ []) (h.0 none)
+          ∙ (ap (λ z. take i other ++ z ∷ []) (apart_zero x y same) ∙ sym (take_more other i 0 less))),
+      λ e.
+          let fronts : take i one ≡ take i other = front one ∙ (ap (take i) e ∙ sym (front other)) in
+          let same : x ≡ y = last one ∙ (ap (λ v. get_or v i 0) e ∙ sym (last other)) in
+          rw (h.1 fronts, same, xor_self y) refl,
+    )
+  where
+    front : (v : List ℕ) → take i v ≡ take i (take (i + 1) v)
+    front v = sym (take-take i (i + 1) v (omega arith))
+
+    last : (v : List ℕ) → get_or v i 0 ≡ get_or (take (i + 1) v) i 0
+    last v = sym (get_or-take (i + 1) v i 0 (omega arith))
+
+pub none_apart : (n apart : ℕ) (one other : List ℕ) → length one ≤ n → length other ≤ n
+    → ((apart ≡ 0) ↔ (take n one ≡ take n other)) → nat_eq apart 0 ≡ pointwise nat_eq one other
+none_apart n apart one other le less h = elim (cases_Bool (pointwise nat_eq one other)) [
+  | inl same ↦ (unsigned_Decides apart 0).1 (h.1 (ap (take n) ((decided one other).0 same))) ∙ sym same
+  | inr differ ↦
+      false_from_ne_true (nat_eq apart 0) (λ zero.
+      let whole : one ≡ other =
+      sym (take_all n one le) ∙ (h.0 ((unsigned_Decides apart 0).0 zero) ∙ take_all n other less) in
+      true≢false (sym ((decided one other).1 whole) ∙ differ))
+      ∙ sym differ
+]
 
 -- names are the same exactly where their fields are
 pub same_fields : (a b : List ℕ) (n m : ℕ) → IsPadded a n → IsPadded b m

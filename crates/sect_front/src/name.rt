@@ -88,17 +88,16 @@ pub(crate) fn are_same(one: &[u8], other: &[u8]) -> bool
     right.is_empty()
 }
 
-/// Whether the bytes of two names and the zeros behind them are the same. Each is looked at, whatever the others are, so
-/// that a processor compares many at a time.
+/// Whether the bytes of two names and the zeros behind them are the same. None is tested by itself, so that a processor
+/// compares many at a time.
 fn are_equal(one: &[u8; MOST_NAME_BYTES], other: &[u8; MOST_NAME_BYTES]) -> bool
     ensures { result ≡ pointwise nat_eq one.now other.now }
 {
-    let mut same = true;
+    let mut apart = 0u8;
     for i in 0..MOST_NAME_BYTES {
-        let equal = one[i] == other[i];
-        same = same && equal;
+        apart |= one[i] ^ other[i];
     }
-    same
+    apart == 0
 }
 
 impl PartialEq for Name {

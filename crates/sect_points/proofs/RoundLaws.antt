@@ -46,6 +46,33 @@ span_most : (old new : PointsToView) (before after : Marked) (grew : Bool) → I
 span_most old new before after true r = omega (arith, r.less refl)
 span_most old new before after false r = omega (arith, ap sets_room (r.same refl))
 
+-- spans one behind another
+pub span_none : (sets : PointsToView) (marks : Marked) → IsSpan sets sets marks marks false
+span_none sets marks = record {
+  same = λ e. refl;
+  fewer = λ e h k. k;
+  less = λ e. absurd (true≢false (sym e));
+  places = record { sites = refl; slots = refl; locals = refl; rows = λ t. refl };
+}
+
+pub span_then : (old now new : PointsToView) (before between after : Marked) (grew second both : Bool)
+    → IsSpan old now before between grew → IsSpan now new between after second → both ≡ (second || grew)
+    → IsSpan old new before after both
+span_then old now new before between after grew second both r s is = record {
+  same = λ e. let n = both_false grew second (sym is ∙ e) in s.same n.1 ∙ r.same n.0;
+  fewer = λ e h k. let n = both_false grew second (sym is ∙ e) in r.fewer n.0 h (s.fewer n.1 h k);
+  less = λ e. elim (one_true grew second (sym is ∙ e)) [
+    | inl g ↦ omega (arith, r.less g, span_most now new between after second s)
+    | inr g ↦ omega (arith, s.less g, span_most old now before between grew r)
+  ];
+  places = record {
+    sites = s.places.sites ∙ r.places.sites;
+    slots = s.places.slots ∙ r.places.slots;
+    locals = s.places.locals ∙ r.places.locals;
+    rows = λ t. s.places.rows t ∙ r.places.rows t;
+  };
+}
+
 rounding_step : (t f t' f' : ℕ) (list : List ThreadAction) (old now new moved moved' : PointsToView)
     (marks marks' : Marked) (grew second both : Bool) → IsRounding t f list old now moved marks grew
     → IsSpan now new marks marks' second → IsGoing list new moved' marks' → IsLeft new moved' marks' (λ h. ⊥)

@@ -74,22 +74,24 @@ impl Row {
 fn is_same(left: &ThreadAction, right: &ThreadAction) -> bool
     ensures { result ≡ true → left.now ≡ right.now }
 {
-    left.thread == right.thread && is_same_action(left.action, right.action)
+    left.thread == right.thread && is_same_action(&left.action, &right.action)
 }
 
 /// Whether two actions are one assignment, one load or one store.
-fn is_same_action(left: Action, right: Action) -> bool
-    ensures { result ≡ true → left ≡ right }
+fn is_same_action(left: &Action, right: &Action) -> bool
+    ensures { result ≡ true → left.now ≡ right.now }
 {
     match (left, right) {
         (Action::Assign(to, value), Action::Assign(other, sum)) => {
-            to == other && is_same_value(value, sum)
+            *to == *other && is_same_value(*value, *sum)
         }
         (Action::Load(to, base, field), Action::Load(other, origin, part)) => {
-            to == other && is_same_base(base, origin) && is_same_field(field, part)
+            *to == *other && is_same_base(*base, *origin) && is_same_field(*field, *part)
         }
         (Action::Store(base, field, value), Action::Store(other, part, sum)) => {
-            is_same_base(base, other) && is_same_field(field, part) && is_same_value(value, sum)
+            is_same_base(*base, *other)
+                && is_same_field(*field, *part)
+                && is_same_value(*value, *sum)
         }
         _ => false,
     }

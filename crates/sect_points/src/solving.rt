@@ -289,6 +289,32 @@ fn carry_locals(
     grew
 }
 
+/// Moves on what the locals of a row of marks have got, and then what they get by that, until they get nothing. A value
+/// mostly goes from local to local in one thread.
+fn settle_locals(
+    sets: &mut PointsTo,
+    moved: &mut PointsTo,
+    readers: &Readers,
+    row: u16,
+    marks: &mut Marks,
+) -> bool
+    requires fits { AllFit sets.old readers.now }
+    requires most { sets.old.sites ≤ MOST_SITES }
+    requires going { IsGoing readers.now sets.old moved.old marks.old }
+    requires left { IsLeft sets.old moved.old marks.old (λ h. ⊥) }
+    ensures span { IsSpan sets.old sets.new marks.old marks.new result }
+    ensures going { IsGoing readers.now sets.new moved.new marks.new }
+    ensures left { IsLeft sets.new moved.new marks.new (λ h. ⊥) }
+    ensures gone { result ≡ false → (thread local : ℕ) → local_row thread local ≡ row
+        → HasMark marks.new (Local thread local) → ⊥ }
+{
+    let mut grew = false;
+    while carry_locals(sets, moved, readers, row, marks) {
+        grew = true;
+    }
+    grew
+}
+
 /// Moves on what a field of the marked sites has got.
 fn carry_field(
     sets: &mut PointsTo,
@@ -338,7 +364,7 @@ fn round(sets: &mut PointsTo, moved: &mut PointsTo, readers: &Readers, marks: &m
 {
     let mut grew = false;
     for row in 0..MOST_THREADS as u16 * LOCAL_ROWS {
-        grew = carry_locals(sets, moved, readers, row, marks) || grew;
+        grew = settle_locals(sets, moved, readers, row, marks) || grew;
     }
     for field in 0..MOST_FIELDS as u16 {
         grew = carry_field(sets, moved, readers, field, marks) || grew;

@@ -1,14 +1,19 @@
 -- Locks that are found one after another.
-use Rattle.std.proofs.Common.{◌≡◌, ◌↔◌, ◌⊎◌, inl, inr, ℕ, ◌+◌, ◌<◌, ◌≤◌, List, [], ◌++◌, Some, length, get_or, take}
+use Rattle.std.proofs.Common.{◌≡◌, ◌↔◌, ◌⊎◌, inl, inr, ℕ, ◌+◌, ◌<◌, ◌≤◌, List, [], ◌∷◌, ◌++◌, Option, Some, None, length}
+use Rattle.std.proofs.Common.{get_or, take}
 use Rattle.std.proofs.{Common.{refl, sym, ap, ◌∙◌, subst, append_assoc, arith}, lemmas.List.{append-nil, take_all}}
-use Rattle.std.proofs.lemmas.Option.{slice_get_within}
+use Rattle.std.proofs.lemmas.{Bool.{cases_lt}, Option.{slice_get_within}}
 use Rattle.std.specs.Prelude.{slice_get}
 use Rattle.sect_lemmas.specs.Lists.{Has}
 use Rattle.sect_lemmas.proofs.{Membership.{Has-left, Has-get_or}, Places.{at_of, one_at}, Making.{last_of, so_far}}
 use Rattle.sect_types.specs.declared.expansion.action.Label.{Label}
-use Rattle.sect_names.specs.{declared.lock.Lock.{Lock}, Schemes.{SchemeView}, Carrying.{CarriedBack}}
+use Rattle.sect_points.specs.{Paths.{PathView}, Partitions.{HasClass}}
+use Rattle.sect_names.specs.{declared.lock.Effect.{Effect}, declared.lock.Lock.{Lock}, Schemes.{SchemeView}}
+use Rattle.sect_names.specs.{Locks.{depth}, Carrying.{CarriedBack, LockOn, right_for}}
+use Rattle.sect_names.specs.declared.lock.Lock.TheVariants as lock
 use Rattle.sect_infer.specs.Numbers.{with_number}
-use Rattle.sect_infer.specs.Numberings.{NumberingView, HasLock, AreNumbers, IsNumbered, IsFinding, Finds}
+use Rattle.sect_infer.specs.Numberings.{NumberingView, HasLock, AreNumbers, IsOfClass, IsNumbered, IsFinding, Finds}
+use Rattle.sect_infer.specs.steps.Putting.{AreOn}
 use Rattle.sect_infer.proofs.shared.Apart.{with_has}
 use Rattle.sect_infer.proofs.shared.Extending.{extends_none, extends_then, extends_at, extends_back, extends_numbers}
 use Rattle.sect_infer.proofs.{Apart.{with_apart, with_behind}, Extending.{extends_lock}}
@@ -80,20 +85,48 @@ module _ (s : SchemeView) where
     ];
   }
 
-  -- the next of these locks
-  pub finds_next : (a b c : NumberingView) (ns ms os : List ℕ) (locks : List Lock) (i : ℕ) (l : Lock) → i < length locks
-      → l ≡ get_or locks i l
-      → Finds s a ns b ms (Has (take i locks)) → Finds s b ms c os (λ x. x ≡ l)
-      → Finds s a ns c os (Has (take (i + 1) locks))
-  finds_next a b c ns ms os locks i l within is f g =
-      finds_as a c ns os (λ x. Has (take i locks) x ⊎ (x ≡ l)) (Has (take (i + 1) locks))
-      (λ x. (λ h. last_of locks i l x within is h, λ h. so_far locks i l x within is h))
-      (finds_then a b c ns ms os (Has (take i locks)) (λ x. x ≡ l) f g)
+  -- the lock on a path is the one that was found for it
+  pub lock_on_is : (e : Effect) (p : PathView) (o : Option ℕ) → ((m : ℕ) → (o ≡ Some m) ↔ HasClass s.classes p m)
+      → (n : ℕ) → o ≡ Some n → (x : Lock) → (depth p ≤ s.most → x ≡ lock.Path p e)
+      → (s.most < depth p → x ≡ lock.Class n (right_for e)) → (l : Lock) → LockOn s e p l ↔ (l ≡ x)
+  lock_on_is e p o tells n is x short long l = (
+    λ h. elim h.2 [
+      | inl a ↦ a.1 ∙ sym (short a.0)
+      | inr b ↦ (let t = (tells h.0).1 h.1 in let own : n ≡ h.0 = cc in
+          b.1 ∙ sym (long b.0 ∙ ap (λ m. lock.Class m (right_for e)) own))
+    ],
+    λ same. (
+      n,
+      (tells n).0 is,
+      elim (cases_lt s.most (depth p))
+          [ inl deep ↦ inr (deep, same ∙ long deep) | inr flat ↦ inl (flat, same ∙ short flat) ],
+    ),
+  )
 
-  -- all of these locks
-  pub finds_done : (a b : NumberingView) (ns ms : List ℕ) (locks : List Lock) (i : ℕ) → length locks ≤ i
-      → Finds s a ns b ms (Has (take i locks)) → Finds s a ns b ms (Has locks)
-  finds_done a b ns ms locks i past f = subst (λ ls. Finds s a ns b ms (Has ls)) (take_all i locks past) f
+  -- and it is of the class
+  pub lock_of_class : (e : Effect) (p : PathView) (n : ℕ) → ((m : ℕ) → (Some n ≡ Some m) ↔ HasClass s.classes p m)
+      → (x : Lock) → (depth p ≤ s.most → x ≡ lock.Path p e) → (s.most < depth p → x ≡ lock.Class n (right_for e))
+      → IsOfClass s.classes x n
+  lock_of_class e p n tells x short long = elim (cases_lt s.most (depth p)) [
+    | inl deep ↦ subst (λ l. IsOfClass s.classes l n) (sym (long deep)) tt
+    | inr flat ↦ subst (λ l. IsOfClass s.classes l n) (sym (short flat)) tells
+  ]
+
+  -- a path without a class has no lock on it
+  pub no_lock_on : (e : Effect) (p : PathView) (o : Option ℕ) → ((m : ℕ) → (o ≡ Some m) ↔ HasClass s.classes p m)
+      → o ≡ None → (l : Lock) → LockOn s e p l → ⊥
+  no_lock_on e p o tells is l h = let t = (tells h.0).1 h.1 in absurd cc
+
+  -- the locks on one path more
+  pub finds_on_more : (e : Effect) (a b c : NumberingView) (ns ms os : List ℕ) (q : PathView) (paths : List PathView)
+      → Finds s a ns b ms (AreOn s e paths) → Finds s b ms c os (LockOn s e q) → Finds s a ns c os (AreOn s e (q ∷ paths))
+  finds_on_more e a b c ns ms os q paths f g =
+      finds_as a c ns os (λ l. AreOn s e paths l ⊎ LockOn s e q l) (AreOn s e (q ∷ paths))
+      (λ l. (
+        λ h. elim h.1 [ inl same ↦ inr (subst (λ p. LockOn s e p l) (sym same) h.2) | inr old ↦ inl (h.0, old, h.2) ],
+        λ h. elim h [ inl k ↦ (k.0, inr k.1, k.2) | inr k ↦ (q, inl refl, k) ],
+      ))
+      (finds_then a b c ns ms os (AreOn s e paths) (LockOn s e q) f g)
 
   module _ (t : ℕ) (label : Label) where
     -- what is carried back of locks with these numbers

@@ -1,8 +1,8 @@
 -- Locks by their numbers in a numbering.
-use Rattle.std.specs.Prelude.{◌≡◌, ◌<◌, ◌⊎◌, ℕ, Bool, not, List, [], filter, ◌++◌, Some, length, map, slice_get}
+use Rattle.std.specs.Prelude.{◌≡◌, ◌↔◌, ◌<◌, ◌⊎◌, ⊤, ℕ, Bool, not, List, [], filter, ◌++◌, Some, length, map, slice_get}
 use Rattle.std.specs.{Prelude.{slice_index_or}, List.{list_any}}
 use Rattle.sect_lemmas.specs.Lists.{Has}
-use Rattle.sect_points.specs.Paths.{PathView}
+use Rattle.sect_points.specs.{Paths.{PathView}, Partitions.{ClassesView, HasClass}}
 use Rattle.sect_names.specs.{declared.lock.Lock.{Lock}, Schemes.{SchemeView}, Climbing.{IsAbove}, Order.{AreInOrder}}
 use Rattle.sect_infer.specs.Numbers.{has_number, AreApart}
 use Rattle.sect_names.specs.declared.lock.Effect.TheVariants as effect
@@ -24,6 +24,12 @@ AreNumbers keys ns = (n : ℕ) → Has ns n → n < length keys
 -- the lock is one to write a path
 abbrev pub IsToWrite : Lock → Type 0
 IsToWrite l = (p : PathView) × (l ≡ lock.Path p effect.Write)
+
+-- the lock isn't on a path, or on one of this class alone
+abbrev pub IsOfClass : ClassesView → Lock → ℕ → Type 0
+IsOfClass c lock.All n = ⊤
+IsOfClass c (lock.Class m r) n = ⊤
+IsOfClass c (lock.Path p e) n = (m : ℕ) → (Some n ≡ Some m) ↔ HasClass c p m
 
 -- the numbers are those of locks above one
 abbrev pub AreOver : SchemeView → List Lock → Lock → List ℕ → Type 0

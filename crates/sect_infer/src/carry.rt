@@ -1,13 +1,15 @@
 //! What is found to be needed at a node because of what is needed where control may go on.
 
-ghost use Rattle.std.specs.Prelude.{◌≡◌, ◌<◌, length, slice_get, Some, OnOk};
-ghost use Rattle.sect_names.specs.{declared.lock.Lock.{Lock}, Locks.{IsLockOf}, Carrying.{CarriedBack}};
-ghost use Rattle.sect_lemmas.specs.Lists.{Has};
+ghost use Rattle.std.specs.Prelude.{◌≡◌, ◌<◌, ◌≤◌, length, slice_get, Some, OnOk};
+ghost use Rattle.sect_names.specs.{declared.lock.Lock.{Lock}, Locks.{IsLockOf, depth}};
+ghost use Rattle.sect_names.specs.Carrying.{CarriedBack, LockOn, right_for};
 ghost use Rattle.sect_infer.specs.Numberings.{HasLock, AreNumbers, IsFinding, Finds};
+ghost use Rattle.sect_infer.specs.steps.Putting.{AreOn};
+ghost use Rattle.sect_names.specs.declared.lock.Lock.TheVariants as lock;
 
 use crate::numbering::Numbering;
 use crate::numbers::Numbers;
-use sect_names::{Lock, Scheme, stays};
+use sect_names::{Effect, Lock, Path, Scheme, stays};
 use sect_types::Label;
 use std::alloc::{AllocError, Global};
 
@@ -27,19 +29,57 @@ pub fn find(
     Ok(())
 }
 
-/// Finds each of the locks.
-fn find_all(
+/// The lock with this effect on a path of this class: that of the class where the path has more than k fields.
+fn lock_in(scheme: &Scheme, class: u16, effect: Effect, path: Path) -> Lock
+    ensures short { depth path ≤ scheme.now.most → result ≡ lock.Path path effect }
+    ensures long { scheme.now.most < depth path → result ≡ lock.Class class (right_for effect) }
+{
+    if path.fields().len() > scheme.k() as usize {
+        Lock::Class(class, effect.right())
+    } else {
+        Lock::Path(path, effect)
+    }
+}
+
+/// Finds the lock with this effect on a path, if that has a class.
+fn find_on(
     alloc: Global,
     scheme: &Scheme,
     numbering: &mut Numbering,
     found: &mut Numbers,
-    locks: &[Lock],
+    effect: Effect,
+    path: Path,
 ) -> Result<(), AllocError>
     requires { IsFinding scheme.now numbering.old found.old }
-    ensures { OnOk result (Finds scheme.now numbering.old found.old numbering.new found.new (Has locks.now)) }
+    ensures { OnOk result (Finds scheme.now numbering.old found.old numbering.new found.new
+        (LockOn scheme.now effect path)) }
 {
-    for lock in locks {
-        find(alloc, scheme, numbering, found, lock)?;
+    match scheme.class_of(&path) {
+        None => Ok(()),
+        Some(class) => {
+            let lock = lock_in(scheme, class, effect, path);
+            let number = numbering.number_in(alloc, class, &lock)?;
+            found.insert(number)?;
+            Ok(())
+        }
+    }
+}
+
+/// Finds the locks with this effect on each of the paths.
+fn find_all_on(
+    alloc: Global,
+    scheme: &Scheme,
+    numbering: &mut Numbering,
+    found: &mut Numbers,
+    effect: Effect,
+    mut paths: Vec<Path>,
+) -> Result<(), AllocError>
+    requires { IsFinding scheme.now numbering.old found.old }
+    ensures { OnOk result (Finds scheme.now numbering.old found.old numbering.new found.new
+        (AreOn scheme.now effect paths.items)) }
+{
+    while let Some(path) = paths.pop() {
+        find_on(alloc, scheme, numbering, found, effect, path)?;
     }
     Ok(())
 }
@@ -61,8 +101,17 @@ fn carry_over(
         → Finds scheme.now numbering.old found.old numbering.new found.new
         (CarriedBack scheme.now thread label.now l)) }
 {
-    let locks = scheme.rewrite(alloc, thread, *label, numbering.lock(number))?;
-    find_all(alloc, scheme, numbering, found, locks.as_slice())
+    match numbering.lock(number) {
+        Lock::All | Lock::Class(_, _) => {
+            found.insert(number)?;
+            Ok(())
+        }
+        Lock::Path(path, effect) => {
+            let effect = *effect;
+            let paths = scheme.before(alloc, thread, *label, path)?;
+            find_all_on(alloc, scheme, numbering, found, effect, paths)
+        }
+    }
 }
 
 /// Finds what is needed before a node for one lock that is needed after it, which has this number.

@@ -7,7 +7,7 @@ ghost use Rattle.sect_points.specs.Partitions.{HasClass};
 ghost use Rattle.sect_names.specs.{declared.lock.Lock.{Lock}, Schemes.{SchemeView}};
 ghost use Rattle.sect_infer.specs.Numbers.{has_number};
 ghost use Rattle.sect_infer.specs.Numberings.{AreAbove, AreAboveRead, IsToWrite, IsNumbering, IsNumberingOfSome};
-ghost use Rattle.sect_infer.specs.Numberings.{IsNumbered, is_under};
+ghost use Rattle.sect_infer.specs.Numberings.{IsNumbered, IsOfClass, is_under};
 ghost use Rattle.sect_infer.specs.steps.Putting.{IsPut, IsTold};
 ghost use Rattle.sect_names.specs.declared.lock.Effect.TheVariants as effect;
 ghost use Rattle.sect_names.specs.declared.lock.Right.TheVariants as right;
@@ -19,6 +19,10 @@ use sect_names::{Effect, Lock, Path, Right, Scheme};
 use smallvec::SmallVec;
 use std::alloc::{AllocError, Global};
 use std::marker::Model;
+
+/// How many of the first locks are compared one by one with a lock that isn't on a path, before it is sought by its
+/// hash: the lock on all is the first, and those on the first class are next to it.
+const NEAR: usize = 4;
 
 /// Locks, numbered from 0 in the order in which they came, and for each the numbers of the other locks there that cover
 /// it. All that cover it have come before it, but for the lock to write its path, which comes when it is needed. These
@@ -150,6 +154,18 @@ impl Numbering {
         self.locks.get_index_of(lock)
     }
 
+    /// The number of a lock, if it is one of the first.
+    fn near(&self, lock: &Lock) -> Option<usize>
+        ensures { (n : ℕ) → result ≡ Some n → slice_get self.now.keys n ≡ Some lock.now }
+    {
+        for number in 0..self.len().min(NEAR) {
+            if *self.lock(number) == *lock {
+                return Some(number);
+            }
+        }
+        None
+    }
+
     /// The number of a lock, which comes now unless it is there, and before it the locks above it.
     pub fn number(
         &mut self,
@@ -167,6 +183,23 @@ impl Numbering {
             Lock::All => self.put(alloc, Lock::All, &[]),
             Lock::Class(class, right) => self.put_class(alloc, *class, *right),
             Lock::Path(path, effect) => self.put_path(alloc, scheme, path, *effect),
+        }
+    }
+
+    /// The number of a lock, which comes now unless it is there, and before it the locks above it. If it is on a path,
+    /// that is one of this class.
+    pub fn number_in(&mut self, alloc: Global, class: u16, lock: &Lock) -> Result<usize, AllocError>
+        requires { IsNumberingOfSome self.old }
+        ensures { (s : SchemeView) → IsNumbering s self.old → IsOfClass s.classes lock.now class
+            → IfOk result (IsNumbered s self.old self.new lock.now) }
+    {
+        if let Some(number) = self.find(lock) {
+            return Ok(number);
+        }
+        match lock {
+            Lock::All => self.put(alloc, Lock::All, &[]),
+            Lock::Class(class, right) => self.put_class(alloc, *class, *right),
+            Lock::Path(path, effect) => self.put_classed(alloc, class, path, *effect),
         }
     }
 
@@ -231,10 +264,10 @@ impl Numbering {
             → IfOk result (IsNumbered s self.old self.new (lock.Path path.now effect.Read)) }
     {
         match self.find(&Lock::Path(path.try_clone()?, Effect::Write)) {
-            None => self.put(alloc, Lock::Path(path.try_clone()?, Effect::Read), above),
+            None => self.put_behind(alloc, Lock::Path(path.try_clone()?, Effect::Read), above),
             Some(write) => {
                 let over = with_last(alloc, above, write)?;
-                self.put(
+                self.put_behind(
                     alloc,
                     Lock::Path(path.try_clone()?, Effect::Read),
                     over.as_slice(),
@@ -296,9 +329,26 @@ impl Numbering {
         Ok(OverClass { all, write })
     }
 
+    /// The number of a lock that isn't one to write a path, which comes now unless it is there, mostly among the first.
+    /// The numbers of those above it are these.
+    fn put(&mut self, alloc: Global, lock: Lock, above: &[usize]) -> Result<usize, AllocError>
+        ensures { (s : SchemeView) → IsNumbering s self.old → (IsToWrite lock → ⊥)
+            → AreAbove s self.old.keys lock above.now → IfOk result (IsNumbered s self.old self.new lock) }
+    {
+        match self.near(&lock) {
+            Some(number) => Ok(number),
+            None => self.put_behind(alloc, lock, above),
+        }
+    }
+
     /// The number of a lock that isn't one to write a path, which comes now unless it is there. The numbers of those
     /// above it are these.
-    fn put(&mut self, alloc: Global, lock: Lock, above: &[usize]) -> Result<usize, AllocError>
+    fn put_behind(
+        &mut self,
+        alloc: Global,
+        lock: Lock,
+        above: &[usize],
+    ) -> Result<usize, AllocError>
         ensures { (s : SchemeView) → IsNumbering s self.old → (IsToWrite lock → ⊥)
             → AreAbove s self.old.keys lock above.now → IfOk result (IsNumbered s self.old self.new lock) }
     {

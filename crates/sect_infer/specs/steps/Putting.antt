@@ -1,7 +1,9 @@
--- What is put into a numbering.
+-- What is put into a numbering, and the locks on paths.
 use Rattle.std.specs.Prelude.{◌≡◌, ℕ, List, [], ◌∷◌, ◌++◌, slice_index_or, slice_set}
 use Rattle.sect_lemmas.specs.Lists.{Has}
-use Rattle.sect_names.specs.declared.lock.Lock.{Lock}
+use Rattle.sect_points.specs.Paths.{PathView}
+use Rattle.sect_names.specs.{declared.lock.Lock.{Lock}, declared.lock.Effect.{Effect}, Schemes.{SchemeView}}
+use Rattle.sect_names.specs.Carrying.{LockOn}
 use Rattle.sect_infer.specs.Numberings.{NumberingView}
 
 -- the lock wasn't there, and stands behind the others now, with those numbers of locks above it
@@ -14,3 +16,7 @@ pub record IsPut (old new : NumberingView) (l : Lock) (ns : List ℕ) : Type 0 w
 pub record IsTold (old new : NumberingView) (n m : ℕ) : Type 0 where
   pub keys : new.keys ≡ old.keys
   pub above : new.above ≡ slice_set old.above n (slice_index_or old.above n [] ++ m ∷ [])
+
+-- the lock is the one with this effect on one of the paths
+abbrev pub AreOn : SchemeView → Effect → List PathView → Lock → Type 0
+AreOn s e paths l = (q : PathView) × Has paths q × LockOn s e q l

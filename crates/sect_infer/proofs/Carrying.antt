@@ -1,6 +1,6 @@
 -- Locks that are found one after another.
-use Rattle.std.proofs.Common.{◌≡◌, ◌↔◌, ◌⊎◌, inl, inr, ℕ, ◌+◌, ◌<◌, ◌≤◌, List, [], ◌∷◌, ◌++◌, Option, Some, None, length}
-use Rattle.std.proofs.Common.{get_or, take}
+use Rattle.std.proofs.Common.{◌≡◌, ◌↔◌, ◌⊎◌, inl, inr, ℕ, ◌+◌, ◌<◌, ◌≤◌, List, [], ◌∷◌, ◌++◌, Option, Some, None}
+use Rattle.std.proofs.Common.{length, get_or, take}
 use Rattle.std.proofs.{Common.{refl, sym, ap, ◌∙◌, subst, append_assoc, arith}, lemmas.List.{append-nil, take_all}}
 use Rattle.std.proofs.lemmas.{Bool.{cases_lt}, Option.{slice_get_within}}
 use Rattle.std.specs.Prelude.{slice_get}
@@ -10,13 +10,13 @@ use Rattle.sect_types.specs.declared.expansion.action.Label.{Label}
 use Rattle.sect_points.specs.{Paths.{PathView}, Partitions.{HasClass}}
 use Rattle.sect_names.specs.{declared.lock.Effect.{Effect}, declared.lock.Lock.{Lock}, Schemes.{SchemeView}}
 use Rattle.sect_names.specs.{Locks.{depth}, Carrying.{CarriedBack, LockOn, right_for}}
-use Rattle.sect_names.specs.declared.lock.Lock.TheVariants as lock
-use Rattle.sect_infer.specs.Numbers.{with_number}
+use Rattle.sect_infer.specs.Numbers.{with_number, with_numbers}
 use Rattle.sect_infer.specs.Numberings.{NumberingView, HasLock, AreNumbers, IsOfClass, IsNumbered, IsFinding, Finds}
 use Rattle.sect_infer.specs.steps.Putting.{AreOn}
 use Rattle.sect_infer.proofs.shared.Apart.{with_has}
 use Rattle.sect_infer.proofs.shared.Extending.{extends_none, extends_then, extends_at, extends_back, extends_numbers}
-use Rattle.sect_infer.proofs.{Apart.{with_apart, with_behind}, Extending.{extends_lock}}
+use Rattle.sect_names.specs.declared.lock.Lock.TheVariants as lock
+use Rattle.sect_infer.proofs.{Apart.{with_apart, with_behind}, Extending.{extends_lock, numbered_there}}
 
 module _ (s : SchemeView) where
   -- nothing is found
@@ -85,6 +85,25 @@ module _ (s : SchemeView) where
     ];
   }
 
+  -- the locks with these numbers
+  pub finds_numbers : (a : NumberingView) (ns ms : List ℕ) → IsFinding s a ns → AreNumbers a.keys ms
+      → Finds s a ns a (with_numbers ns ms) (HasLock a.keys ms)
+  finds_numbers a ns [] f there = finds_none a ns (HasLock a.keys []) f (λ l h. h.1)
+  finds_numbers a ns (m ∷ ms) f there =
+      let l = at_of a.keys m (there m (inl refl)) in
+      let more = with_number ns m in
+      let one = finds_one a a ns l.0 m f (numbered_there s a l.0 m f.numbering l.1) in
+      finds_as a a ns (with_numbers more ms) (λ x. (x ≡ l.0) ⊎ HasLock a.keys ms x) (HasLock a.keys (m ∷ ms))
+      (λ x. (
+        λ h. elim h.1 [
+          | inl e ↦ inl (one_at a.keys m x l.0 (subst (λ k. slice_get a.keys k ≡ Some x) (sym e) h.2) l.1)
+          | inr k ↦ inr (h.0, k, h.2)
+        ],
+        λ h. elim h [ inl e ↦ (m, inl refl, l.1 ∙ ap (λ y. Some y) (sym e)) | inr k ↦ (k.0, inr k.1, k.2) ],
+      ))
+      (finds_then a a a ns more (with_numbers more ms) (λ x. x ≡ l.0) (HasLock a.keys ms) one
+      (finds_numbers a more ms one.finding (λ n h. there n (inr h))))
+
   -- the lock on a path is the one that was found for it
   pub lock_on_is : (e : Effect) (p : PathView) (o : Option ℕ) → ((m : ℕ) → (o ≡ Some m) ↔ HasClass s.classes p m)
       → (n : ℕ) → o ≡ Some n → (x : Lock) → (depth p ≤ s.most → x ≡ lock.Path p e)
@@ -132,6 +151,15 @@ module _ (s : SchemeView) where
     -- what is carried back of locks with these numbers
     abbrev pub CarriedOf : List Lock → List ℕ → Lock → Type 0
     CarriedOf keys numbers r = (l : Lock) × HasLock keys numbers l × CarriedBack s t label l r
+
+    -- where each stays, they are carried back to themselves
+    pub all_carried : (keys : List Lock) (numbers : List ℕ)
+        → ((k : Lock) → HasLock keys numbers k → (l : Lock) → CarriedBack s t label k l ↔ (l ≡ k))
+        → (l : Lock) → CarriedOf keys numbers l ↔ HasLock keys numbers l
+    all_carried keys numbers stay l = (
+      λ h. subst (HasLock keys numbers) (sym ((stay h.0 h.1 l).0 h.2)) h.1,
+      λ h. (l, h, (stay l h l).1 refl),
+    )
 
     -- the next number, and all of them
     pub carried_next : (a b c : NumberingView) (ns ms os numbers : List ℕ) (i n : ℕ) → i < length numbers

@@ -9,7 +9,7 @@ ghost use Rattle.sect_names.specs.declared.lock.Lock.TheVariants as lock;
 
 use crate::numbering::Numbering;
 use crate::numbers::Numbers;
-use sect_names::{Effect, Lock, Path, Scheme, stays};
+use sect_names::{Change, Effect, Lock, Path, Scheme, stays};
 use sect_types::Label;
 use std::alloc::{AllocError, Global};
 
@@ -140,8 +140,9 @@ pub fn carry_one(
     }
 }
 
-/// Finds what is needed before a node for the locks that are needed after it, which have these numbers.
-pub fn carry(
+/// Finds what is needed before a node that may change something for the locks that are needed after it, which have these
+/// numbers.
+fn carry_each(
     alloc: Global,
     scheme: &Scheme,
     thread: u16,
@@ -160,4 +161,27 @@ pub fn carry(
         carry_one(alloc, scheme, thread, label, numbering, found, *number)?;
     }
     Ok(())
+}
+
+/// Finds what is needed before a node for the locks that are needed after it, which have these numbers.
+pub fn carry(
+    alloc: Global,
+    scheme: &Scheme,
+    thread: u16,
+    label: &Label,
+    numbering: &mut Numbering,
+    found: &mut Numbers,
+    numbers: &[usize],
+) -> Result<(), AllocError>
+    requires finding { IsFinding scheme.now numbering.old found.old }
+    requires numbers { AreNumbers numbering.old.keys numbers.now }
+    requires lawful { (l : Lock) → HasLock numbering.old.keys numbers.now l → IsLockOf scheme.now thread l }
+    ensures { OnOk result (Finds scheme.now numbering.old found.old numbering.new found.new
+        (λ r. (l : Lock) × HasLock numbering.old.keys numbers.now l × CarriedBack scheme.now thread label.now l r)) }
+{
+    if Change::of(thread, label).leaves_all() {
+        found.insert_all(numbers)
+    } else {
+        carry_each(alloc, scheme, thread, label, numbering, found, numbers)
+    }
 }

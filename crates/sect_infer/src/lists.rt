@@ -89,12 +89,12 @@ fn begin_row(alloc: Global, rows: &mut Vec<Vec<usize>>, front: Front) -> Result<
     Ok(last)
 }
 
-/// The numbers of these rows, each once.
-fn numbers_of(alloc: Global, rows: &[Vec<usize>]) -> Result<Numbers, AllocError>
+/// The numbers of these rows, each once, with room for all below a count.
+fn numbers_of(alloc: Global, rows: &[Vec<usize>], count: usize) -> Result<Numbers, AllocError>
     ensures { IfOk result (λ all. (row n : ℕ)
         → Has (slice_index_or (map (λ v. v.items) rows.now) row []) n → Has all n) }
 {
-    let mut all = Numbers::new(alloc);
+    let mut all = Numbers::with_room(alloc, count, count)?;
     for row in rows {
         all.insert_all(row.as_slice())?;
     }
@@ -129,11 +129,11 @@ impl Lists {
         }
     }
 
-    /// The numbers at all nodes, and maybe others, each once.
-    pub fn numbers(&self, alloc: Global) -> Result<Numbers, AllocError>
+    /// The numbers at all nodes, and maybe others, each once. There is room for all below a count.
+    pub fn numbers(&self, alloc: Global, count: usize) -> Result<Numbers, AllocError>
         ensures { IfOk result (λ all. (node n : ℕ) → Has (slice_index_or self.now node []) n → Has all n) }
     {
-        numbers_of(alloc, self.rows.as_slice())
+        numbers_of(alloc, self.rows.as_slice(), count)
     }
 
     /// Gives a node the numbers of another.

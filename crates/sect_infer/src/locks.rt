@@ -73,8 +73,9 @@ fn order_of(alloc: Global, numbering: &Numbering, lists: &Lists) -> Result<Vec<u
     requires { AreApart numbering.now.keys }
     ensures { IfOk result (λ order. IsOrder numbering.now.keys lists.now order.items) }
 {
-    let listed = lists.numbers(alloc)?;
-    let numbers = all_below(alloc, &listed, numbering.len())?;
+    let count = numbering.len();
+    let listed = lists.numbers(alloc, count)?;
+    let numbers = all_below(alloc, &listed, count)?;
     in_order(alloc, numbering, numbers.as_slice())
 }
 

@@ -96,6 +96,17 @@ impl Numbering {
         }
     }
 
+    /// No locks, with room for so many.
+    pub fn with_room(alloc: Global, count: usize) -> Result<Numbering, AllocError>
+        ensures keys { IfOk result (λ t. t.keys ≡ []) }
+        ensures above { IfOk result (λ t. t.above ≡ []) }
+    {
+        Ok(Numbering {
+            locks: IndexSet::with_capacity(alloc, count)?,
+            above: Vec::with_capacity(alloc, count)?,
+        })
+    }
+
     /// How many locks there are.
     pub fn len(&self) -> usize
         ensures { result ≡ length self.now.keys }

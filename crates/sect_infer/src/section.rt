@@ -19,6 +19,9 @@ use sect_names::{
 };
 use std::alloc::{AllocError, Global};
 
+/// For how many nodes there is room for locks from the first.
+const MOST_NODES_WITH_ROOM: usize = 30;
+
 /// The locks of a section: at each node of its graph, the exit too, the maximal ones of those that are needed from
 /// there on, over all control paths; at its entry the least set that protects all that the section does. A section that
 /// locks everything needs the lock on all at each node, which covers every other. `AllocError` is answered only where a
@@ -70,13 +73,20 @@ fn only_the_programs(scheme: &Scheme, section: u16)
     steps_of_sections();
 }
 
+/// For how many locks there is room from the first: two for each node and four more, as many as short sections mostly
+/// have with those above them. In longer ones most statements name locks again.
+fn room_for(flow: &Flow) -> usize {
+    let nodes = flow.exit() as usize;
+    2 * nodes.min(MOST_NODES_WITH_ROOM) + 4
+}
+
 /// The locks of a graph whose nodes need locks of the program alone: at each node the maximal ones of those that are
 /// derived there.
 fn found(alloc: Global, scheme: &Scheme, thread: u16, flow: &Flow) -> Result<Locks, AllocError>
     requires { AreLawful scheme.now thread flow.now }
     ensures { IfOk result (IsFound scheme.now thread flow.now) }
 {
-    let mut numbering = Numbering::new(alloc);
+    let mut numbering = Numbering::with_room(alloc, room_for(flow))?;
     let mut lists = Lists::new(alloc, flow.exit() as usize + 1)?;
     settle(alloc, scheme, thread, flow, &mut numbering, &mut lists)?;
     Locks::of(alloc, numbering, lists)

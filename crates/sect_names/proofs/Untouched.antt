@@ -11,12 +11,13 @@ use Rattle.sect_points.specs.declared.holders.Variable.{Variable}
 use Rattle.sect_points.specs.declared.holders.Variable.TheVariants.{Global, Local}
 use Rattle.sect_points.specs.{Paths.{PathView, var, dot, base_of, fields_of}, Partitions.{ClassesView}}
 use Rattle.sect_names.specs.{declared.lock.Effect.{Effect}, declared.lock.Lock.{Lock}, Schemes.{SchemeView}}
-use Rattle.sect_names.specs.Locks.{IsPathIn}
+use Rattle.sect_names.specs.{Locks.{IsPathIn, IsLockOf}, Touching.{LeavesOthers}}
 use Rattle.sect_names.specs.Carrying.{Replaced, BeforeStore, BeforeAssignment, Before, LockOn, CarriedBack}
 use Rattle.sect_names.proofs.Replacing.{replaced_other}
 use Rattle.sect_names.proofs.shared.Telling.{field_tells}
 use Rattle.sect_types.specs.declared.expansion.action.Value.TheVariants as value
 use Rattle.sect_names.specs.declared.lock.Lock.TheVariants as lock
+use Rattle.sect_names.specs.declared.touching.Change.TheVariants as change
 
 -- what a test tells doesn't hold where the test is false
 pub tells_off : {P : Type 0} {b : Bool} → IsTrue b ↔ P → IsFalse b → P → ⊥
@@ -67,6 +68,14 @@ untouched_lock s t step p e alone there l = (
   ],
   λ is. (p, (alone p).1 refl, (there.classed.0, there.classed.1, inl (there.short, is))),
 )
+
+-- where nothing changes, each lock does
+pub untouched_any : (s : SchemeView) (t : ℕ) (step : Label) → LeavesOthers t step change.Nothing → (k : Lock)
+    → IsLockOf s t k → (l : Lock) → CarriedBack s t step k l ↔ (l ≡ k)
+untouched_any s t step others lock.All lawful l = (λ h. h, λ h. h)
+untouched_any s t step others (lock.Class c r) lawful l = (λ h. h, λ h. h)
+untouched_any s t step others (lock.Path p e) lawful l =
+    untouched_lock s t step p e (λ q. others p tt s.classes q) lawful l
 
 -- a field is among others
 pub has_field : (fs : List Field) (f : Field) → (list_any (λ g. the_field_eq.eq g f) fs ≡ true) ↔ Has fs f

@@ -72,6 +72,17 @@ impl Change {
         }
     }
 
+    /// Whether nothing may change, so that each lock stays over the node, as `leaves` says of one.
+    pub fn leaves_all(&self) -> bool
+        ensures { IsTrue result → (s : SchemeView) (thread : ℕ) (label : ALabel) → LeavesOthers thread label self.now
+            → (lock : Lock) → IsLockOf s thread lock → (l : Lock) → CarriedBack s thread label lock l ↔ (l ≡ lock) }
+    {
+        match self {
+            Change::Nothing => true,
+            Change::Base(_) | Change::Field(_) => false,
+        }
+    }
+
     /// Whether a path isn't among what may change.
     #[inline(always)]
     fn leaves_path(&self, path: &Path) -> bool

@@ -1,46 +1,20 @@
-use Rattle.std.proofs.{Common.{◌<◌, ◌≤◌, [], length, get_or, arith}, lemmas.List.{get_or_default}}
-use Rattle.sect_lemmas.proofs.Membership.{Has-get_or}
-use Rattle.sect_infer.proofs.shared.Extending.{extends_numbers, extends_back}
-use Rattle.sect_infer.proofs.Carrying.{CarriedOf, finds_none, carried_next, carried_done}
+use Rattle.std.proofs.{Common.{◌↔◌, ◌≡◌}, lemmas.Result.{on_ok_weaker}}
+use Rattle.sect_names.specs.{declared.lock.Lock.{Lock}, Locks.{IsLockOf}, Carrying.{CarriedBack}}
+use Rattle.sect_infer.specs.{Numbers.{with_numbers}, Numberings.{HasLock}}
+use Rattle.sect_infer.proofs.Carrying.{CarriedOf, finds_as, finds_numbers, all_carried}
 use Rattle.sect_infer.proofs.carry.carry.Goals as goal
 
-pub carry_one-requires-clause-number : goal.carry_one-requires-clause-number
-carry_one-requires-clause-number c =
+pub returns-then-leaves_all : goal.returns-then-leaves_all
+returns-then-leaves_all c =
+    let s = c.args.scheme.now in
+    let t = c.args.thread in
+    let label = c.args.label.now in
+    let a = c.args.numbering.now in
+    let found = c.args.found.now in
     let numbers = c.args.numbers.now in
-    let i = c.loop-number.number-index in
-    extends_numbers c.args.numbering.now c.loop-number.numbering c.loop-number.invariant.longer numbers
-    c.requires.numbers
-    (get_or numbers i 0) (Has-get_or numbers i 0 (omega (arith, c.loop-number-test.true)))
-
-pub carry_one-requires-clause-lawful : goal.carry_one-requires-clause-lawful
-carry_one-requires-clause-lawful c = λ l at.
-    let numbers = c.args.numbers.now in
-    let i = c.loop-number.number-index in
-    let there = Has-get_or numbers i 0 (omega (arith, c.loop-number-test.true)) in
-    c.requires.lawful l (extends_back c.args.numbering.now c.loop-number.numbering c.loop-number.invariant.longer
-    numbers
-    c.requires.numbers l (get_or numbers i 0, there, at))
-
-pub loop-number-init : goal.loop-number-init
-loop-number-init c =
-    finds_none c.args.scheme.now c.args.numbering.now c.args.found.now
-    (CarriedOf c.args.scheme.now c.args.thread c.args.label.now c.args.numbering.now.keys []) c.requires.finding
-    (λ r h. h.1.1)
-
-pub loop-number-preserved : goal.loop-number-preserved
-loop-number-preserved c =
-    let numbers = c.args.numbers.now in
-    let i = c.loop-number.number-index in
-    let n = get_or numbers i 0 in
-    let within : i < length numbers = omega (arith, c.loop-number-test.true) in
-    carried_next c.args.scheme.now c.args.thread c.args.label.now c.args.numbering.now c.loop-number.numbering
-    c.carry_one.new.numbering c.args.found.now c.loop-number.found c.carry_one.new.found numbers i n
-    within (get_or_default numbers i 0 n within) c.requires.numbers c.loop-number.invariant c.in_ok-carry_one.ensures
-
-pub returns : goal.returns
-returns c =
-    let numbers = c.args.numbers.now in
-    let past : length numbers ≤ c.loop-number.number-index = omega (arith, c.loop-number-test.false) in
-    carried_done c.args.scheme.now c.args.thread c.args.label.now c.args.numbering.now c.loop-number.numbering
-    c.args.found.now
-    c.loop-number.found numbers c.loop-number.number-index past c.loop-number.invariant
+    let stay : (k : Lock) → IsLockOf s t k → (l : Lock) → CarriedBack s t label k l ↔ (l ≡ k) =
+    c.leaves_all.ensures c.if-leaves_all.true s t label c.of.ensures in
+    on_ok_weaker c.insert_all.result (λ is. rw is (finds_as s a a found (with_numbers found numbers)
+    (HasLock a.keys numbers) (CarriedOf s t label a.keys numbers)
+    (all_carried s t label a.keys numbers (λ k h. stay k (c.requires.lawful k h)))
+    (finds_numbers s a found numbers c.requires.finding c.requires.numbers))) c.insert_all.ensures

@@ -1,5 +1,4 @@
-use Rattle.std.proofs.Common.{◌∙◌, [], ◌∷◌, ◌++◌, ap, sym, append_assoc}
-use Rattle.std.proofs.lemmas.List.{append-nil}
+use Rattle.std.proofs.{Common.{◌∙◌, [], ◌∷◌, ◌++◌, ap, sym, append_assoc}, lemmas.List.{append-nil}}
 use Rattle.sect_infer.specs.steps.Putting.{AreOn}
 use Rattle.sect_infer.proofs.Carrying.{finds_none, finds_on_more}
 use Rattle.sect_infer.proofs.carry.find_all_on.Goals as goal

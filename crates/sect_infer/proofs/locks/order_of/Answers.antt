@@ -12,7 +12,7 @@ returns c =
     let given = c.in_ok-listed.listed in
     let numbers = c.in_ok-numbers.numbers.items in
     let below : (n : ℕ) → Has numbers n ↔ ((n < length keys) × Has given n) =
-    λ n. subst (λ k. Has numbers n ↔ ((n < k) × Has given n)) c.len.ensures (c.in_ok-numbers.ensures.all n) in
+    λ n. subst (λ k. Has numbers n ↔ ((n < k) × Has given n)) c.len-count.ensures (c.in_ok-numbers.ensures.all n) in
     IfOk-weaker c.in_order.result (λ order. IsOrderOf keys c.as_slice.result.now order.items)
     (λ order. IsOrder keys lists order.items)
     (λ order of. order_of_all keys lists given numbers order.items c.in_ok-listed.ensures below

@@ -1,5 +1,3 @@
-use Rattle.sect_infer.proofs.Extending.{numbered_there, all_other, above_placed}
-use Rattle.sect_names.proofs.shared.Climbing.{all_coverers}
 use Rattle.sect_infer.proofs.numbering.Numbering.number_in.Goals as goal
 
 pub returns-in-Class : goal.returns-in-Class

@@ -1,7 +1,7 @@
 use Rattle.std.proofs.Common.{take}
 use Rattle.sect_infer.specs.Numberings.{Finds}
 use Rattle.sect_infer.proofs.Carrying.{CarriedOf}
-use Rattle.sect_infer.proofs.carry.carry.Given as goal
+use Rattle.sect_infer.proofs.carry.carry_each.Given as goal
 
 abbrev pub invariant-loop-number : goal.invariant-loop-number
 invariant-loop-number l = Finds l.scheme l.fn.numbering l.fn.found l.numbering l.found

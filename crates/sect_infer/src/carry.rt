@@ -2,14 +2,14 @@
 
 ghost use Rattle.std.specs.Prelude.{◌≡◌, ◌<◌, ◌≤◌, length, slice_get, Some, OnOk};
 ghost use Rattle.sect_names.specs.{declared.lock.Lock.{Lock}, Locks.{IsLockOf, depth}};
-ghost use Rattle.sect_names.specs.Carrying.{CarriedBack, LockOn, right_for};
+ghost use Rattle.sect_names.specs.{Carrying.{CarriedBack, LockOn, right_for}, Touching.{LeavesOthers}};
 ghost use Rattle.sect_infer.specs.Numberings.{HasLock, AreNumbers, IsFinding, Finds};
 ghost use Rattle.sect_infer.specs.steps.Putting.{AreOn};
 ghost use Rattle.sect_names.specs.declared.lock.Lock.TheVariants as lock;
 
 use crate::numbering::Numbering;
 use crate::numbers::Numbers;
-use sect_names::{Change, Effect, Lock, Path, Scheme, stays};
+use sect_names::{Change, Effect, Lock, Path, Scheme};
 use sect_types::Label;
 use std::alloc::{AllocError, Global};
 
@@ -114,6 +114,34 @@ fn carry_over(
     }
 }
 
+/// Finds what is needed before a node that may change this for one lock that is needed after it, which has this number.
+#[inline(always)]
+fn carry_by(
+    alloc: Global,
+    scheme: &Scheme,
+    thread: u16,
+    label: &Label,
+    change: &Change,
+    numbering: &mut Numbering,
+    found: &mut Numbers,
+    number: usize,
+) -> Result<(), AllocError>
+    requires finding { IsFinding scheme.now numbering.old found.old }
+    requires number { number < length numbering.old.keys }
+    requires lawful { (l : Lock) → slice_get numbering.old.keys number ≡ Some l → IsLockOf scheme.now thread l }
+    requires others { LeavesOthers thread label.now change.now }
+    ensures { OnOk result ((l : Lock) → slice_get numbering.old.keys number ≡ Some l
+        → Finds scheme.now numbering.old found.old numbering.new found.new
+        (CarriedBack scheme.now thread label.now l)) }
+{
+    if change.leaves(numbering.lock(number)) {
+        found.insert(number)?;
+        Ok(())
+    } else {
+        carry_over(alloc, scheme, thread, label, numbering, found, number)
+    }
+}
+
 /// Finds what is needed before a node for one lock that is needed after it, which has this number.
 #[inline(always)]
 pub fn carry_one(
@@ -132,21 +160,20 @@ pub fn carry_one(
         → Finds scheme.now numbering.old found.old numbering.new found.new
         (CarriedBack scheme.now thread label.now l)) }
 {
-    if stays(thread, label, numbering.lock(number)) {
-        found.insert(number)?;
-        Ok(())
-    } else {
-        carry_over(alloc, scheme, thread, label, numbering, found, number)
-    }
+    let change = Change::of(thread, label);
+    carry_by(
+        alloc, scheme, thread, label, &change, numbering, found, number,
+    )
 }
 
-/// Finds what is needed before a node that may change something for the locks that are needed after it, which have these
+/// Finds what is needed before a node that may change this for the locks that are needed after it, which have these
 /// numbers.
 fn carry_each(
     alloc: Global,
     scheme: &Scheme,
     thread: u16,
     label: &Label,
+    change: &Change,
     numbering: &mut Numbering,
     found: &mut Numbers,
     numbers: &[usize],
@@ -154,11 +181,14 @@ fn carry_each(
     requires finding { IsFinding scheme.now numbering.old found.old }
     requires numbers { AreNumbers numbering.old.keys numbers.now }
     requires lawful { (l : Lock) → HasLock numbering.old.keys numbers.now l → IsLockOf scheme.now thread l }
+    requires others { LeavesOthers thread label.now change.now }
     ensures { OnOk result (Finds scheme.now numbering.old found.old numbering.new found.new
         (λ r. (l : Lock) × HasLock numbering.old.keys numbers.now l × CarriedBack scheme.now thread label.now l r)) }
 {
     for number in numbers {
-        carry_one(alloc, scheme, thread, label, numbering, found, *number)?;
+        carry_by(
+            alloc, scheme, thread, label, change, numbering, found, *number,
+        )?;
     }
     Ok(())
 }
@@ -179,9 +209,12 @@ pub fn carry(
     ensures { OnOk result (Finds scheme.now numbering.old found.old numbering.new found.new
         (λ r. (l : Lock) × HasLock numbering.old.keys numbers.now l × CarriedBack scheme.now thread label.now l r)) }
 {
-    if Change::of(thread, label).leaves_all() {
+    let change = Change::of(thread, label);
+    if change.leaves_all() {
         found.insert_all(numbers)
     } else {
-        carry_each(alloc, scheme, thread, label, numbering, found, numbers)
+        carry_each(
+            alloc, scheme, thread, label, &change, numbering, found, numbers,
+        )
     }
 }

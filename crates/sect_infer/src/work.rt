@@ -144,9 +144,6 @@ fn all_stay(thread: u16, label: &Label, numbering: &Numbering, numbers: &[usize]
     ensures { IsTrue result → AllStay thread label.now (HasLock numbering.now.keys numbers.now) }
 {
     let change = Change::of(thread, label);
-    if change.leaves_all() {
-        return true;
-    }
     for number in numbers {
         if !change.leaves(numbering.lock(*number)) {
             return false;

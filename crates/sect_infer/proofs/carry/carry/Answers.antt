@@ -13,7 +13,7 @@ returns-then-leaves_all c =
     let found = c.args.found.now in
     let numbers = c.args.numbers.now in
     let stay : (k : Lock) → IsLockOf s t k → (l : Lock) → CarriedBack s t label k l ↔ (l ≡ k) =
-    c.leaves_all.ensures c.if-leaves_all.true s t label c.of.ensures in
+    c.leaves_all.ensures c.if-leaves_all.true s t label c.of-change.ensures in
     on_ok_weaker c.insert_all.result (λ is. rw is (finds_as s a a found (with_numbers found numbers)
     (HasLock a.keys numbers) (CarriedOf s t label a.keys numbers)
     (all_carried s t label a.keys numbers (λ k h. stay k (c.requires.lawful k h)))

@@ -4,16 +4,16 @@ use Rattle.sect_infer.proofs.shared.Extending.{extends_numbers, extends_back}
 use Rattle.sect_infer.proofs.Carrying.{CarriedOf, finds_none, carried_next, carried_done}
 use Rattle.sect_infer.proofs.carry.carry_each.Goals as goal
 
-pub carry_one-requires-clause-number : goal.carry_one-requires-clause-number
-carry_one-requires-clause-number c =
+pub carry_by-requires-clause-number : goal.carry_by-requires-clause-number
+carry_by-requires-clause-number c =
     let numbers = c.args.numbers.now in
     let i = c.loop-number.number-index in
     extends_numbers c.args.numbering.now c.loop-number.numbering c.loop-number.invariant.longer numbers
     c.requires.numbers
     (get_or numbers i 0) (Has-get_or numbers i 0 (omega (arith, c.loop-number-test.true)))
 
-pub carry_one-requires-clause-lawful : goal.carry_one-requires-clause-lawful
-carry_one-requires-clause-lawful c = λ l at.
+pub carry_by-requires-clause-lawful : goal.carry_by-requires-clause-lawful
+carry_by-requires-clause-lawful c = λ l at.
     let numbers = c.args.numbers.now in
     let i = c.loop-number.number-index in
     let there = Has-get_or numbers i 0 (omega (arith, c.loop-number-test.true)) in
@@ -34,8 +34,8 @@ loop-number-preserved c =
     let n = get_or numbers i 0 in
     let within : i < length numbers = omega (arith, c.loop-number-test.true) in
     carried_next c.args.scheme.now c.args.thread c.args.label.now c.args.numbering.now c.loop-number.numbering
-    c.carry_one.new.numbering c.args.found.now c.loop-number.found c.carry_one.new.found numbers i n
-    within (get_or_default numbers i 0 n within) c.requires.numbers c.loop-number.invariant c.in_ok-carry_one.ensures
+    c.carry_by.new.numbering c.args.found.now c.loop-number.found c.carry_by.new.found numbers i n
+    within (get_or_default numbers i 0 n within) c.requires.numbers c.loop-number.invariant c.in_ok-carry_by.ensures
 
 pub returns : goal.returns
 returns c =

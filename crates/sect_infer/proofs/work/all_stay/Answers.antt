@@ -24,7 +24,3 @@ loop-number-preserved c = λ l h s of r.
           → CarriedBack s c.args.thread c.args.label.now x r ↔ (r ≡ x)) same
           (λ o. c.leaves.ensures c.if-not-leaves.false s c.args.thread c.args.label.now c.of-change.ensures o r) of
     ]
-
-pub returns-then-leaves_all : goal.returns-then-leaves_all
-returns-then-leaves_all c = λ on l h s of r.
-    c.leaves_all.ensures c.if-leaves_all.true s c.args.thread c.args.label.now c.of-change.ensures l of r

@@ -3,7 +3,7 @@ use Rattle.sect_lemmas.proofs.Places.{one_at}
 use Rattle.sect_names.specs.{declared.lock.Lock.{Lock}, Locks.{IsLockOf}, Carrying.{CarriedBack}}
 use Rattle.sect_infer.specs.Numbers.{with_number}
 use Rattle.sect_infer.proofs.{Extending.{numbered_there}, Carrying.{finds_one, finds_as}}
-use Rattle.sect_infer.proofs.carry.carry_one.Goals as goal
+use Rattle.sect_infer.proofs.carry.carry_by.Goals as goal
 
 pub returns-in_ok-insert : goal.returns-in_ok-insert
 returns-in_ok-insert c = λ l at.
@@ -15,7 +15,8 @@ returns-in_ok-insert c = λ l at.
     let same : c.lock.result.now ≡ l = one_at a.keys n c.lock.result.now l c.lock.ensures at in
     let stay : (r : Lock) → CarriedBack s t label l r ↔ (r ≡ l) =
     subst (λ k. (r : Lock) → CarriedBack s t label k r ↔ (r ≡ k)) same
-    (c.stays.ensures c.if-stays.true s (subst (IsLockOf s t) (sym same) (c.requires.lawful l at))) in
+    (c.leaves.ensures c.if-leaves.true s t label c.requires.others (subst (IsLockOf s t) (sym same)
+    (c.requires.lawful l at))) in
     rw c.in_ok-insert.ensures (finds_as s a a c.args.found.now (with_number c.args.found.now n) (λ r. r ≡ l)
     (CarriedBack s t label l) stay
     (finds_one s a a c.args.found.now l n c.requires.finding (numbered_there s a l n c.requires.finding.numbering at)))

@@ -11,6 +11,7 @@ use crate::fault::LineFault;
 use crate::known_paths::KnownPaths;
 use crate::numbers::number;
 use crate::parts::Parts;
+use crate::same::is_same_word;
 use crate::subject::{CertMode, class_lock, is_same_mode, mode_of, subject};
 
 /// What the next word of a chain is to be.
@@ -47,7 +48,7 @@ fn are_same(one: LockWords<'_>, other: LockWords<'_>) -> bool
     ensures mode { IsTrue result → one.entry.mode ≡ other.entry.mode }
     ensures word { IsTrue result → one.entry.word.now ≡ other.entry.word.now }
 {
-    is_same_mode(one.mode, other.mode) && one.word == other.word
+    is_same_mode(one.mode, other.mode) && is_same_word(one.word, other.word)
 }
 
 /// Adds a step at a node with a lock that isn't read again where it is the last step's.
@@ -98,7 +99,7 @@ fn walk_word<'a>(
             Ok(Walk { spot, last })
         }
         ChainWord::Subject(node, mode) => {
-            if word == b"class".as_slice() {
+            if is_same_word(word, b"class") {
                 let spot = ChainWord::Class(node, mode);
                 return Ok(Walk { spot, last });
             }
@@ -116,7 +117,7 @@ fn walk_word<'a>(
             let last = None;
             Ok(Walk { spot, last })
         }
-        ChainWord::Whole if word == b">".as_slice() => {
+        ChainWord::Whole if is_same_word(word, b">") => {
             let spot = ChainWord::Node;
             Ok(Walk { spot, last })
         }

@@ -25,6 +25,7 @@ mod numbers;
 mod parts;
 mod reading;
 mod runs;
+mod same;
 mod shared_path;
 mod stage;
 mod subject;

@@ -9,6 +9,7 @@ use crate::known_paths::KnownPaths;
 use crate::lock::CertLock;
 use crate::numbers::{ends_with, number, without_end};
 use crate::parts::Parts;
+use crate::same::is_same_word;
 use crate::subject::{CertMode, class_lock, mode_of, subject};
 use sect_front::Items;
 
@@ -48,7 +49,7 @@ fn take_word(
     match place {
         ListWord::Mode => Ok(ListWord::Subject(mode_of(word).ok_or(LineFault::Bad)?)),
         ListWord::Subject(mode) => {
-            if word == b"class".as_slice() {
+            if is_same_word(word, b"class") {
                 return Ok(ListWord::Class(mode));
             }
             locks.push(subject(paths, mode, without_end(word, b','))?)?;

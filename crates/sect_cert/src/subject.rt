@@ -11,6 +11,7 @@ use crate::known_paths::KnownPaths;
 use crate::lock::{CertBase, CertLock, CertPath};
 use crate::numbers::number;
 use crate::parts::Parts;
+use crate::same::is_same_word;
 use crate::shared_path::SharedPath;
 use sect_front::{Items, Name, is_name};
 use std::alloc::Global;
@@ -41,11 +42,11 @@ pub fn is_same_mode(one: CertMode, other: CertMode) -> bool
 pub fn mode_of(word: &[u8]) -> Option<CertMode>
     ensures { result ≡ mode_in word.now }
 {
-    if word == b"R".as_slice() {
+    if is_same_word(word, b"R") {
         Some(CertMode::Read)
-    } else if word == b"W".as_slice() {
+    } else if is_same_word(word, b"W") {
         Some(CertMode::Write)
-    } else if word == b"M".as_slice() {
+    } else if is_same_word(word, b"M") {
         Some(CertMode::Make)
     } else {
         None
@@ -135,7 +136,7 @@ fn all_lock(mode: CertMode) -> Option<CertLock>
 pub fn subject(paths: &mut KnownPaths, mode: CertMode, word: &[u8]) -> Result<CertLock, LineFault>
     ensures { ReadsAs result (subject_of mode word.now) }
 {
-    if word == b"all".as_slice() {
+    if is_same_word(word, b"all") {
         return all_lock(mode).ok_or(LineFault::Bad);
     }
     let path = paths.path(word)?;

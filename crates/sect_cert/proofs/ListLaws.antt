@@ -5,7 +5,8 @@ use Rattle.std.specs.{Prelude.{codes}, Fmt.{decimal}, List.{AllByRecursion}}
 use Rattle.sect_front.specs.Words.{is_digit}
 use Rattle.sect_cert.specs.steps.{Numbers.{ends_with, without_end}, Subjects.{path_lock, class_lock, subject_of}}
 use Rattle.sect_cert.specs.steps.Lists.{place_behind, list_state, step_of, after, whole_of, locks_of, list_of}
-use Rattle.sect_cert.specs.{Spelling.{path_text, lock_words, some_words, list_words}, Texts.{IsPath, IsLock, IsNumber}}
+use Rattle.sect_cert.specs.{Paths.{path_text}, Spelling.{lock_words, some_words, list_words}}
+use Rattle.sect_cert.specs.Texts.{IsPath, IsLock, IsNumber}
 use Rattle.sect_cert.specs.{declared.subject.CertMode.{CertMode}, declared.lock.CertLock.{CertLock}}
 use Rattle.sect_cert.specs.declared.lock.CertPath.{CertPath}
 use Rattle.sect_cert.proofs.{PartsLaws.{lacks, bytes_lack, ends_end, without_end_end, lacks_end}, PathLaws.{path_lacks}}

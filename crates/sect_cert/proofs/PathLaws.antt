@@ -5,7 +5,7 @@ use Rattle.std.proofs.lemmas.List.Splits.{join_with_byte-slice_split}
 use Rattle.std.specs.{Prelude.{◌==◌}, Option.{option_map}, Fmt.{decimal}}
 use Rattle.std.specs.List.{join_with_byte, list_all, AllByRecursion}
 use Rattle.sect_front.specs.Words.{is_name_byte, is_name}
-use Rattle.sect_cert.specs.{Parts.{parts}, Zeros.{is_exact}, Spelling.{base_text, path_parts, path_text}}
+use Rattle.sect_cert.specs.{Parts.{parts}, Zeros.{is_exact}, Paths.{base_text, path_parts, path_text}}
 use Rattle.sect_cert.specs.{Texts.{IsBase, IsPath}, declared.lock.CertBase.{CertBase}}
 use Rattle.sect_cert.specs.declared.lock.CertPath.{CertPath}
 use Rattle.sect_cert.specs.steps.{Numbers.{number_of}, Certificates.{path_with}}

@@ -5,7 +5,7 @@ use Rattle.std.specs.{Prelude.{codes, ⊤}, Option.{option_map}, Fmt.{decimal}, 
 use Rattle.sect_cert.specs.steps.{Numbers.{number_of}, Subjects.{mode_of, path_lock, class_lock, subject_of}}
 use Rattle.sect_cert.specs.steps.Chains.{ChainState, chain_state, walk_of, walk_on, steps_in, steps_when, steps_of}
 use Rattle.sect_cert.specs.steps.Certificates.{step_with}
-use Rattle.sect_cert.specs.Spelling.{path_text, lock_words, step_words, steps_words, chain_words}
+use Rattle.sect_cert.specs.{Paths.{path_text}, Spelling.{lock_words, step_words, steps_words, chain_words}}
 use Rattle.sect_cert.specs.{Texts.{IsLock, IsStep, IsNumber, IsPath}, declared.subject.CertMode.{CertMode}}
 use Rattle.sect_cert.specs.{declared.chain.ChainWord.{ChainWord}, declared.lock.CertLock.{CertLock}}
 use Rattle.sect_cert.specs.{declared.certificate.CertStep.{CertStep}, declared.lock.CertPath.{CertPath}}

@@ -4,7 +4,7 @@ use Rattle.std.proofs.Common.{option_and_then, IfSome, refl, sym, ◌∙◌, ap}
 use Rattle.std.specs.{Prelude.{codes}, Option.{option_map}, Str.{bytes_eq}, Fmt.{decimal}}
 use Rattle.sect_cert.specs.steps.Numbers.{number_of}
 use Rattle.sect_cert.specs.steps.Subjects.{mode_of, path_of, path_lock, class_lock, all_lock, subject_of}
-use Rattle.sect_cert.specs.{Spelling.{path_text, lock_words}, Texts.{IsPath, IsLock, IsNumber}}
+use Rattle.sect_cert.specs.{Paths.{path_text}, Spelling.{lock_words}, Texts.{IsPath, IsLock, IsNumber}}
 use Rattle.sect_cert.specs.{declared.lock.CertPath.{CertPath}, declared.lock.CertLock.{CertLock}}
 use Rattle.sect_cert.specs.declared.subject.CertMode.{CertMode}
 use Rattle.sect_cert.proofs.{CutTexts.{same_bytes}, PathLaws.{path_again, path_takes}, NumberLaws.{decimal_number}}

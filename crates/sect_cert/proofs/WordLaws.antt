@@ -2,7 +2,8 @@
 use Rattle.std.proofs.Common.{◌≡◌, ◌≢◌, ℕ, true, false, List, [], ◌∷◌, ◌++◌, refl, ◌∙◌, ap, append-nil, subst}
 use Rattle.std.specs.{Prelude.{codes}, Fmt.{decimal}, List.{AllByRecursion, join_with_byte}}
 use Rattle.sect_cert.specs.Parts.{parts}
-use Rattle.sect_cert.specs.Spelling.{path_text, lock_words, some_words, list_words, steps_words, chain_words}
+use Rattle.sect_cert.specs.{Paths.{path_text}, Spelling.{lock_words, some_words, list_words, steps_words}}
+use Rattle.sect_cert.specs.Spelling.{chain_words}
 use Rattle.sect_cert.specs.{Texts.{IsPath, IsLock, IsNumber, IsLine, IsStep}, Lines.{line_words, line_text}}
 use Rattle.sect_cert.specs.{declared.lock.CertLock.{CertLock}, declared.certificate.CertStep.{CertStep}}
 use Rattle.sect_cert.specs.{declared.line.CertLine.{CertLine}, Zeros.{is_exact}, declared.lock.CertPath.{CertPath}}

@@ -1,5 +1,6 @@
 pub mod Parts
 pub mod Zeros
+pub mod Paths
 pub mod Spelling
 pub mod Lines
 pub mod Forms

@@ -1,21 +1,8 @@
 -- The words that spell locks, lists of them, and chains. Cited by `read_cert` and `write_cert`, through a text.
-use Rattle.std.specs.{Prelude.{ℕ, List, [], ◌∷◌, ◌++◌, codes}, Fmt.{decimal}, List.{join_with_byte}}
-use Rattle.sect_cert.specs.{declared.lock.CertBase.{CertBase}, declared.lock.CertPath.{CertPath}}
-use Rattle.sect_cert.specs.{declared.lock.CertLock.{CertLock}, declared.certificate.CertStep.{CertStep}}
-use Rattle.sect_cert.specs.declared.lock.CertBase.TheVariants as base
+use Rattle.std.specs.{Prelude.{List, [], ◌∷◌, ◌++◌, codes, ℕ}, Fmt.{decimal}}
+use Rattle.sect_cert.specs.{Paths.{path_text}, declared.lock.CertLock.{CertLock}}
+use Rattle.sect_cert.specs.declared.certificate.CertStep.{CertStep}
 use Rattle.sect_cert.specs.declared.lock.CertLock.TheVariants as lock
-
--- a base: its name, and behind `#` the number of a call
-abbrev pub base_text : CertBase → List ℕ
-base_text (base.Name name) = name
-base_text (base.InCall name call) = name ++ 35 ∷ decimal call
-
--- a path: its base and its fields, joined by points
-abbrev pub path_parts : CertPath → List (List ℕ)
-path_parts p = base_text p.base ∷ p.fields
-
-abbrev pub path_text : CertPath → List ℕ
-path_text p = join_with_byte 46 (path_parts p)
 
 -- the words of a lock with what ends the last of them, before the words that follow
 abbrev pub lock_words : CertLock → List ℕ → List (List ℕ) → List (List ℕ)

@@ -27,6 +27,7 @@ mod reading;
 mod runs;
 mod same;
 mod shared_path;
+mod spelled_path;
 mod stage;
 mod subject;
 mod writing;

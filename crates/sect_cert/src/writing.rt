@@ -3,7 +3,7 @@
 ghost use Rattle.std.specs.Prelude.{◌≡◌, ◌++◌, ◌+◌, ◌<◌, ◌∷◌, [], List, Result, OnOk, IfOk, length, codes};
 ghost use Rattle.std.specs.{Fmt.{decimal}, List.{flat_map}};
 ghost use Rattle.sect_cert.specs.declared.lock.CertLock.{CertLock};
-ghost use Rattle.sect_cert.specs.Spelling.{base_text, path_text, list_words, chain_words};
+ghost use Rattle.sect_cert.specs.{Paths.{base_text, path_text}, Spelling.{list_words, chain_words}};
 ghost use Rattle.sect_cert.specs.{Texts.{HasText, header_text, certificate_text}, Verdicts.{Judges, Gives}};
 ghost use Rattle.sect_cert.specs.steps.Writes.{IsListBefore, IsLockBefore, arrow_before, spaced, field_text, lock_text};
 ghost use Rattle.sect_cert.specs.steps.Writes.{next_lock, fed_line, chain_text, nodes_text, section_text};
@@ -77,7 +77,7 @@ fn put_field(out: &mut Vec<u8>, field: &Name) -> Result<(), AllocError>
 }
 
 /// Writes a path behind a blank.
-fn put_path(out: &mut Vec<u8>, path: &CertPath) -> Result<(), AllocError>
+pub fn put_path(out: &mut Vec<u8>, path: &CertPath) -> Result<(), AllocError>
     ensures { OnOk result (out.new.items ≡ out.old.items ++ 32 ∷ path_text path.now) }
 {
     put_base(out, &path.base)?;
@@ -92,7 +92,7 @@ fn put_path_lock(out: &mut Vec<u8>, mode: u8, path: &SharedPath) -> Result<(), A
     ensures { OnOk result (out.new.items ≡ out.old.items ++ spaced ((mode ∷ []) ∷ path_text path.now ∷ [])) }
 {
     put_letter(out, mode)?;
-    put_path(out, path.path())
+    out.extend_from_slice(path.text())
 }
 
 /// Writes the words of a lock of a class, each behind a blank.

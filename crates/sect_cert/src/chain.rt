@@ -11,8 +11,8 @@ use crate::fault::LineFault;
 use crate::known_paths::KnownPaths;
 use crate::numbers::number;
 use crate::parts::Parts;
-use crate::same::is_same_word;
 use crate::subject::{CertMode, class_lock, is_same_mode, mode_of, subject};
+use sect_front::is_same_word;
 
 /// What the next word of a chain is to be.
 #[derive(Clone, Copy)]

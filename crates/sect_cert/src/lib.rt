@@ -25,7 +25,6 @@ mod numbers;
 mod parts;
 mod reading;
 mod runs;
-mod same;
 mod shared_path;
 mod spelled_path;
 mod stage;

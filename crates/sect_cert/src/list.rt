@@ -9,9 +9,8 @@ use crate::known_paths::KnownPaths;
 use crate::lock::CertLock;
 use crate::numbers::{ends_with, number, without_end};
 use crate::parts::Parts;
-use crate::same::is_same_word;
 use crate::subject::{CertMode, class_lock, mode_of, subject};
-use sect_front::Items;
+use sect_front::{Items, is_same_word};
 
 /// What the next word of a list is to be.
 #[derive(Clone, Copy)]

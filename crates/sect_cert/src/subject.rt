@@ -11,9 +11,8 @@ use crate::known_paths::KnownPaths;
 use crate::lock::{CertBase, CertLock, CertPath};
 use crate::numbers::number;
 use crate::parts::Parts;
-use crate::same::is_same_word;
 use crate::shared_path::SharedPath;
-use sect_front::{Items, Name, is_name};
+use sect_front::{Items, Name, is_name, is_same_word};
 use std::alloc::Global;
 
 /// What a lock allows.

@@ -41,4 +41,4 @@ pub use tree::{
     Block, Comparison, Declaration, Declarations, GlobalObject, Kind, Locking, Operand, Operator,
     Primitive, Procedure, Record, Statement, Test, Thread, Tree,
 };
-pub use words::{is_name, spells_name};
+pub use words::{is_name, is_same_word, spells_name};

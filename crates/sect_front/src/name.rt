@@ -70,24 +70,6 @@ impl Name {
     }
 }
 
-/// Whether two words have the same bytes. They are short, so this is quicker than a comparison of slices.
-pub(crate) fn are_same(one: &[u8], other: &[u8]) -> bool
-    ensures { result ≡ pointwise nat_eq one.now other.now }
-{
-    let mut left = one;
-    let mut right = other;
-    while let Some((first, behind)) = left.split_first() {
-        match right.split_first() {
-            Some((second, beyond)) if *first == *second => {
-                left = behind;
-                right = beyond;
-            }
-            _ => return false,
-        }
-    }
-    right.is_empty()
-}
-
 /// Whether the bytes of two names and the zeros behind them are the same. None is tested by itself, so that a processor
 /// compares many at a time.
 fn are_equal(one: &[u8; MOST_NAME_BYTES], other: &[u8; MOST_NAME_BYTES]) -> bool

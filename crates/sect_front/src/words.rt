@@ -7,7 +7,6 @@ ghost use Rattle.sect_front.specs.{Spelling.{IsSpelling}, declared.token.Token.{
 ghost use Rattle.sect_front.specs.steps.Recognition.{keyword_of, keywords_of, token_beside};
 
 use crate::limits::MOST_NAME_BYTES;
-use crate::name::are_same;
 use crate::token::Token;
 
 /// Whether a name may begin with this byte: a letter or `_`.
@@ -38,18 +37,29 @@ pub fn word_length(bytes: &[u8]) -> usize
     bytes.iter().take_while(|byte| is_name_byte(**byte)).count()
 }
 
-/// Whether these bytes are this text.
-fn is_text(bytes: &[u8], text: &[u8]) -> bool
-    ensures { result ≡ bytes_eq bytes.now text.now }
+/// Whether two words have the same bytes. They are short, so this is quicker than a comparison of slices.
+pub fn is_same_word(one: &[u8], other: &[u8]) -> bool
+    ensures { result ≡ bytes_eq one.now other.now }
 {
-    are_same(bytes, text)
+    let mut left = one;
+    let mut right = other;
+    while let Some((first, behind)) = left.split_first() {
+        match right.split_first() {
+            Some((second, beyond)) if *first == *second => {
+                left = behind;
+                right = beyond;
+            }
+            _ => return false,
+        }
+    }
+    right.is_empty()
 }
 
 /// The keyword of two bytes that these are.
 fn two_bytes(word: &[u8]) -> Option<Token>
     ensures { result ≡ token_beside word.now (keywords_of 2) }
 {
-    if is_text(word, b"if") {
+    if is_same_word(word, b"if") {
         Some(Token::If)
     } else {
         None
@@ -60,11 +70,11 @@ fn two_bytes(word: &[u8]) -> Option<Token>
 fn three_bytes(word: &[u8]) -> Option<Token>
     ensures { result ≡ token_beside word.now (keywords_of 3) }
 {
-    if is_text(word, b"int") {
+    if is_same_word(word, b"int") {
         Some(Token::Int)
-    } else if is_text(word, b"new") {
+    } else if is_same_word(word, b"new") {
         Some(Token::New)
-    } else if is_text(word, b"all") {
+    } else if is_same_word(word, b"all") {
         Some(Token::All)
     } else {
         None
@@ -75,13 +85,13 @@ fn three_bytes(word: &[u8]) -> Option<Token>
 fn four_bytes(word: &[u8]) -> Option<Token>
     ensures { result ≡ token_beside word.now (keywords_of 4) }
 {
-    if is_text(word, b"proc") {
+    if is_same_word(word, b"proc") {
         Some(Token::Proc)
-    } else if is_text(word, b"null") {
+    } else if is_same_word(word, b"null") {
         Some(Token::Null)
-    } else if is_text(word, b"else") {
+    } else if is_same_word(word, b"else") {
         Some(Token::Else)
-    } else if is_text(word, b"call") {
+    } else if is_same_word(word, b"call") {
         Some(Token::Call)
     } else {
         None
@@ -92,11 +102,11 @@ fn four_bytes(word: &[u8]) -> Option<Token>
 fn five_bytes(word: &[u8]) -> Option<Token>
     ensures { result ≡ token_beside word.now (keywords_of 5) }
 {
-    if is_text(word, b"print") {
+    if is_same_word(word, b"print") {
         Some(Token::Print)
-    } else if is_text(word, b"while") {
+    } else if is_same_word(word, b"while") {
         Some(Token::While)
-    } else if is_text(word, b"class") {
+    } else if is_same_word(word, b"class") {
         Some(Token::Class)
     } else {
         None
@@ -107,13 +117,13 @@ fn five_bytes(word: &[u8]) -> Option<Token>
 fn six_bytes(word: &[u8]) -> Option<Token>
     ensures { result ≡ token_beside word.now (keywords_of 6) }
 {
-    if is_text(word, b"record") {
+    if is_same_word(word, b"record") {
         Some(Token::Record)
-    } else if is_text(word, b"global") {
+    } else if is_same_word(word, b"global") {
         Some(Token::Global)
-    } else if is_text(word, b"thread") {
+    } else if is_same_word(word, b"thread") {
         Some(Token::Thread)
-    } else if is_text(word, b"atomic") {
+    } else if is_same_word(word, b"atomic") {
         Some(Token::Atomic)
     } else {
         None
@@ -126,7 +136,7 @@ fn many_bytes(word: &[u8]) -> Option<Token>
     requires { 6 < length word.now }
     ensures { result ≡ keyword_of word.now }
 {
-    if is_text(word, b"protected_by") {
+    if is_same_word(word, b"protected_by") {
         Some(Token::ProtectedBy)
     } else {
         None

@@ -177,7 +177,7 @@ fn second_field_site(classes: &Classes, bases: &SiteSet, first: u16, second: u16
     let filled = classes.filled_in(first);
     let mut from = 0;
     while let Some(base) = bases.next_common(&filled, from) {
-        let found = field_site(classes, &points.slot(base, first), second);
+        let found = field_site(classes, points.slot(base, first), second);
         if found.is_some() {
             return found;
         }

@@ -39,12 +39,15 @@ impl Model for Lists {
     ghost invariant = { λ l. AreFronts (map (λ v. v.items) l.rows.items) l.fronts.items };
 }
 
-/// One row without numbers.
-fn empty_row(alloc: Global) -> Result<Vec<Vec<usize>>, AllocError>
+/// For how many numbers the first row has room from the first, at most.
+const MOST_ROOM: usize = 32;
+
+/// One row without numbers, with room for so many.
+fn empty_row(alloc: Global, room: usize) -> Result<Vec<Vec<usize>>, AllocError>
     ensures { IfOk result (λ rows. rows_of rows ≡ [] ∷ []) }
 {
-    let mut rows = Vec::new(alloc);
-    rows.push(Vec::new(alloc))?;
+    let mut rows = Vec::with_capacity(alloc, 1)?;
+    rows.push(Vec::with_capacity(alloc, room)?)?;
     Ok(rows)
 }
 
@@ -107,7 +110,7 @@ impl Lists {
         ensures count { IfOk result (λ l. length l ≡ count) }
         ensures none { IfOk result (λ l. (j : ℕ) → slice_index_or l j [] ≡ []) }
     {
-        let rows = empty_row(alloc)?;
+        let rows = empty_row(alloc, count.min(MOST_ROOM))?;
         let fronts = empty_fronts(alloc, count)?;
         Ok(Lists { rows, fronts })
     }

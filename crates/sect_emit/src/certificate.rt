@@ -80,9 +80,11 @@ fn section_of(
     let chains = named_chains(alloc, scheme, locks, section)?;
     let program = scheme.program();
     let count = scheme.graph().section(section).exit() + 1;
+    let nodes = lists_of(alloc, program, locks, count)?;
+    let entry = entry_of(alloc, &nodes)?;
     Ok(CertSection {
-        nodes: lists_of(alloc, program, locks, count)?,
-        entry: entry_of(alloc, program, locks)?,
+        nodes,
+        entry,
         chains,
     })
 }

@@ -156,23 +156,17 @@ fn list_of(
     Ok(Items::from_vec(list))
 }
 
-/// The list of a section's entry by its names: it is that of the first node.
-pub fn entry_of(
-    alloc: Global,
-    program: &Program,
-    locks: &Locks,
-) -> Result<Items<CertLock>, AllocError>
-    requires first { slice_get locks.now.at 0 ≡ Some locks.now.entry }
-    requires named { AreNamed program.now locks.now.entry }
-    ensures words { IfOk result (λ list. list ≡ list_words program.now.source locks.now.entry) }
-    ensures good { IfOk result (λ list. AllByRecursion IsLock list) }
+/// The list of a section's entry by its names: it is that of the first node, whose paths are kept once for both.
+pub fn entry_of(alloc: Global, lists: &Runs<Items<CertLock>>) -> Result<Items<CertLock>, AllocError>
+    requires { 0 < length lists.now }
+    ensures { IfOk result (λ list. slice_get lists.now 0 ≡ Some list) }
 {
-    let entry = locks.lent_at(alloc, 0)?;
-    let none = Known {
-        locks: &[],
-        named: &[],
-    };
-    list_of(alloc, program, none, entry.as_slice())
+    let first = lists.at(0);
+    let mut list = Vec::with_capacity(alloc, first.len())?;
+    for lock in first.as_slice() {
+        list.push(lock.share()?)?;
+    }
+    Ok(Items::from_vec(list))
 }
 
 /// A step at a node.

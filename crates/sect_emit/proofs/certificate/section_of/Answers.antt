@@ -1,10 +1,13 @@
 use Rattle.std.proofs.{Common.{◌≡◌, Some, length, map, arith, refl, sym, ap, ◌∙◌, subst}, lemmas.List.{length-map}}
-use Rattle.std.specs.Prelude.{slice_get}
+use Rattle.std.proofs.lemmas.Option.{slice_get_within}
+use Rattle.std.specs.{Prelude.{slice_get}, List.{AllByRecursion}}
+use Rattle.sect_lemmas.proofs.{Places.{each_at, one_at}, Replaced.{slice_get-map}}
 use Rattle.sect_types.specs.Programs.{ProgramView}
 use Rattle.sect_graph.specs.Graphs.{GraphView}
 use Rattle.sect_names.specs.Printing.{AreNamed}
+use Rattle.sect_cert.specs.Texts.{IsLock}
 use Rattle.sect_emit.specs.Words.{list_words}
-use Rattle.sect_emit.proofs.Wholes.{all_named, entry_first, entry_named, nodes_counted}
+use Rattle.sect_emit.proofs.Wholes.{all_named, entry_first, nodes_counted}
 use Rattle.sect_emit.proofs.certificate.section_of.Goals as goal
 
 pub lists_of-requires-clause-count : goal.lists_of-requires-clause-count
@@ -21,21 +24,20 @@ lists_of-requires-clause-named c = λ list has.
     subst (λ p. AreNamed p list) (sym c.program-program.ensures)
     (all_named s c.facts.ensures c.args.section c.args.locks.now c.requires.section c.requires.inferred list has)
 
-pub entry_of-requires-clause-first : goal.entry_of-requires-clause-first
-entry_of-requires-clause-first c =
-    entry_first c.args.scheme.now c.facts.ensures c.args.section c.args.locks.now c.requires.section
-    c.requires.inferred
-
-pub entry_of-requires-clause-named : goal.entry_of-requires-clause-named
-entry_of-requires-clause-named c =
-    let s = c.args.scheme.now in
-    subst (λ p. AreNamed p c.args.locks.now.entry) (sym c.program-program.ensures)
-    (entry_named s c.facts.ensures c.args.section c.args.locks.now c.requires.section c.requires.inferred)
+pub entry_of-requires : goal.entry_of-requires
+entry_of-requires c =
+    let i = c.args.section in
+    let at = c.args.locks.now.at in
+    let first = entry_first c.args.scheme.now c.facts.ensures i c.args.locks.now c.requires.section
+    c.requires.inferred in
+    let some = slice_get_within at 0 c.args.locks.now.entry first in
+    let f = ap length c.in_ok-nodes.ensures.words ∙ length-map at (list_words c.program-program.result.now.source) in
+    omega (arith, some, f)
 
 pub returns-clause-good : goal.returns-clause-good
 returns-clause-good c = record {
   count = (
-      let e = c.in_ok-lists_of.ensures.words in
+      let e = c.in_ok-nodes.ensures.words in
       let most = c.exit-count.ensures.most in
       let at = c.args.locks.now.at in
       let f = ap length e ∙ length-map at (list_words c.program-program.result.now.source) in
@@ -46,8 +48,9 @@ returns-clause-good c = record {
       c.exit-count.result c.exit-count.ensures.number in
       omega (arith, most, f, n)
       );
-  nodes = c.in_ok-lists_of.ensures.good;
-  entry = c.in_ok-entry_of.ensures.good;
+  nodes = c.in_ok-nodes.ensures.good;
+  entry = each_at (AllByRecursion IsLock) c.in_ok-nodes.nodes c.in_ok-nodes.ensures.good 0 c.in_ok-entry.entry
+      c.in_ok-entry.ensures;
   chains = c.in_ok-chains.ensures.good;
   rising = c.in_ok-chains.ensures.rising;
 }
@@ -57,8 +60,12 @@ returns-clause-words c = λ of g at graph.
     let told = c.in_ok-chains.ensures.words of g at graph in
     let source = c.args.scheme.now.program.source in
     let locks = c.args.locks.now in
-    let lists = c.in_ok-lists_of.ensures.words
+    let lists = c.in_ok-nodes.ensures.words
     ∙ ap (λ (p : ProgramView). map (list_words p.source) locks.at) c.program-program.ensures in
-    let entry = c.in_ok-entry_of.ensures.words
-    ∙ ap (λ (p : ProgramView). list_words p.source locks.entry) c.program-program.ensures in
+    let first = entry_first c.args.scheme.now c.facts.ensures c.args.section locks c.requires.section
+    c.requires.inferred in
+    let named = slice_get-map (list_words source) locks.at 0 c.in_ok-entry.entry
+    (subst (λ lists. slice_get lists 0 ≡ Some c.in_ok-entry.entry) lists c.in_ok-entry.ensures) in
+    let entry : c.in_ok-entry.entry ≡ list_words source locks.entry =
+    sym named.2 ∙ ap (list_words source) (one_at locks.at 0 named.0 locks.entry named.1 first) in
     (told.0, told.1, rw (lists, entry, told.2) refl)

@@ -9,7 +9,7 @@ use std::alloc::{AllocError, Global};
 use std::marker::Model;
 
 /// For how many bytes there is room at first: most paths have no more.
-const ROOM: usize = 16;
+const ROOM: usize = 24;
 
 /// A path, and its text behind a blank. Contracts see it as the path.
 #[derive(Drop)]

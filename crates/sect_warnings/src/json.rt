@@ -24,7 +24,11 @@ fn labels_value(alloc: Global, source: &LineIndex<'_>, placed: &Placed) -> Resul
 }
 
 /// A warning of a source text.
-pub fn warning_value(alloc: Global, source: &LineIndex<'_>, placed: &Placed) -> Result<Value, AllocError>
+pub fn warning_value(
+    alloc: Global,
+    source: &LineIndex<'_>,
+    placed: &Placed,
+) -> Result<Value, AllocError>
     requires { IsWithin (length source.now) placed.now.span }
     ensures { IfOk result (λ v. view v ≡ warning_json source.now placed.now) }
 {

@@ -41,7 +41,11 @@ fn result_value(alloc: Global, source: &LineIndex<'_>, placed: &Placed) -> Resul
 }
 
 /// All of them.
-fn results_value(alloc: Global, source: &LineIndex<'_>, placed: &[Placed]) -> Result<Value, AllocError>
+fn results_value(
+    alloc: Global,
+    source: &LineIndex<'_>,
+    placed: &[Placed],
+) -> Result<Value, AllocError>
     requires { AreWithin (length source.now) placed.now }
     ensures { IfOk result (λ v. view v ≡ list (map (result_json source.now) placed.now)) }
 {

@@ -11,6 +11,7 @@ ghost use Rattle.sect_lint.specs.steps.Linked.{IsLink, AreLinks, AreBelow, AreNe
 
 use crate::diagnostic::Detail;
 use crate::naming::found;
+use indexmap::IndexSet;
 use sect_front::{Name, Span};
 use sect_places::{NameSpan, Role, Thing, procedure_of};
 use std::alloc::{AllocError, Global};
@@ -102,57 +103,48 @@ fn link_of(declared: &[NameSpan], call: &NameSpan) -> Option<Link>
     })
 }
 
-/// Calls of procedures in procedures: of those that follow in one and call the same procedure, the first alone, as the
-/// others lead on from it no sooner.
+/// The names of the procedures that were seen to be called in one procedure or thread.
 #[derive(Drop)]
-struct Links {
-    all: Vec<Link>,
-    /// The procedure in which the last one stands.
-    caller: usize,
-    /// Which procedures are called in it.
-    called: Vec<bool>,
+struct Called {
+    /// The item of the procedure or thread.
+    scope: usize,
+    names: IndexSet<Name>,
 }
 
-impl Links {
-    /// None, between so many procedures.
-    fn new(alloc: Global, count: usize) -> Result<Links, AllocError>
-        ensures { IfOk result (λ links. (links.all.items ≡ []) × (length links.called.items ≡ count)) }
-    {
-        Ok(Links {
-            all: Vec::new(alloc),
-            caller: 0,
-            called: vec![in alloc; false; count]?,
-        })
+impl Called {
+    /// None.
+    fn new(alloc: Global) -> Called {
+        Called {
+            scope: 0,
+            names: IndexSet::new(alloc),
+        }
     }
 
-    /// Notes the procedure in which a call stands.
-    fn enter(&mut self, alloc: Global, caller: usize) -> Result<(), AllocError>
-        ensures many { length self.new.called.items ≡ length self.old.called.items }
-        ensures all { self.new.all.items ≡ self.old.all.items }
-    {
-        if caller != self.caller {
-            let count = self.called.len();
-            self.called = vec![in alloc; false; count]?;
-            self.caller = caller;
+    /// Whether no call of the same procedure was seen in the same procedure or thread; now there was.
+    fn is_first(&mut self, alloc: Global, call: &NameSpan) -> Result<bool, AllocError> {
+        if call.used.scope != self.scope {
+            self.scope = call.used.scope;
+            self.names = IndexSet::new(alloc);
         }
-        Ok(())
+        Ok(self.names.insert(call.used.name)?)
     }
+}
 
-    /// Adds a call.
-    fn add(&mut self, alloc: Global, link: Link) -> Result<(), AllocError>
-        requires { link.to < length self.old.called.items }
-        ensures many { length self.new.called.items ≡ length self.old.called.items }
-        ensures all { OnOk result ((self.new.all.items ≡ self.old.all.items)
-            ⊎ (self.new.all.items ≡ self.old.all.items ++ link ∷ [])) }
-    {
-        self.enter(alloc, link.from)?;
-        let to = link.to;
-        let known = self.called[to];
-        if !known {
-            self.all.push(link)?;
-            self.called[to] = true;
-        }
-        Ok(())
+/// A call of a procedure in a procedure, with both, if it is the first there of that procedure: the others lead on from
+/// there no sooner.
+fn first_link(
+    alloc: Global,
+    declared: &[NameSpan],
+    called: &mut Called,
+    named: &NameSpan,
+) -> Result<Option<Link>, AllocError>
+    ensures called { IfOk result (λ found. IfSome found (λ link. link.call ≡ named.now)) }
+    ensures linked { IfOk result (λ found. IfSome found (IsLink declared.now)) }
+{
+    if calls(named) && called.is_first(alloc, named)? {
+        Ok(link_of(declared, named))
+    } else {
+        Ok(None)
     }
 }
 
@@ -164,13 +156,14 @@ fn links_of(
 ) -> Result<Vec<Link>, AllocError>
     ensures { IfOk result (λ links. AreLinks names.now declared.now links.items) }
 {
-    let mut links = Links::new(alloc, declared.len())?;
+    let mut called = Called::new(alloc);
+    let mut links = Vec::new(alloc);
     for named in names {
-        if let Some(link) = link_of(declared, named) {
-            links.add(alloc, link)?;
+        if let Some(link) = first_link(alloc, declared, &mut called, named)? {
+            links.push(link)?;
         }
     }
-    Ok(links.all)
+    Ok(links)
 }
 
 /// Notes that a procedure goes on by a call, where the last one can be reached so and no other call is noted; and tells

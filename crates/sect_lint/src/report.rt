@@ -3,7 +3,8 @@
 ghost use Rattle.std.specs.{Prelude.{◌≡◌, ◌≤◌, ◌++◌, All, OnOk, length}, Fmt.{decimal}, String.{string_bytes}};
 ghost use Rattle.std.specs.List.{flat_map};
 ghost use Rattle.sect_front.specs.FaultPlaces.{IsWithin};
-ghost use Rattle.sect_lint.specs.Details.{position_text, place_text, detail_text, earlier_text, called_text, next_text, circle_text};
+ghost use Rattle.sect_lint.specs.Details.{position_text, place_text, detail_text, earlier_text, called_text};
+ghost use Rattle.sect_lint.specs.Details.{next_text, circle_text};
 ghost use Rattle.sect_lint.specs.{Details.{IsDetailWithin}, Reports.{heading, note_line, report}};
 
 use crate::diagnostic::{Detail, Diagnostic};

@@ -2,19 +2,19 @@
 
 ghost use Rattle.std.specs.{Prelude.{IfOk, IfErr}, String.{string_bytes}};
 ghost use Rattle.sect_emit.specs.Compiled.{IsCompiledFrom};
-ghost use Rattle.sect_lint.specs.declared.format.Format.TheVariants.{Json};
+ghost use Rattle.sect_lint.specs.declared.format.LintFormat.TheVariants.{Json};
 ghost use Rattle.sect_answers.specs.Linting.{IsUnblamed, IsInspection, IsLintDue};
 
 use crate::refusal::Refusal;
 use sect_emit::{Compiled, compile_scheme};
 use sect_json::inspection_document;
-use sect_lint::{Format, Judgment, lint, report_as};
+use sect_lint::{Judgment, LintFormat, lint, report_as};
 use sect_warnings::warnings_as;
 use std::alloc::Global;
 
 /// The warnings of a source text that is accepted, in this form. A text that is refused is reported on, by a refusal.
 /// How many fields a path may have is judged before the source.
-pub fn findings(alloc: Global, source: &[u8], k: u16, format: Format) -> Result<String, Refusal>
+pub fn findings(alloc: Global, source: &[u8], k: u16, format: LintFormat) -> Result<String, Refusal>
     // The text is accepted, and the warnings are those that are due.
     ensures answers { IfOk result (λ text. IsUnblamed source.now k format (string_bytes text)) }
     // The report is of the mistake for which the text is refused.
@@ -32,7 +32,7 @@ pub fn inspection(alloc: Global, source: &[u8], k: u16) -> Result<Vec<u8>, Refus
     // The report is of the mistake for which the text is refused.
     ensures refuses { IfErr result (IsLintDue source.now k Json) }
 {
-    let compiled = compiled_or_report(alloc, source, k, Format::Json)?;
+    let compiled = compiled_or_report(alloc, source, k, LintFormat::Json)?;
     Ok(inspection_document(alloc, source, &compiled)?)
 }
 
@@ -41,7 +41,7 @@ fn compiled_or_report(
     alloc: Global,
     source: &[u8],
     k: u16,
-    format: Format,
+    format: LintFormat,
 ) -> Result<Compiled, Refusal>
     ensures answers { IfOk result (IsCompiledFrom source.now k) }
     ensures refuses { IfErr result (IsLintDue source.now k format) }

@@ -65,7 +65,8 @@ sections_more [] i j s w h = ap (λ n. line.Section n (length s.nodes) ∷ secti
 sections_more (t ∷ ss) i j s w h =
     ap (λ x. line.Section i (length t.nodes) ∷ section_lines t x) (sections_more ss (i + 1) j s w (omega (arith, h)))
 
-rising_more : (before cs : List CertChain) (c : CertChain) → RiseAfter before cs → is_rising (before ++ cs) c.lock ≡ true
+rising_more : (before cs : List CertChain) (c : CertChain) → RiseAfter before cs
+    → is_rising (before ++ cs) c.lock ≡ true
     → RiseAfter before (cs ++ c ∷ [])
 rising_more before [] c h e = (ap (λ d. is_rising d c.lock) (sym (append-nil before)) ∙ e, tt)
 rising_more before (d ∷ cs) c h e =

@@ -31,7 +31,8 @@ after_last : (before : List CertChain) (d : CertChain) (n : ℕ) → is_rising (
 after_last before d n = let last : length (before ++ d ∷ []) - 1 ≡ length before =
     omega (arith, length-append before (d ∷ [])) in rw (last, last_at before d) refl
 
-rise_after : (before : List CertChain) (d : CertChain) (cs : List CertChain) → AreRising (d ∷ cs) → RiseAfter (before ++ d ∷ []) cs
+rise_after : (before : List CertChain) (d : CertChain) (cs : List CertChain) → AreRising (d ∷ cs)
+    → RiseAfter (before ++ d ∷ []) cs
 rise_after before d [] h = tt
 rise_after before d (c ∷ cs) h =
     (after_last before d c.lock ∙ less d.lock c.lock h.0, rise_after (before ++ d ∷ []) c cs h.1)
@@ -40,7 +41,8 @@ rise_all : (cs : List CertChain) → AreRising cs → RiseAfter [] cs
 rise_all [] h = tt
 rise_all (c ∷ cs) h = (refl, rise_after [] c cs h)
 
-rise_back : (before : List CertChain) (d : CertChain) (cs : List CertChain) → RiseAfter (before ++ d ∷ []) cs → AreRising (d ∷ cs)
+rise_back : (before : List CertChain) (d : CertChain) (cs : List CertChain) → RiseAfter (before ++ d ∷ []) cs
+    → AreRising (d ∷ cs)
 rise_back before d [] h = tt
 rise_back before d (c ∷ cs) h =
     (is_less d.lock c.lock (sym (after_last before d c.lock) ∙ h.0), rise_back (before ++ d ∷ []) c cs h.1)

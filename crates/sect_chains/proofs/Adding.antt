@@ -49,7 +49,8 @@ module _ (s : SchemeView) (kept : List Link) (next : List (Option ℕ)) (more : 
   }
 
   -- what is kept in time is so where more is added
-  pub time_more : (Added Wanted : Link → Type 0) → Adds s kept next more more_next o Added Wanted → (p : Option ℕ) (x : Link)
+  pub time_more : (Added Wanted : Link → Type 0) → Adds s kept next more more_next o Added Wanted
+      → (p : Option ℕ) (x : Link)
       → IsInTime s kept next p x → IsInTime s more more_next p x
   time_more Added Wanted f p x (i, a, q, at, to, n, c, how) =
       (let there = f.still i a q at to in (i, a, q, there.0, there.1, n, c, how))
@@ -293,7 +294,8 @@ module _ (s : SchemeView) (t : ℕ) (last : List Lock) (g : List Node) where
 pub none_kept : (keys : List Lock) (steps : List KeptLink) → steps ≡ [] → (i : ℕ) (a : Link)
     → slice_get (links_of keys steps) i ≡ Some a → ⊥
 none_kept keys steps none i a at =
-    (let got : slice_get (links_of keys []) i ≡ Some a = subst (λ xs. slice_get (links_of keys xs) i ≡ Some a) none at in
+    (let got : slice_get (links_of keys []) i ≡ Some a = subst (λ xs. slice_get (links_of keys xs) i ≡ Some a)
+      none at in
     absurd cc)
 
 pub none_sorted : (keys : List Lock) (steps : List KeptLink) → steps ≡ []

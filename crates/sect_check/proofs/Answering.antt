@@ -29,7 +29,8 @@ module _ (A : Type 0) (source : List ℕ) (k : ℕ) (bytes : List ℕ) where
   source_judged (refusal.Scheme x) h = (λ e. cc, h)
 
   -- so is the answer that passes it on
-  pub source_refused : (r : Result A CheckFault) (f : SourceRefusal) → IsErrAnd r (λ x. x ≡ of_source f) → IsDue source k f
+  pub source_refused : (r : Result A CheckFault) (f : SourceRefusal) → IsErrAnd r (λ x. x ≡ of_source f)
+      → IsDue source k f
       → Judges source k bytes r
   source_refused r f is h = passed r (of_source f) is (source_judged f h)
 

@@ -107,7 +107,8 @@ stray c y rise below at = record {
 }
 
 -- the numbers of a certificate's chains rise, by their places
-first_rises : (x y : CertChain) (xs : List CertChain) (j : ℕ) → AreRising (x ∷ xs) → slice_get xs j ≡ Some y → x.lock < y.lock
+first_rises : (x y : CertChain) (xs : List CertChain) (j : ℕ) → AreRising (x ∷ xs) → slice_get xs j ≡ Some y
+    → x.lock < y.lock
 first_rises x y [] j h at = absurd cc
 first_rises x y (z ∷ xs) zero h at = let same : z ≡ y = cc in subst (λ w. x.lock < w.lock) same h.0
 first_rises x y (z ∷ xs) (suc j) h at = let r = first_rises z y xs j h.1 at in omega (arith, r, h.0)

@@ -9,7 +9,7 @@ use Rattle.sect_answers.specs.{Graphing.{IsProgramGraph, IsGraphDue}, Linting.{I
 use Rattle.sect_answers.specs.{Outcomes.{AreAllOutcomes, IsOutcomesDue}, Refusals.{refusal_text}}
 use Rattle.sect_answers.specs.{Running.{IsOutcomeOfRun}, Scheduling.{IsScheduled, IsScheduleDue}}
 use Rattle.sect_answers.specs.{Serial.{IsOutcome, IsSerialDue}, declared.refusal.Refusal.{Refusal}}
-use Rattle.sect_lint.specs.declared.format.Format.TheVariants.{Json}
+use Rattle.sect_lint.specs.declared.format.LintFormat.TheVariants.{Json}
 use Rattle.sect_command.specs.declared.dispatch.TheConstants.{DONE, REFUSED, WRONG_WORDS, FAILED}
 use Rattle.sect_command.specs.{declared.dispatch.Answer.{Answer}, declared.dispatch.Failure.{Failure}}
 use Rattle.sect_command.specs.declared.options.Form.TheVariants.{Listing, Document, Certificate}

@@ -3,7 +3,7 @@
 use crate::options::UsageFault;
 use clap::ArgMatches;
 use sect_answers::Format;
-use sect_lint::Format as LintFormat;
+use sect_lint::LintFormat;
 use std::alloc::Global;
 
 /// The format that the option names, or text.

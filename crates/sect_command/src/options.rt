@@ -8,7 +8,7 @@ use crate::running::{FUEL, STATES, threads_of, told_count};
 use clap::ArgMatches;
 use clap::error::ErrorKind;
 use sect_answers::Format;
-use sect_lint::Format as LintFormat;
+use sect_lint::LintFormat;
 use std::alloc::{AllocError, AllocFailed, Global};
 use thiserror::Error;
 

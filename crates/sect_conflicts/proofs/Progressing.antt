@@ -137,7 +137,8 @@ module _ (c : CompiledView) where
       → AreConflicts c pairs
   all_compared n pairs past so_far = record {
     each = so_far.each;
-    all = λ m k compared. (let within = slice_get_within (sections_of (program_of c).texts) m compared.one compared.first
+    all = λ m k compared. (let within = slice_get_within (sections_of (program_of c).texts) m compared.one
+      compared.first
         in so_far.all m k compared (inl (omega (arith, within, past))));
     order = so_far.order;
   }

@@ -3,13 +3,14 @@ use Rattle.std.specs.Prelude.{ℕ, List, Option, Some, None, option_map}
 use Rattle.serde_json.specs.Data.{Data}
 use Rattle.sect_editor.specs.{declared.position.Encoding.{Encoding}, declared.position.Place.{Place}}
 use Rattle.sect_editor.specs.{declared.question.Question.{Question}, declared.text.Reading.{Reading}}
-use Rattle.sect_editor.specs.{declared.text.Text.{Text}, Accepted.{IsCompiledIf, IsToldOf}, Completing.{IsCompletion}}
+use Rattle.sect_editor.specs.{declared.text.OpenText.{OpenText}, Accepted.{IsCompiledIf, IsToldOf}}
+use Rattle.sect_editor.specs.Completing.{IsCompletion}
 use Rattle.sect_editor.specs.{Hovering.{IsHoverIf}, Marks.{AreHints, AreLenses, hinted_range}, Positions.{offset}}
 use Rattle.sect_editor.specs.{Queries.{IsAnswer, place_of}, Symbols.{AreSymbols}}
 use Rattle.sect_editor.specs.declared.question.Question.TheVariants as question
 
 -- the compiled program is that of the text, which has none if it is refused
-abbrev pub IsJudged : Text → Type 0
+abbrev pub IsJudged : OpenText → Type 0
 IsJudged t = IsCompiledIf t.source.now t.reading.k (option_map (λ c. c.now) t.compiled)
 
 -- the byte at the place that a message tells, if it tells one

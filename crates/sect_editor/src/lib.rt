@@ -23,4 +23,4 @@ pub use diagnosing::{Judged, judge};
 pub use position::{Encoding, Place, Range, offset, range_in};
 pub use query::{Query, text_at};
 pub use question::{Question, answer};
-pub use text::{Reading, Text};
+pub use text::{OpenText, Reading};

@@ -13,7 +13,7 @@ ghost use Rattle.sect_editor.specs.steps.Naming.{AreNamesWithin, AreSpansWithin,
 use crate::position::{Encoding, Place, offset, place_in};
 use crate::ranges::{location_value, range_value};
 use crate::referring::{declared_under, uses_of};
-use crate::text::Text;
+use crate::text::OpenText;
 use sect_front::{FrontFault, Span, is_name};
 use sect_object::Members;
 use sect_places::{NameSpan, Role, Thing, name_spans};
@@ -311,7 +311,7 @@ pub fn text_at<'a>(message: &'a Value, path: &str) -> Option<&'a str>
 pub fn answer_query(
     alloc: Global,
     query: Query,
-    text: Text<'_>,
+    text: OpenText<'_>,
     message: &Value,
 ) -> Result<Option<Value>, AllocError>
     ensures { IfOk result (λ answer. IsAnswer query text.entry.reading.encoding (view message.now) text.entry.uri.now

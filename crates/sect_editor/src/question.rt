@@ -12,7 +12,7 @@ use crate::marks::{hints_value, lenses_value};
 use crate::position::{Encoding, Range, offset, range_in};
 use crate::query::{Query, answer_query, place_at};
 use crate::symbols::symbols_value;
-use crate::text::Text;
+use crate::text::OpenText;
 use serde_json::Value;
 use std::alloc::{AllocError, Global};
 
@@ -42,7 +42,7 @@ fn byte_told(encoding: Encoding, source: &[u8], message: &Value) -> Option<usize
 }
 
 /// What stands at a place.
-fn hover(alloc: Global, text: Text<'_>, message: &Value) -> Result<Value, AllocError>
+fn hover(alloc: Global, text: OpenText<'_>, message: &Value) -> Result<Value, AllocError>
     requires { IsJudged text }
     ensures { IfOk result (λ v. IsToldOf (IsHoverIf text.entry.source.now
         (byte_by text.entry.reading.encoding text.entry.source.now (view message.now))) text.entry.source.now
@@ -70,7 +70,7 @@ fn hinted_range(message: &Value) -> Option<Range>
 }
 
 /// The locks behind each `atomic`.
-fn hints(alloc: Global, text: Text<'_>, message: &Value) -> Result<Value, AllocError>
+fn hints(alloc: Global, text: OpenText<'_>, message: &Value) -> Result<Value, AllocError>
     requires { IsJudged text }
     ensures { IfOk result (λ v. IsToldOf (AreHints text.entry.source.now (range_by (view message.now)))
         text.entry.source.now text.entry.reading.k (view v)) }
@@ -83,7 +83,7 @@ fn hints(alloc: Global, text: Text<'_>, message: &Value) -> Result<Value, AllocE
 }
 
 /// How many locks each `atomic` takes, and which sections it excludes.
-fn lenses(alloc: Global, text: Text<'_>) -> Result<Value, AllocError>
+fn lenses(alloc: Global, text: OpenText<'_>) -> Result<Value, AllocError>
     requires { IsJudged text }
     ensures { IfOk result (λ v. IsToldOf (AreLenses text.entry.source.now) text.entry.source.now
         text.entry.reading.k (view v)) }
@@ -99,7 +99,7 @@ fn lenses(alloc: Global, text: Text<'_>) -> Result<Value, AllocError>
 pub fn answer(
     alloc: Global,
     question: Question,
-    text: Text<'_>,
+    text: OpenText<'_>,
     message: &Value,
 ) -> Result<Option<Value>, AllocError>
     requires { IsJudged text }

@@ -14,7 +14,7 @@ ghost use Rattle.sect_editor.specs.steps.{Marking.{IsMarked}, Naming.{AreNamesWi
 use crate::marks::{Marked, head_of};
 use crate::query::names_of;
 use crate::ranges::range_value;
-use crate::text::Text;
+use crate::text::OpenText;
 use sect_emit::{Compiled, put_thread_name};
 use sect_front::Span;
 use sect_object::Members;
@@ -201,7 +201,7 @@ fn put_found(
 }
 
 /// What a text declares, and then its sections, if it is accepted.
-pub fn symbols_value(alloc: Global, text: Text<'_>) -> Result<Value, AllocError>
+pub fn symbols_value(alloc: Global, text: OpenText<'_>) -> Result<Value, AllocError>
     requires { IsJudged text }
     ensures { IfOk result (λ v. AreSymbols text.entry.source.now text.entry.reading.k (view v)) }
 {

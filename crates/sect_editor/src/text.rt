@@ -12,7 +12,7 @@ pub struct Reading {
 
 /// A document, its text, how that is read, and what it is compiled to, unless it is refused.
 #[derive(Clone, Copy)]
-pub struct Text<'a> {
+pub struct OpenText<'a> {
     pub uri: &'a str,
     pub source: &'a [u8],
     pub reading: Reading,

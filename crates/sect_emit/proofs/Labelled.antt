@@ -63,7 +63,8 @@ module _ (p : ProgramView) (u : ℕ) where
       (base_there b (Refers f.of) is.1, field_there f is.0 is.2, value_there v is.0 is.3)
   action_there (Print v) is = value_there v Int is
 
-  alike : (integers : Bool) (v w : Value) → AreAlike integers (environment_at p u) v w → IsValueOf p u v × IsValueOf p u w
+  alike : (integers : Bool) (v w : Value) → AreAlike integers (environment_at p u) v w
+      → IsValueOf p u v × IsValueOf p u w
   alike true v w is = (value_there v Int is.0, value_there w Int is.1)
   alike false v w is = (value_there v is.0 is.1, value_there w is.0 is.2)
 

@@ -17,7 +17,8 @@ pub record OpenHere (bytes here braces : List ℕ) : Type 0 where
   pub below : AreBelow (length bytes) braces
 
 pub open_first : (bytes : List ℕ) → OpenHere bytes (after_gap bytes) []
-open_first bytes = record { places = []; reached = reached_none bytes; are = refl; below = All-nil (λ n. n < length bytes) }
+open_first bytes =
+  record { places = []; reached = reached_none bytes; are = refl; below = All-nil (λ n. n < length bytes) }
 
 pub open_next : (bytes here braces new : List ℕ) (t : Token) (n : ℕ) → OpenHere bytes here braces
     → lexeme_of here ≡ Some (t, n) → new ≡ open_behind (length bytes - length here) braces t
@@ -40,7 +41,8 @@ open_last bytes here braces h none places s =
     (lexed bytes h.places here h.reached (nothing_left here none)) s)
 
 -- the last of some numbers below another
-pub last_below : (total : ℕ) (list : List ℕ) → AreBelow total list → IfSome (slice_get list (length list - 1)) (λ n. n < total)
+pub last_below : (total : ℕ) (list : List ℕ) → AreBelow total list
+    → IfSome (slice_get list (length list - 1)) (λ n. n < total)
 last_below total [] h = tt
 last_below total (n ∷ list) h =
     subst (λ o. IfSome o (λ k. k < total)) (sym (slice_get-get_or (n ∷ list) (length (n ∷ list) - 1) 0 (omega arith)))

@@ -126,7 +126,8 @@ module _ (s : TreeView) (o : Owner) (ls : List Declaration) where
   first_argument_passes fs b f operand.Null w = refl
   first_argument_passes fs b f (operand.Name n) w = refl
 
-  argument_passes : (fs : List OpenBlock) (b : BlockView) (f : List ℕ) (vs : List Operand) (v : Operand) (w : List Token) →
+  argument_passes : (fs : List OpenBlock) (b : BlockView) (f : List ℕ) (vs : List Operand) (v : Operand)
+      (w : List Token) →
       after (at fs b (place.InCall (call.AfterComma f vs))) (operand_token v ∷ w) ≡
       after (at fs b (place.InCall (call.AfterArgument f vs v))) w
   argument_passes fs b f vs (operand.Number n) w = refl

@@ -1,15 +1,15 @@
--- What is shown of a line stands before the marked place, at it or shortly behind it. So of the bytes behind the place a
--- few tell what is shown.
+-- What is shown of a line stands before the marked place, at it or shortly behind it. So of the bytes behind the
+-- place a few tell what is shown.
 use Rattle.std.proofs.Common.{◌≡◌, ◌≤◌, ◌⊎◌, ◌+◌, ◌-◌, ◌∙◌, ℕ, zero, suc, List, [], ◌∷◌, ◌++◌, Bool, true, false}
 use Rattle.std.proofs.Common.{length, take, drop, fold, cond, ◌==◌, inl, inr, refl, sym, ap, subst, arith}
-use Rattle.std.proofs.lemmas.List.{take-append-drop, drop-take, take-take, take_all, length-take-le, drop-drop, length-drop}
-use Rattle.std.proofs.lemmas.{List.Sums.{take_while-cons}, Bool.{cases_lt, lt-ltb}}
+use Rattle.std.proofs.lemmas.List.{take-append-drop, drop-take, take-take, take_all, length-take-le, drop-drop}
+use Rattle.std.proofs.lemmas.{List.{length-drop}, List.Sums.{take_while-cons}, Bool.{cases_lt, lt-ltb}}
 use Rattle.std.proofs.Math.{Seq.{take-add, take-append-add}, Nat.{min-eq_left}}
 use Rattle.std.specs.{Prelude.{if◌then◌else◌, take_while, not, nat_lt, codes}, List.{flat_map}, Fmt.{decimal}}
 use Rattle.sect_front.specs.Gaps.{line_feed}
 use Rattle.sect_places.{specs.Positions.{next_column, column_of}, proofs.shared.Bounds.{column_least, column_most}}
-use Rattle.sect_lint.specs.Excerpts.{in_line, line_text, most_shown, left_out, shown_line, marked_line, excerpt_of, dots}
-use Rattle.sect_lint.specs.Excerpts.{blanks_under, shown, under, carets}
+use Rattle.sect_lint.specs.Excerpts.{in_line, line_text, most_shown, left_out, shown_line, marked_line, excerpt_of}
+use Rattle.sect_lint.specs.Excerpts.{dots, blanks_under, shown, under, carets}
 
 -- no line feed among these bytes: a line goes on behind them
 abbrev GoesOn : List ℕ → Type 0
@@ -74,7 +74,8 @@ line_from text at within =
     let start : ℕ = at + 1 - column_of text at in
     let before : ℕ = column_of text at - 1 in
     let there : drop before (drop start text) ≡ drop at text =
-    drop-drop before start text ∙ ap (λ n. drop n text) (omega (arith, column_least text at, column_most text at within)) in
+    drop-drop before start text ∙ ap (λ n. drop n text)
+      (omega (arith, column_least text at, column_most text at within)) in
     ap (take_while in_line) (sym (take-append-drop before (drop start text)))
     ∙ before_place text at within (drop before (drop start text))
     ∙ ap (λ l. take before (drop start text) ++ take_while in_line l) there
@@ -156,7 +157,8 @@ module _ (line : List ℕ) (place : ℕ) (long : place + most_shown + 1 ≤ leng
       ap (λ l. dots (nat_lt 0 from) (codes "   ") ++ flat_map (under (codes " ")) l
       ++ carets (take count (drop (place - from) (take most_shown (drop from cut)))))
       (shown_alike (place - from) (omega arith))
-      ∙ ap (λ l. dots (nat_lt 0 from) (codes "   ") ++ flat_map (under (codes " ")) (take (place - from) (drop from line))
+      ∙ ap (λ l. dots (nat_lt 0 from) (codes "   ")
+        ++ flat_map (under (codes " ")) (take (place - from) (drop from line))
       ++ carets (take count (drop (place - from) l))) (shown_alike most_shown (omega arith))
 
 -- a line that is cut behind what may be shown looks like the whole: where it is longer, and always

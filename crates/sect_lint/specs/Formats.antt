@@ -1,18 +1,18 @@
 -- What is printed, in each form.
 use Rattle.std.specs.Prelude.{ℕ, List, [], ◌++◌, codes}
 use Rattle.serde_json.specs.Written.{compact_text}
-use Rattle.sect_lint.specs.{declared.format.Format.{Format}, declared.format.Format.TheVariants.{Text, Json, Sarif}}
+use Rattle.sect_lint.specs.declared.format.LintFormat.{LintFormat, TheVariants.{Text, Json, Sarif}}
 use Rattle.sect_lint.specs.{declared.diagnostic.Diagnostic.{Diagnostic}, Reports.{report}, Json.{diagnostic_json}}
 use Rattle.sect_lint.specs.Sarif.{diagnostic_log, empty_log}
 
 -- a diagnostic, but for the line feed at its end
-abbrev pub report_as : Format → List ℕ → Diagnostic → List ℕ
+abbrev pub report_as : LintFormat → List ℕ → Diagnostic → List ℕ
 report_as Text source d = report source d
 report_as Json source d = compact_text (diagnostic_json source d)
 report_as Sarif source d = compact_text (diagnostic_log source d)
 
 -- what is printed of a text of which nothing is told: a log has no results then
-abbrev pub clean : Format → List ℕ
+abbrev pub clean : LintFormat → List ℕ
 clean Text = []
 clean Json = []
 clean Sarif = compact_text empty_log ++ codes "\n"

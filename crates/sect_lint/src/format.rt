@@ -14,7 +14,7 @@ use std::alloc::{AllocError, Global};
 
 /// How a diagnostic is printed.
 #[derive(Clone, Copy)]
-pub enum Format {
+pub enum LintFormat {
     /// For a reader.
     Text,
     /// An object of JSON.
@@ -48,19 +48,19 @@ pub fn report_as(
     alloc: Global,
     source: &[u8],
     diagnostic: &Diagnostic,
-    format: Format,
+    format: LintFormat,
 ) -> Result<String, AllocError>
     requires span { IsWithin (length source.now) diagnostic.now.span }
     requires detail { IsDetailWithin (length source.now) diagnostic.now.detail }
     ensures { IfOk result (λ text. string_bytes text ≡ report_by format source.now diagnostic.now) }
 {
     match format {
-        Format::Text => report_text(alloc, source, diagnostic),
-        Format::Json => {
+        LintFormat::Text => report_text(alloc, source, diagnostic),
+        LintFormat::Json => {
             let value = diagnostic_value(alloc, source, diagnostic)?;
             compact(alloc, &value)
         }
-        Format::Sarif => {
+        LintFormat::Sarif => {
             let log = diagnostic_log(alloc, source, diagnostic)?;
             compact(alloc, &log)
         }
@@ -68,12 +68,12 @@ pub fn report_as(
 }
 
 /// What is printed of a source text of which nothing is told.
-pub fn clean_text(alloc: Global, format: Format) -> Result<String, AllocError>
+pub fn clean_text(alloc: Global, format: LintFormat) -> Result<String, AllocError>
     ensures { IfOk result (λ text. string_bytes text ≡ clean format) }
 {
     match format {
-        Format::Text | Format::Json => Ok(String::new(alloc)),
-        Format::Sarif => {
+        LintFormat::Text | LintFormat::Json => Ok(String::new(alloc)),
+        LintFormat::Sarif => {
             let log = empty_log(alloc)?;
             let mut text = compact(alloc, &log)?;
             text.push_str("\n")?;

@@ -28,7 +28,7 @@ mod wishes;
 pub use circle::{is_call_in, procedure_item};
 pub use diagnostic::{Counts, Detail, Diagnostic, Shape, Typed};
 pub use excerpt::{put_excerpt, put_margin};
-pub use format::{Format, clean_text, compact, report_as};
+pub use format::{LintFormat, clean_text, compact, report_as};
 pub use idle::idle_hints;
 pub use json::{label_value, span_value};
 pub use judge::{Judgment, lint};

@@ -15,7 +15,7 @@ use crate::change::after_changes;
 use crate::documents::{Documents, MOST_K};
 use crate::protocol::{RequestError, is_id, notification_message, read, refusal_message};
 use crate::reply::{Reply, reply_with, response};
-use sect_editor::{Encoding, Judged, Query, Question, Reading, Text, answer, judge, text_at};
+use sect_editor::{Encoding, Judged, OpenText, Query, Question, Reading, answer, judge, text_at};
 use serde_json::{Value, json};
 use std::alloc::{AllocError, Global};
 use std::marker::Model;
@@ -304,7 +304,7 @@ impl Server {
         let Some(document) = self.documents.find(uri) else {
             return Ok(Reply::Error(RequestError::InvalidParams));
         };
-        let text = Text {
+        let text = OpenText {
             uri,
             source: document.text(),
             reading: self.reading(),

@@ -13,7 +13,8 @@ abbrev is_feed : ℕ → Bool
 is_feed b = b == line_feed
 
 one_position : (p q : Position) → p.line ≡ q.line → p.column ≡ q.column → p ≡ q
-one_position p q e f = ap (λ l. record { line = l; column = p.column }) e ∙ ap (λ c. record { line = q.line; column = c }) f
+one_position p q e f = ap (λ l. record { line = l; column = p.column }) e
+  ∙ ap (λ c. record { line = q.line; column = c }) f
 
 abbrev step_to : Bool → Position → Position
 step_to b p = if b then record { line = p.line + 1; column = 1 } else record { line = p.line; column = p.column + 1 }
@@ -60,7 +61,8 @@ position_on xs a b within =
     ∙ ap (fold next_position first_position) (sym (take-add a (b - a) xs))
     ∙ position_is xs (a + (b - a)) ∙ ap (position xs) (omega (arith, within))
 
-pub stands_at : (xs : List ℕ) (at : ℕ) (c : Cursor) → at ≤ length xs → c.at ≡ at → c.position ≡ position xs at → IsAt xs c
+pub stands_at : (xs : List ℕ) (at : ℕ) (c : Cursor) → at ≤ length xs → c.at ≡ at → c.position ≡ position xs at
+    → IsAt xs c
 stands_at xs at c within there is =
     let long = length-take-le at xs within in
     let lines = count_by-le-length is_feed (take at xs) in

@@ -115,4 +115,5 @@ module _ (t : TreeView) (rs : List Record) (gs : List GlobalObject) (ps : List P
   pub item_left : (n : ℕ) → IsBehind item (parts_ranges rs gs ps ts) n → item < length (items t) → ⊥
   item_left n h lt =
       let some = at_of (item_tokens t) item (omega (arith, items_count t, lt)) in
-      none_or_some some.0 (sym (ap (λ w. slice_get w item) (sym parts_are) ∙ h [] ∙ slice_get_past [] n (omega arith)) ∙ some.1)
+      none_or_some some.0 (sym (ap (λ w. slice_get w item) (sym parts_are) ∙ h [] ∙ slice_get_past [] n (omega arith))
+        ∙ some.1)

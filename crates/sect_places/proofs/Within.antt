@@ -77,7 +77,8 @@ globals_within m n [] rs h k = k
 globals_within m n (g ∷ list) rs h k =
     (omega arith, omega (arith, h), globals_within m (n + 4) list rs (omega (arith, h)) k)
 
-procedures_within : (m n : ℕ) (list : List Procedure) (rs : List TokenRange) → n + procedures_count list ≤ m → AreAmong m rs
+procedures_within : (m n : ℕ) (list : List Procedure) (rs : List TokenRange) → n + procedures_count list ≤ m
+    → AreAmong m rs
     → AreAmong m (procedures_ranges n list rs)
 procedures_within m n [] rs h k = k
 procedures_within m n (p ∷ list) rs h k = (

@@ -37,7 +37,7 @@ pub use name_use::{NameSpan, NameUse, Role, Thing};
 pub use named::{ItemWords, item_words, name_spans, tree_names};
 pub use nodes::node_origins;
 pub use opening::{Opening, range_opening};
-pub use origin::{NodeOrigins, Origin, Origins};
+pub use origin::{NodeOrigins, Origin};
 pub use origin_spans::{NodeSpan, NodeSpans, node_spans};
 pub use position::{Position, column_of, position_of};
 pub use positions::positions_of;

@@ -8,10 +8,10 @@ ghost use Rattle.sect_places.specs.steps.Placed.{IsAmong, IsPlaced};
 
 use crate::items::tree_spans;
 use crate::nodes::node_origins;
-use crate::origin::{Origin, Origins};
+use crate::origin::Origin;
 use crate::position::Position;
 use crate::positions::positions_of;
-use sect_front::Span;
+use sect_front::{Items, Span};
 use sect_types::Program;
 use std::alloc::{AllocError, Global};
 
@@ -66,7 +66,7 @@ fn lines_of(
 fn section_lines(
     alloc: Global,
     places: &[Position],
-    sections: &[Origins],
+    sections: &[Items<Origin>],
 ) -> Result<Vec<Vec<NodeLine>>, AllocError>
     requires { All (All (IsPlaced (length places.now))) sections.now }
     ensures { IfOk result (λ lines. map (λ v. v.items) lines.items ≡ map (map (node_line places.now)) sections.now) }

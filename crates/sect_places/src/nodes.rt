@@ -13,8 +13,8 @@ ghost use Rattle.sect_places.specs.steps.Calls.{ends, expands, expands_sections}
 
 use crate::inside::Inside;
 use crate::item_counts::{past, past_records, procedure_items};
-use crate::origin::{NodeOrigins, Origin, Origins};
-use sect_front::{Block, Declaration, Name, Procedure, Statement, Thread};
+use crate::origin::{NodeOrigins, Origin};
+use sect_front::{Block, Declaration, Items, Name, Procedure, Statement, Thread};
 use sect_types::Program;
 use std::alloc::{AllocError, Global};
 
@@ -67,7 +67,7 @@ fn put_call(
     item: usize,
     name: &Name,
     nodes: &mut Vec<Origin>,
-    sections: &mut Vec<Origins>,
+    sections: &mut Vec<Items<Origin>>,
 ) -> Result<(), AllocError>
     requires { EndsWithin inside.now.procedures.now inside.now.most
         (number_by inside.now.procedures.now name.now) }
@@ -104,7 +104,7 @@ fn put_section(
     inside: &Inside<'_>,
     item: usize,
     body: &Block,
-    sections: &mut Vec<Origins>,
+    sections: &mut Vec<Items<Origin>>,
 ) -> Result<usize, AllocError>
     requires { BlockEnds inside.now.procedures.now (ends inside.now) body.now }
     ensures next { IfOk result (λ n. n ≡ item + items_in_block body.now) }
@@ -115,7 +115,7 @@ fn put_section(
     // No section stands in a section.
     let mut none = Vec::new(inside.alloc);
     let next = put_block(inside, item, body, &mut nodes, &mut none)?;
-    sections.push(Origins::new(nodes))?;
+    sections.push(Items::from_vec(nodes))?;
     Ok(next)
 }
 
@@ -126,7 +126,7 @@ fn put_statement(
     item: usize,
     statement: &Statement,
     nodes: &mut Vec<Origin>,
-    sections: &mut Vec<Origins>,
+    sections: &mut Vec<Items<Origin>>,
 ) -> Result<usize, AllocError>
     requires { StatementEnds inside.now.procedures.now (ends inside.now) (statement_of statement.now) }
     ensures next { IfOk result (λ n. n ≡ item + items_in_statement (statement_of statement.now)) }
@@ -172,7 +172,7 @@ fn put_block(
     item: usize,
     block: &Block,
     nodes: &mut Vec<Origin>,
-    sections: &mut Vec<Origins>,
+    sections: &mut Vec<Items<Origin>>,
 ) -> Result<usize, AllocError>
     requires { BlockEnds inside.now.procedures.now (ends inside.now) block.now }
     ensures next { IfOk result (λ n. n ≡ item + items_in_block block.now) }
@@ -194,8 +194,8 @@ fn put_threads(
     inside: &Inside<'_>,
     item: usize,
     threads: &[Thread],
-    out: &mut Vec<Origins>,
-    sections: &mut Vec<Origins>,
+    out: &mut Vec<Items<Origin>>,
+    sections: &mut Vec<Items<Origin>>,
 ) -> Result<(), AllocError>
     requires own { inside.now.call ≡ None }
     requires known { ThreadsEnd inside.now.procedures.now (ends inside.now) threads.now }
@@ -210,7 +210,7 @@ fn put_threads(
         let body = past(locals, thread.locals.as_slice().len())?;
         let mut nodes = Vec::new(inside.alloc);
         next = put_block(inside, body, &thread.body, &mut nodes, sections)?;
-        out.push(Origins::new(nodes))?;
+        out.push(Items::from_vec(nodes))?;
     }
     Ok(())
 }

@@ -2,6 +2,7 @@
 
 ghost use Rattle.std.specs.Prelude.{◌≡◌, ◌<◌, length, slice_get, Some};
 
+use sect_front::Items;
 use std::marker::Model;
 
 /// Where a node comes from.
@@ -14,42 +15,11 @@ pub struct Origin {
     pub call: Option<usize>,
 }
 
-/// Where the nodes of a text come from, by their numbers.
-#[derive(Drop)]
-pub struct Origins {
-    list: Vec<Origin>,
-}
-
-impl Model for Origins {
-    ghost use Rattle.std.specs.Prelude.{List};
-    ghost use Rattle.sect_places.specs.declared.origin.Origin.{Origin};
-
-    ghost Value = { List Origin };
-
-    ghost view = { λ o. o.list.items };
-}
-
-impl Origins {
-    /// Where these nodes come from.
-    pub fn new(list: Vec<Origin>) -> Origins
-        ensures { result ≡ list.items }
-    {
-        Origins { list }
-    }
-
-    /// Where each node comes from.
-    pub fn as_slice(&self) -> &[Origin]
-        ensures { result.now ≡ self.now }
-    {
-        self.list.as_slice()
-    }
-}
-
 /// Where the nodes of each thread and of each section of a program come from.
 #[derive(Drop)]
 pub struct NodeOrigins {
-    threads: Vec<Origins>,
-    sections: Vec<Origins>,
+    threads: Vec<Items<Origin>>,
+    sections: Vec<Items<Origin>>,
 }
 
 impl Model for NodeOrigins {
@@ -62,7 +32,7 @@ impl Model for NodeOrigins {
 
 impl NodeOrigins {
     /// Those of each thread and of each section.
-    pub fn new(threads: Vec<Origins>, sections: Vec<Origins>) -> NodeOrigins
+    pub fn new(threads: Vec<Items<Origin>>, sections: Vec<Items<Origin>>) -> NodeOrigins
         ensures { result ≡ record { threads = threads.items; sections = sections.items } }
     {
         NodeOrigins { threads, sections }
@@ -77,14 +47,14 @@ impl NodeOrigins {
     }
 
     /// Where the nodes of each thread come from, a section being one node.
-    pub fn threads(&self) -> &[Origins]
+    pub fn threads(&self) -> &[Items<Origin>]
         ensures { result.now ≡ self.now.threads }
     {
         self.threads.as_slice()
     }
 
     /// Where the nodes of each section come from.
-    pub fn sections(&self) -> &[Origins]
+    pub fn sections(&self) -> &[Items<Origin>]
         ensures { result.now ≡ self.now.sections }
     {
         self.sections.as_slice()

@@ -7,9 +7,9 @@ ghost use Rattle.sect_places.specs.steps.Placed.{IsAmong, IsPlaced};
 
 use crate::items::tree_spans;
 use crate::nodes::node_origins;
-use crate::origin::{Origin, Origins};
+use crate::origin::Origin;
 use crate::sections::section_items;
-use sect_front::Span;
+use sect_front::{Items, Span};
 use sect_types::Program;
 use std::alloc::{AllocError, Global};
 use std::marker::Model;
@@ -115,7 +115,7 @@ fn text_spans(alloc: Global, spans: &[Span], origins: &[Origin]) -> Result<TextS
 fn texts_spans(
     alloc: Global,
     spans: &[Span],
-    texts: &[Origins],
+    texts: &[Items<Origin>],
 ) -> Result<Vec<TextSpans>, AllocError>
     requires { All (All (IsPlaced (length spans.now))) texts.now }
     ensures { IfOk result (λ lists. lists.items ≡ map (map (node_span spans.now)) texts.now) }

@@ -135,7 +135,8 @@ same_run p t r =
       by (Some f) = same_section p t r f
 
 -- what a list of choices tells of one that is there
-told_there : {A B : Type 0} (g : A → B) (o : Option A) (v : B) → option_map g o ≡ Some v → (x : A) × (o ≡ Some x) × (g x ≡ v)
+told_there : {A B : Type 0} (g : A → B) (o : Option A) (v : B) → option_map g o ≡ Some v
+    → (x : A) × (o ≡ Some x) × (g x ≡ v)
 told_there g None v e = absurd (none_or_some v e)
 told_there g (Some x) v e = (x, refl, some_injective (g x) v e)
 

@@ -120,7 +120,8 @@ mutual
 -- the sections of a body are numbered from the next one on
 mutual
   pub statement_numbers : (d : Declared) (ps : List Procedure) (table : List Sums) (call : Writer) → CallsFlat call
-      → CallsKeep call → (ls : List Declaration) (at : Place) (v : Scene) (a : NextNumbers) (s : StatementView) (k : TextView)
+      → CallsKeep call → (ls : List Declaration) (at : Place) (v : Scene) (a : NextNumbers) (s : StatementView)
+        (k : TextView)
       → IsCleanStatement d ls at s → AreNumbered (a.sections + statement_sections s) k
       → AreNumbered a.sections (written_statement ps table call v a s k)
   statement_numbers d ps table call f n ls at v a (Primitive p) k h g = subst (λ i. AreNumbered i k) (omega arith) g
@@ -320,7 +321,8 @@ abbrev pub sections_in : List Thread → ℕ
 sections_in [] = 0
 sections_in (h ∷ hs) = block_sections h.body + sections_in hs
 
-pub threads_sectioned : (t : TreeView) → AreClean (declared_in t) t.procedures → (a : NextNumbers) (i : ℕ) (hs : List Thread)
+pub threads_sectioned : (t : TreeView) → AreClean (declared_in t) t.procedures
+    → (a : NextNumbers) (i : ℕ) (hs : List Thread)
     → AreCleanThreads (declared_in t) hs → length (sections_from i (written_threads t a hs)) ≡ sections_in hs
 threads_sectioned t c a i [] g = refl
 threads_sectioned t c a i (h ∷ hs) g =

@@ -71,7 +71,8 @@ behind : (t : TreeView) (a next : NextNumbers) (h : Thread)
 behind t a next h p = record { same_sites = sym p.of_sites; same_sections = sym p.of_sections }
 
 -- one thread more
-goes_on : (t : TreeView) (now next : NextNumbers) (h : Thread) (rest : List Thread) (texts : List TextView) (text : TextView)
+goes_on : (t : TreeView) (now next : NextNumbers) (h : Thread) (rest : List Thread) (texts : List TextView)
+    (text : TextView)
     → AreExpanded t now (h ∷ rest) texts → text ≡ written_thread t now h
     → IsPast (at_thread now h) next (block_sums t.procedures (sums t.procedures) h.body) (block_sections h.body)
     → AreExpanded t next rest (texts ++ text ∷ [])
@@ -104,7 +105,8 @@ pub thread_few : (t : TreeView) (now : NextNumbers) (hs : List Thread) (i : ℕ)
     → h ≡ get_or hs i h → AreExpanded t now (drop i hs) texts → length h.locals ≤ most_locals
 thread_few t now hs i h texts lt is e = (next_thread t now hs i h texts lt is e).room.0
 
-room_for : (t : TreeView) (a : NextNumbers) (hs : List Thread) → a.sites + (thread_sums (declared_in t) hs).sites ≤ most_sites
+room_for : (t : TreeView) (a : NextNumbers) (hs : List Thread)
+    → a.sites + (thread_sums (declared_in t) hs).sites ≤ most_sites
     → a.sections + sections_in hs ≤ most_sections → HaveFewLocals hs
     → (thread_sums (declared_in t) hs).statements ≤ most_statements
     → RoomFor t a hs
@@ -123,7 +125,8 @@ room_for t a (h ∷ hs) sites sections locals statements =
     )
 
 -- at the start
-pub at_start : (t : TreeView) (a : NextNumbers) → a ≡ record { sites = length t.globals; sections = 0; fresh = 0 } → IsTyped t
+pub at_start : (t : TreeView) (a : NextNumbers) → a ≡ record { sites = length t.globals; sections = 0; fresh = 0 }
+    → IsTyped t
     → AreExpanded t a t.threads []
 at_start t a e h =
     let few = typed_few t h in

@@ -164,7 +164,8 @@ calls_follow zero rs gs ps q v a vs k l = refl
 calls_follow (suc n) rs gs ps q v a vs k l =
     call_follows rs gs ps (sums_within n ps) (written_within n rs gs ps) (procedure_numbered ps q) q v a vs k l
 
-pub statement_follows : (t : TreeView) (n : ℕ) (s : Sight) (first : ℕ) (a : NextNumbers) (f : StatementView) (k l : TextView)
+pub statement_follows : (t : TreeView) (n : ℕ) (s : Sight) (first : ℕ) (a : NextNumbers) (f : StatementView)
+    (k l : TextView)
     → joined (statement_by t n s first a f k) l ≡ statement_by t n s first a f (joined k l)
 statement_follows t n s first a (Primitive p) k l = refl
 statement_follows t n s first a (If c b) k l = refl
@@ -266,7 +267,8 @@ pub call_by_parts : (t : TreeView) (n fuel q : ℕ) (p : Procedure) (s inner : S
     (ps ls : List Declaration) (vs : List Operand) (old one two new : TextView) → fuel ≡ suc n
     → slice_get t.procedures q ≡ Some p → inner ≡ sight t.records t.globals (variables p) → own ≡ a.fresh
     → ps ≡ p.parameters → ls ≡ p.locals → b ≡ record a { fresh = a.fresh + (length ps + length ls) }
-    → Appends old one (write_parameters (view_of s first) own ps vs) → Appends one two (write_locals (own + length ps) ls)
+    → Appends old one (write_parameters (view_of s first) own ps vs)
+      → Appends one two (write_locals (own + length ps) ls)
     → Appends two new (joined (block_by t n inner own b p.body))
     → Appends old new (calls_by t fuel (Some q) (view_of s first) a vs)
 call_by_parts t n fuel q p s inner first own a b ps ls vs old one two new f e i o x y c g h j k =
@@ -354,14 +356,16 @@ either_written t n s first a m f v b d c p q old new e g h past i j k =
 
 pub while_written : (t : TreeView) (n : ℕ) (s : Sight) (first : ℕ) (a : NextNumbers) (f : StatementView) (v : Test)
     (b : BlockView)
-    (c : Condition) (inner old new : TextView) → f ≡ While v b → c ≡ moved_condition first (condition_in (condition_of s v))
+    (c : Condition) (inner old new : TextView) → f ≡ While v b
+      → c ≡ moved_condition first (condition_in (condition_of s v))
     → inner ≡ block_by t n s first a b → new ≡ joined old (Loop c inner Stop)
     → Appends old new (statement_by t n s first a f)
 while_written t n s first a f v b c inner old new e g h j k =
     pushed old new (step.While c inner) j k ∙ (λ z. joined old (Loop (g z) (h z) k))
     ∙ ap (λ y. joined old (statement_by t n s first a y k)) (sym e)
 
-pub section_written : (t : TreeView) (n : ℕ) (s : Sight) (first : ℕ) (a m : NextNumbers) (f : StatementView) (lock : Locking)
+pub section_written : (t : TreeView) (n : ℕ) (s : Sight) (first : ℕ) (a m : NextNumbers) (f : StatementView)
+    (lock : Locking)
     (b : BlockView) (number : ℕ) (inner old new : TextView) → f ≡ Atomic lock b → number ≡ a.sections
     → m ≡ record a { sections = a.sections + 1 } → inner ≡ block_by t n s first m b
     → new ≡ joined old (Section number inner Stop) → Appends old new (statement_by t n s first a f)

@@ -5,7 +5,6 @@ ghost use Rattle.sect_types.specs.{First.{IsTyped}, Unfolding.{SumsUnfold, SumsC
 
 /// In a typed text each call is expanded to its end: what it comes to, its text and its fresh locals are those of its
 /// procedure, the calls in it likewise.
-#[tactic(auto, using(crate::proofs::Unfolding::sums_unfold, crate::proofs::Unfolding::texts_unfold, crate::proofs::Unfolding::fresh_unfold))]
 pub fn calls_unfold()
     ensures sums { (t : TreeView) → IsTyped t → SumsUnfold t }
     ensures texts { (t : TreeView) → IsTyped t → TextsUnfold t }

@@ -15,7 +15,7 @@ pub use declarations::limits::{
     MOST_STATEMENTS, MOST_THREADS, limits_of_programs,
 };
 pub use declarations::local_name::LocalName;
-pub use declarations::types::{Types, ValueType};
+pub use declarations::types::ValueType;
 pub use expansion::action::{Action, Base, Condition, Field, Label, Value};
 pub use expansion::text::{Step, Text};
 pub use laws::{calls_unfold, sums_are_of_texts};

@@ -25,9 +25,9 @@ use crate::declarations::declare::{Declared, globals, known_records, locals, pas
 use crate::declarations::local_name::LocalName;
 use crate::declarations::names::Names;
 use crate::declarations::shown::Shown;
-use crate::declarations::types::{Types, field_types, global_records, local_types};
+use crate::declarations::types::{ValueType, field_types, global_records, local_types};
 use crate::declarations::variables::{Variables, all_of};
-use crate::expansion::expand::{FreshLocals, Setting, expand};
+use crate::expansion::expand::{Fresh, Setting, expand};
 use crate::expansion::locking::lockings;
 use crate::expansion::text::Text;
 use crate::rules::called::Called;
@@ -36,7 +36,7 @@ use crate::rules::rule::{TypeFault, WalkFault};
 use crate::rules::scope::Scope;
 use crate::rules::spot::Spot;
 use crate::rules::walk::walk_block;
-use sect_front::{Locking, Procedure, Thread, Tree, is_same};
+use sect_front::{Items, Locking, Procedure, Thread, Tree, is_same};
 use std::alloc::{AllocError, Global};
 use std::marker::Model;
 
@@ -224,10 +224,10 @@ fn threads(
 /// What a program keeps beside its tree.
 #[derive(Drop)]
 struct Parts {
-    records: Vec<Types>,
+    records: Vec<Items<ValueType>>,
     globals: Vec<u16>,
-    locals: Vec<Types>,
-    fresh: Vec<FreshLocals>,
+    locals: Vec<Items<ValueType>>,
+    fresh: Vec<Items<Fresh>>,
     texts: Vec<Text>,
     lockings: Vec<Locking>,
     section_count: u16,
@@ -330,10 +330,10 @@ fn judge_tree(alloc: Global, tree: &Tree, spot: &mut Spot) -> Result<Parts, Walk
 /// in text order.
 pub struct Program {
     tree: Tree,
-    records: Vec<Types>,
+    records: Vec<Items<ValueType>>,
     globals: Vec<u16>,
-    locals: Vec<Types>,
-    fresh: Vec<FreshLocals>,
+    locals: Vec<Items<ValueType>>,
+    fresh: Vec<Items<Fresh>>,
     texts: Vec<Text>,
     lockings: Vec<Locking>,
     section_count: u16,
@@ -415,7 +415,7 @@ impl Program {
     }
 
     /// The types of the fields of each record.
-    pub fn records(&self) -> &[Types]
+    pub fn records(&self) -> &[Items<ValueType>]
         ensures { result.now ≡ self.now.records }
     {
         self.records.as_slice()
@@ -429,7 +429,7 @@ impl Program {
     }
 
     /// The types of the locals of each thread.
-    pub fn locals(&self) -> &[Types]
+    pub fn locals(&self) -> &[Items<ValueType>]
         ensures { result.now ≡ self.now.locals }
     {
         self.locals.as_slice()

@@ -12,7 +12,8 @@ use Rattle.sect_warnings.specs.{Placed.{PlacedView}, Reports.{IsPlaced, AreWithi
 use Rattle.sect_warnings.specs.declared.warning.Told.TheVariants as told
 
 -- a warning with the bytes that are marked for it, where these are the bytes of all tokens and the tokens of all items
-pub record IsPut (source : List ℕ) (names : List NameSpan) (c : CompiledView) (tokens : List Span) (ranges : List TokenRange) (w : Warning) (p : PlacedView)
+pub record IsPut (source : List ℕ) (names : List NameSpan) (c : CompiledView) (tokens : List Span)
+    (ranges : List TokenRange) (w : Warning) (p : PlacedView)
     : Type 0
   where
     pub told : p.told ≡ told.Section w
@@ -23,11 +24,13 @@ pub record IsPut (source : List ℕ) (names : List NameSpan) (c : CompiledView) 
     pub label : p.label ≡ mark.label
     pub note : p.note ≡ mark.note
 
-module _ (source : List ℕ) (names : List NameSpan) (c : CompiledView) (tokens : List Span) (ranges : List TokenRange) where
+module _ (source : List ℕ) (names : List NameSpan) (c : CompiledView) (tokens : List Span)
+  (ranges : List TokenRange) where
   -- they are those of a text's tokens and of its tree's items
   pub all_placed : (spelled : IsSpelled source c.scheme.program.source)
       → tokens ≡ map token_span spelled.places → ranges ≡ item_tokens c.scheme.program.source → (ws : List Warning)
-      (ps : List PlacedView) → AllZip (IsPut source names c tokens ranges) ws ps → AllZip (IsPlaced source names c spelled) ws ps
+      (ps : List PlacedView) → AllZip (IsPut source names c tokens ranges) ws ps
+        → AllZip (IsPlaced source names c spelled) ws ps
   all_placed spelled ts rs [] [] each = tt
   all_placed spelled ts rs [] (p ∷ ps) each = absurd each
   all_placed spelled ts rs (w ∷ ws) [] each = absurd each

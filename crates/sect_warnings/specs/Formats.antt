@@ -1,7 +1,7 @@
 -- What is printed of warnings, in each form.
 use Rattle.std.specs.{Prelude.{◌≡◌, ℕ, List, [], ◌∷◌, ◌++◌, codes}, List.{flat_map}}
 use Rattle.serde_json.specs.Written.{compact_text}
-use Rattle.sect_lint.specs.{declared.format.Format.{Format}, declared.format.Format.TheVariants.{Text, Json, Sarif}}
+use Rattle.sect_lint.specs.declared.format.LintFormat.{LintFormat, TheVariants.{Text, Json, Sarif}}
 use Rattle.sect_lint.specs.Formats.{clean}
 use Rattle.sect_emit.specs.Compiled.{CompiledView}
 use Rattle.sect_warnings.specs.{declared.warning.Warning.{Warning}, Placed.{PlacedView}, Warnings.{AreWarnings}}
@@ -14,13 +14,13 @@ unfoldable pub json_line : List ℕ → PlacedView → List ℕ
 json_line source p = compact_text (warning_json source p) ++ codes "\n"
 
 -- some warnings, one after another: their reports, an object a line, or one log
-abbrev pub told : Format → List ℕ → List PlacedView → List ℕ
+abbrev pub told : LintFormat → List ℕ → List PlacedView → List ℕ
 told Text source ps = reports source ps
 told Json source ps = flat_map (json_line source) ps
 told Sarif source ps = compact_text (warnings_log source ps) ++ codes "\n"
 
 -- where there is none, nothing is told
-abbrev pub printed : Format → List ℕ → List PlacedView → List ℕ
+abbrev pub printed : LintFormat → List ℕ → List PlacedView → List ℕ
 printed format source [] = clean format
 printed format source (p ∷ ps) = told format source (p ∷ ps)
 
@@ -33,6 +33,6 @@ AreAllPlaced source c all =
     × AreSpares c.scheme names spares × (all ≡ ps ++ spares)
 
 -- the bytes are what is printed of that
-abbrev pub AreWarningsPrinted : List ℕ → CompiledView → Format → List ℕ → Type 0
+abbrev pub AreWarningsPrinted : List ℕ → CompiledView → LintFormat → List ℕ → Type 0
 AreWarningsPrinted source c format bytes =
     (all : List PlacedView) × AreAllPlaced source c all × (bytes ≡ printed format source all)

@@ -15,7 +15,7 @@ use crate::report::reports_text;
 use crate::sarif::warnings_log;
 use crate::spare::spares;
 use sect_emit::Compiled;
-use sect_lint::{Format, clean_text, compact};
+use sect_lint::{LintFormat, clean_text, compact};
 use sect_places::{LineIndex, tree_names};
 use std::alloc::{AllocError, Global};
 
@@ -67,7 +67,7 @@ fn json_lines(alloc: Global, source: &[u8], placed: &[Placed]) -> Result<String,
 /// Warnings as a log of SARIF.
 fn log_text(alloc: Global, source: &[u8], placed: &[Placed]) -> Result<String, AllocError>
     requires { AreWithin (length source.now) placed.now }
-    ensures { IfOk result (λ text. string_bytes text ≡ told_by Format.Sarif source.now placed.now) }
+    ensures { IfOk result (λ text. string_bytes text ≡ told_by LintFormat.Sarif source.now placed.now) }
 {
     let log = warnings_log(alloc, source, placed)?;
     let mut text = compact(alloc, &log)?;
@@ -80,15 +80,15 @@ fn told(
     alloc: Global,
     source: &[u8],
     placed: &[Placed],
-    format: Format,
+    format: LintFormat,
 ) -> Result<String, AllocError>
     requires { AreWithin (length source.now) placed.now }
     ensures { IfOk result (λ text. string_bytes text ≡ told_by format source.now placed.now) }
 {
     match format {
-        Format::Text => reports_text(alloc, source, placed),
-        Format::Json => json_lines(alloc, source, placed),
-        Format::Sarif => log_text(alloc, source, placed),
+        LintFormat::Text => reports_text(alloc, source, placed),
+        LintFormat::Json => json_lines(alloc, source, placed),
+        LintFormat::Sarif => log_text(alloc, source, placed),
     }
 }
 
@@ -97,7 +97,7 @@ fn printed(
     alloc: Global,
     source: &[u8],
     placed: &[Placed],
-    format: Format,
+    format: LintFormat,
 ) -> Result<String, AllocError>
     requires { AreWithin (length source.now) placed.now }
     ensures { IfOk result (λ text. string_bytes text ≡ printed_by format source.now placed.now) }
@@ -137,7 +137,7 @@ pub fn warnings_as(
     alloc: Global,
     source: &[u8],
     compiled: &Compiled,
-    format: Format,
+    format: LintFormat,
 ) -> Result<String, AllocError>
     requires { IsSpelled source.now compiled.now.scheme.program.source }
     ensures { IfOk result (λ text. AreWarningsPrinted source.now compiled.now format (string_bytes text)) }

@@ -47,7 +47,8 @@ mapped_at g (y ∷ xs) zero x at = ap (λ z. Some (g z)) (some_injective y x at)
 mapped_at g (y ∷ xs) (suc n) x at = mapped_at g xs n x at
 
 -- an element put in a list, and its image in the list of images
-pub map_put : {A B : Type 0} (f : A → B) (t : ℕ) (x : A) (xs : List A) → map f (put_at t x xs) ≡ put_at t (f x) (map f xs)
+pub map_put : {A B : Type 0} (f : A → B) (t : ℕ) (x : A) (xs : List A)
+    → map f (put_at t x xs) ≡ put_at t (f x) (map f xs)
 map_put f t x [] = refl
 map_put f zero x (z ∷ xs) = refl
 map_put f (suc t) x (z ∷ xs) = ap (λ zs. f z ∷ zs) (map_put f t x xs)
@@ -210,7 +211,8 @@ module _ (c : CompiledView) (compiled : IsCompiled c) (fuel : ℕ) (order : List
       let at = at_lone store output (outside g) in
       let none = not_ended g moves in
       let more = ((kept (lone store output (outside g)) came).threads t (outside g) at).at.1 none in
-      came_on c fuel order (lone store output (outside g)) (lone store output (outside (local_step (program_of c) t g))) t
+      came_on c fuel order (lone store output (outside g))
+        (lone store output (outside (local_step (program_of c) t g))) t
       Local came (
         outside g,
         at,
@@ -226,11 +228,13 @@ module _ (c : CompiledView) (compiled : IsCompiled c) (fuel : ℕ) (order : List
       → Reached c fuel order (lone store output (outside g))
       → Reached c fuel order (lone store output (outside (up_to n (program_of c) t g)))
   local_on zero g store output came = came
-  local_on (suc n) g store output came = by (is_standing g) refl (local_on n (local_step (program_of c) t g) store output)
+  local_on (suc n) g store output came = by (is_standing g) refl
+    (local_on n (local_step (program_of c) t g) store output)
     where
       by : (b : Bool) → is_standing g ≡ b
           → (Reached c fuel order (lone store output (outside (local_step (program_of c) t g)))
-          → Reached c fuel order (lone store output (outside (up_to n (program_of c) t (local_step (program_of c) t g)))))
+          → Reached c fuel order (lone store output
+            (outside (up_to n (program_of c) t (local_step (program_of c) t g)))))
           → Reached c fuel order
           (lone store output (outside (if b then g else up_to n (program_of c) t (local_step (program_of c) t g))))
       by true stands later = came
@@ -281,7 +285,8 @@ module _ (c : CompiledView) (compiled : IsCompiled c) (fuel : ℕ) (order : List
   }
 
   ReachedEnd : ℕ → TextView → List ℤ → Left → Type 0
-  ReachedEnd i rest output left = (hs : List Grip) × Reached c fuel order (lone (store_left left) output (over i rest left hs))
+  ReachedEnd i rest output left = (hs : List Grip)
+    × Reached c fuel order (lone (store_left left) output (over i rest left hs))
 
   -- one step in the section, and what follows
   one_act : (i : ℕ) (k rest : TextView) (w : WorkView) (hs : List Grip) (store : StoreView) (output : List ℤ)
@@ -393,7 +398,8 @@ module _ (c : CompiledView) (compiled : IsCompiled c) (fuel : ℕ) (order : List
   go_through i body rest w store output came =
       let g : FrameView = record { text = Section i body rest; work = w; ended = None } in
       let plan : List Grip = plan_at c i store w.locals in
-      let in_first = came_on c fuel order (lone store output (outside g)) (lone store output (entered g plan [])) t Enter
+      let in_first = came_on c fuel order (lone store output (outside g))
+        (lone store output (entered g plan [])) t Enter
       came (
         outside g,
         at_lone store output (outside g),

@@ -20,7 +20,8 @@ whole_sections c compiled fuel [] before r after came is =
 whole_sections c compiled fuel (t ∷ ts) before r after came is =
     by (run_section (program_of c) t r) refl is
     (λ q next. whole_sections c compiled fuel ts (before ++ t ∷ []) q after next) where
-      by : (o : Option RunView) → run_section (program_of c) t r ≡ o → option_then o (in_order (program_of c) ts) ≡ Some after
+      by : (o : Option RunView) → run_section (program_of c) t r ≡ o
+          → option_then o (in_order (program_of c) ts) ≡ Some after
           → ((q : RunView) → Reached c fuel (before ++ t ∷ []) (resting q) → in_order (program_of c) ts q ≡ Some after
           → Reached c fuel ((before ++ t ∷ []) ++ ts) (resting after))
           → Reached c fuel (before ++ t ∷ ts) (resting after)

@@ -1,10 +1,12 @@
--- A tree may be read by several threads at a time.
+-- A tree may be read by several threads at a time, and a list of what may be read so.
+use denote.RattleType.{RattleType}
 use denote.Param.Send.{IsSync, sendable}
 use Rattle.sect_front.specs.contracts.tree.Tree as tree
 use Rattle.sect_front.specs.contracts.tree.Thread as thread
 use Rattle.sect_front.specs.contracts.tree.Procedure as procedure
 use Rattle.sect_front.specs.contracts.tree.Block as block
 use Rattle.sect_front.specs.contracts.tree.Locking as locking_shown
+use Rattle.sect_front.specs.contracts.items.Items as items_shown
 use Rattle.sect_front.proofs.tree.Block.TheLaws.TheKnot as knot
 use Rattle.sect_front.proofs.tree.Declarations.TheSendSync as declarations
 use Rattle.sect_front.proofs.tree.Record.TheSendSync as records
@@ -18,6 +20,9 @@ use Rattle.sect_front.proofs.tree.Locking.TheSendSync as locking
 use Rattle.sect_front.proofs.name.Name.TheSendSync as name
 use Rattle.std.proofs.vec.Vec.TheSendSync as vec
 use Rattle.std.proofs.alloc.Global.TheSendSync as heap
+
+pub items_sync : (T : RattleType) → IsSync T → IsSync (items_shown.the_row T)
+items_sync = items.the_sync
 
 pub locking_sync : IsSync locking_shown.the_row
 locking_sync = locking.the_sync

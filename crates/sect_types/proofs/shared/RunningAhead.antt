@@ -47,7 +47,8 @@ abbrev pub StandsOrSpent : ℕ → FrameView → Type 0
 StandsOrSpent n f = (is_standing f ≡ true) ⊎ (suc f.work.fuel ≡ n)
 
 -- a step takes a unit of fuel, or ends the thread
-pub step_spends : (p : ProgramView) (t : ℕ) (k : TextView) (found : Option ObjectView) (w : WorkView) → begins_step k ≡ true
+pub step_spends : (p : ProgramView) (t : ℕ) (k : TextView) (found : Option ObjectView) (w : WorkView)
+    → begins_step k ≡ true
     → StandsOrSpent w.fuel (frame_after k (next p t k found w))
 step_spends p t Stop found w b = absurd (true≢false (sym b))
 step_spends p t (Do a r) found w b = pay w.fuel where

@@ -10,10 +10,9 @@ ghost use Rattle.sect_types.specs.steps.FreshTypes.{fresh_types as fresh_types_b
 ghost use Rattle.sect_types.specs.steps.FreshTypes.{fresh_known, all_fresh_known};
 
 use crate::declarations::names::Names;
-use crate::expansion::expand::FreshLocals;
-use sect_front::{Declaration, GlobalObject, Kind, Name, Record, Thread};
+use crate::expansion::expand::Fresh;
+use sect_front::{Declaration, GlobalObject, Items, Kind, Name, Record, Thread};
 use std::alloc::{AllocError, Global};
-use std::marker::Model;
 
 /// What a field or a local holds.
 #[derive(Clone, Copy, Debug, PartialEq, Eq)]
@@ -22,48 +21,6 @@ pub enum ValueType {
     Int,
     /// `null`, or a reference to an object of the record of this number.
     Refers(u16),
-}
-
-/// The types of the fields of a record or of the locals of a thread, by number.
-#[derive(Drop)]
-pub struct Types {
-    list: Vec<ValueType>,
-}
-
-impl Model for Types {
-    ghost use Rattle.std.specs.Prelude.{List};
-    ghost use Rattle.sect_types.specs.declared.declarations.types.ValueType.{ValueType};
-
-    ghost Value = { List ValueType };
-
-    ghost view = { λ t. t.list.items };
-}
-
-impl Types {
-    /// No types.
-    pub(crate) fn new(alloc: Global) -> Types
-        ensures { result ≡ [] }
-    {
-        Types {
-            list: Vec::new(alloc),
-        }
-    }
-
-    /// Adds a type at the end.
-    pub(crate) fn push(&mut self, of: ValueType) -> Result<(), AllocError>
-        ensures ok { OnOk result (self.new ≡ self.old ++ of ∷ []) }
-        ensures err { OnErr result (self.new ≡ self.old) }
-    {
-        self.list.push(of)?;
-        Ok(())
-    }
-
-    /// The types, by number.
-    pub fn as_slice(&self) -> &[ValueType]
-        ensures { result.now ≡ self.now }
-    {
-        self.list.as_slice()
-    }
 }
 
 /// The number of a record that is known.
@@ -87,11 +44,15 @@ fn type_of(record_names: &Names, kind: &Kind) -> ValueType
 }
 
 /// The types of these declarations.
-fn types_of(alloc: Global, record_names: &Names, list: &[Declaration]) -> Result<Types, AllocError>
+fn types_of(
+    alloc: Global,
+    record_names: &Names,
+    list: &[Declaration],
+) -> Result<Items<ValueType>, AllocError>
     requires { all_known record_names.now list.now ≡ true }
     ensures { IfOk result (λ types. types ≡ types_by record_names.now list.now) }
 {
-    let mut types = Types::new(alloc);
+    let mut types = Items::new(alloc);
     for declaration in list {
         types.push(type_of(record_names, &declaration.kind))?;
     }
@@ -103,7 +64,7 @@ pub(crate) fn field_types(
     alloc: Global,
     record_names: &Names,
     records: &[Record],
-) -> Result<Vec<Types>, AllocError>
+) -> Result<Vec<Items<ValueType>>, AllocError>
     requires { fields_fine record_names.now records.now ≡ true }
     ensures { IfOk result (λ all. all.items ≡ field_types_by record_names.now records.now) }
 {
@@ -136,8 +97,8 @@ fn all_types_of(
     alloc: Global,
     record_names: &Names,
     thread: &Thread,
-    fresh: &FreshLocals,
-) -> Result<Types, AllocError>
+    fresh: &Items<Fresh>,
+) -> Result<Items<ValueType>, AllocError>
     requires own { all_known record_names.now thread.now.locals ≡ true }
     requires fresh { fresh_known record_names.now fresh.now ≡ true }
     ensures { IfOk result (λ types. types ≡ types_by record_names.now thread.now.locals
@@ -155,8 +116,8 @@ pub(crate) fn local_types(
     alloc: Global,
     record_names: &Names,
     threads: &[Thread],
-    fresh: &[FreshLocals],
-) -> Result<Vec<Types>, AllocError>
+    fresh: &[Items<Fresh>],
+) -> Result<Vec<Items<ValueType>>, AllocError>
     requires many { length threads.now ≡ length fresh.now }
     requires own { locals_fine record_names.now threads.now ≡ true }
     requires fresh { all_fresh_known record_names.now fresh.now ≡ true }

@@ -25,7 +25,8 @@ use crate::expansion::text::{Step, Text};
 use crate::rules::called::Called;
 use crate::rules::scope::Scope;
 use sect_front::{
-    Block, Declaration, Kind, Literal, Name, Operand, Primitive, Procedure, Statement, Thread, Tree,
+    Block, Declaration, Items, Kind, Literal, Name, Operand, Primitive, Procedure, Statement,
+    Thread, Tree,
 };
 use std::alloc::{AllocError, Global};
 use std::marker::Model;
@@ -374,30 +375,6 @@ fn expand_block(
     Ok(())
 }
 
-/// The fresh locals of a thread.
-#[derive(Drop)]
-pub struct FreshLocals {
-    list: Vec<Fresh>,
-}
-
-impl Model for FreshLocals {
-    ghost use Rattle.std.specs.Prelude.{List};
-    ghost use Rattle.sect_types.specs.declared.expansion.expand.Fresh.{Fresh};
-
-    ghost Value = { List Fresh };
-
-    ghost view = { λ f. f.list.items };
-}
-
-impl FreshLocals {
-    /// The fresh locals, by number after those that the thread declares.
-    pub fn as_slice(&self) -> &[Fresh]
-        ensures { result.now ≡ self.now }
-    {
-        self.list.as_slice()
-    }
-}
-
 /// The expanded text of a thread, with its fresh locals.
 fn expand_thread(
     setting: &Setting<'_>,
@@ -405,7 +382,7 @@ fn expand_thread(
     sections: &mut u16,
     thread: &Thread,
     names: &Names,
-) -> Result<(Text, FreshLocals), AllocError>
+) -> Result<(Text, Items<Fresh>), AllocError>
     requires few { length thread.now.locals ≤ most_locals }
     requires names { names.now ≡ names_of_declared thread.now.locals }
     requires fits { Fits (thread_end setting.now sites.old sections.old thread.now) }
@@ -436,7 +413,7 @@ fn expand_thread(
     expand_block(&inside, &mut front, &thread.body, &mut text)?;
     *sites = front.sites;
     *sections = front.sections;
-    Ok((text, FreshLocals { list: front.fresh }))
+    Ok((text, Items::from_vec(front.fresh)))
 }
 
 /// The expanded texts of all threads, with the fresh locals of each.
@@ -444,7 +421,7 @@ pub fn expand(
     setting: &Setting<'_>,
     threads: &[Thread],
     local_names: &[Names],
-) -> Result<(Vec<Text>, Vec<FreshLocals>), AllocError>
+) -> Result<(Vec<Text>, Vec<Items<Fresh>>), AllocError>
     requires globals { length setting.now.globals ≤ most_globals }
     requires names { local_names.now ≡ names_of_locals threads.now }
     requires fits { AllFit setting.now (length setting.now.globals) 0 threads.now }

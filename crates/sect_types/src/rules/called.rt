@@ -9,7 +9,7 @@ ghost use Rattle.sect_types.specs.steps.Called.{AreCallers, AreCallersBefore, Ar
 ghost use Rattle.sect_types.specs.steps.{Called.{Grows, Calls}, Standing.{AreReturning}};
 
 use indexmap::IndexMap;
-use sect_front::{Block, Name, Procedure, Statement};
+use sect_front::{Block, Items, Name, Procedure, Statement};
 use std::alloc::{AllocError, Global};
 use std::marker::Model;
 
@@ -26,46 +26,6 @@ fn numbers_of(alloc: Global, procedures: &[Procedure]) -> Result<IndexMap<Name, 
         }
     }
     Ok(numbers)
-}
-
-/// Numbers of procedures.
-#[derive(Drop)]
-struct Callers {
-    list: Vec<usize>,
-}
-
-impl Model for Callers {
-    ghost use Rattle.std.specs.Prelude.{List, ℕ};
-
-    ghost Value = { List ℕ };
-
-    ghost view = { λ c. c.list.items };
-}
-
-impl Callers {
-    /// No procedures.
-    fn new(alloc: Global) -> Callers
-        ensures { result ≡ [] }
-    {
-        Callers {
-            list: Vec::new(alloc),
-        }
-    }
-
-    /// Adds a procedure at the end.
-    fn push(&mut self, number: usize) -> Result<(), AllocError>
-        ensures { OnOk result (self.new ≡ self.old ++ number ∷ []) }
-    {
-        self.list.push(number)?;
-        Ok(())
-    }
-
-    /// The procedures.
-    fn as_slice(&self) -> &[usize]
-        ensures { result.now ≡ self.now }
-    {
-        self.list.as_slice()
-    }
 }
 
 /// The procedures that a statement calls.
@@ -119,7 +79,7 @@ fn put_block(
 /// Adds procedure `number` to the callers of each that it calls.
 fn put_callers(
     alloc: Global,
-    callers: &mut Vec<Callers>,
+    callers: &mut Vec<Items<usize>>,
     numbers: &IndexMap<Name, usize>,
     procedures: &[Procedure],
     number: usize,
@@ -142,13 +102,13 @@ fn callers_of(
     alloc: Global,
     numbers: &IndexMap<Name, usize>,
     procedures: &[Procedure],
-) -> Result<Vec<Callers>, AllocError>
+) -> Result<Vec<Items<usize>>, AllocError>
     requires { (x : List ℕ) → get (pointwise nat_eq) numbers.now x ≡ number_by procedures.now x }
     ensures { IfOk result (λ callers. AreCallers procedures.now callers.items) }
 {
     let mut callers = Vec::new(alloc);
     for _ in procedures {
-        callers.push(Callers::new(alloc))?;
+        callers.push(Items::new(alloc))?;
     }
     for number in 0..procedures.len() {
         put_callers(alloc, &mut callers, numbers, procedures, number)?;
@@ -173,7 +133,7 @@ fn mark(marked: &mut Vec<bool>, found: &mut Vec<usize>, number: usize) -> Result
 pub struct Called<'a> {
     procedures: &'a [Procedure],
     numbers: IndexMap<Name, usize>,
-    callers: Vec<Callers>,
+    callers: Vec<Items<usize>>,
 }
 
 impl Drop for Called<'_> {

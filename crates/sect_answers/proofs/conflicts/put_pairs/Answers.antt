@@ -7,4 +7,5 @@ pub put_conflict-requires : goal.put_conflict-requires
 put_conflict-requires c =
     let pairs = c.args.pairs.now in
     let x = c.pair-item.result in
-    c.requires x (subst (Has pairs) (sym c.pair-item.is) (Has-get_or pairs c.loop-pair.pair-index x c.loop-pair-test.true))
+    c.requires x (subst (Has pairs) (sym c.pair-item.is)
+      (Has-get_or pairs c.loop-pair.pair-index x c.loop-pair-test.true))

@@ -16,6 +16,7 @@ loop-section-preserved c =
       order = omega (arith, inv.order);
       clusters = inv.clusters ++ put.0;
       drawn = subst (λ n. AreClusters v first n (inv.clusters ++ put.0)) next
-          (one_cluster v first (i - first) inv.clusters put.0 inv.drawn (subst (λ n. IsCluster v n put.0) (sym from) put.1));
+          (one_cluster v first (i - first) inv.clusters put.0 inv.drawn
+            (subst (λ n. IsCluster v n put.0) (sym from) put.1));
       printed = put.2 ∙ (ap (λ t. t ++ put.0) inv.printed ∙ append_assoc opening inv.clusters put.0);
     }

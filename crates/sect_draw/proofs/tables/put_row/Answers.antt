@@ -36,5 +36,6 @@ loop-column-preserved c =
           ∙ ap (λ n. widest j rows - n) wide))
           (ap (λ t. old ++ t)
           (sym (next_cell rows row j cell c.loop-column-test.true c.index-row-column.is
-          (ap are_empty (sym (rest_is row (j + 1))) ∙ (sym c.are_empty.ensures ∙ c.if-are_empty.false)))) ∙ c.loop-column.invariant.added rows widths);
+          (ap are_empty (sym (rest_is row (j + 1))) ∙ (sym c.are_empty.ensures ∙ c.if-are_empty.false))))
+            ∙ c.loop-column.invariant.added rows widths);
     }

@@ -71,7 +71,8 @@ returns-in-Err-Unexpected-clause-fault c =
     (passed bytes here r c.loop-here.level token c.in-Some.length read (sym c.lexeme.ensures ∙ c.in-Some.is)))
     (λ behind spells. (
       subst (λ span. SpellingAt bytes span IsUnexpectedAt) (sym span.0)
-          (unexpected_at bytes here r c.loop-here.level (token_here bytes here token) read stuck.reads span.1 behind spells),
+          (unexpected_at bytes here r c.loop-here.level (token_here bytes here token) read stuck.reads span.1
+            behind spells),
       kinds_expected bytes here r c.loop-here.level kinds read taken,
     ))
 

@@ -31,7 +31,8 @@ graph_is c = let at = section_at c in
     at.0 at.1
 
 -- the locks of the section that was read are those of the section of this number
-of_number : {E : Type 0} (c : After-locking) (r : Result LocksView E) (last : List Lock) (of : SectionView) (g : List Node)
+of_number : {E : Type 0} (c : After-locking) (r : Result LocksView E) (last : List Lock) (of : SectionView)
+    (g : List Node)
     → slice_get (sections_of c.args.scheme.now.program.texts) c.args.section ≡ Some of
     → slice_get c.args.scheme.now.graphs.sections c.args.section ≡ Some g → end_locks c.locking.result ≡ last
     → IfOk r (AreLocksOf c.args.scheme.now last (section_shown c.section-thread.result)

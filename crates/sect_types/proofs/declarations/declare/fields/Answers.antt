@@ -12,7 +12,8 @@ loop-field-preserved c =
     field_more (declared_in c.args.tree.now) c.args.list.now c.args.list.now c.loop-field.field-index
     c.field-item.result
     c.loop-field.names c.pass.new.names c.args.spot.now c.loop-field.spot c.pass.new.spot (omega arith)
-    c.field-item.is c.loop-field.invariant after.walks after.names (ap (λ (s : Counts). s.sites) after.counts) after.few after.known
+    c.field-item.is c.loop-field.invariant after.walks after.names (ap (λ (s : Counts). s.sites) after.counts) after.few
+      after.known
 
 pub returns-in_err-pass-clause-walks : goal.returns-in_err-pass-clause-walks
 returns-in_err-pass-clause-walks c =

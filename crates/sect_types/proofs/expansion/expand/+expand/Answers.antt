@@ -75,7 +75,8 @@ expand_call-unwrap-number-requires t c =
     c.args.operands.now c.requires.known)
 
 -- there is room for the call
-room : (t : ℕ) (c : expand_call-After-procedure-procedure t) → CallRoom c.args.front.now c.procedure-procedure.result.now
+room : (t : ℕ) (c : expand_call-After-procedure-procedure t)
+    → CallRoom c.args.front.now c.procedure-procedure.result.now
 room t c =
     let i = c.args.inside.now in
     call_room i.setting.now (i.most - 1) i.most c.args.front.now c.args.name.now c.args.operands.now
@@ -177,7 +178,8 @@ expand_call-expand_block-requires t c =
     let p = c.procedure-procedure.result.now in
     let procedures = i.setting.now.procedures in
     let shown = c.variables-variables.ensures p c.procedure-procedure.ensures.there in
-    let more : i.most ≡ suc (i.most - 1) = one_less i.setting.now i.most (view_of i.scope.now i.first) c.args.front.now c.args.name.now
+    let more : i.most ≡ suc (i.most - 1) = one_less i.setting.now i.most (view_of i.scope.now i.first) c.args.front.now
+      c.args.name.now
     c.args.operands.now c.requires.known in (
       omega (
         arith,
@@ -204,9 +206,11 @@ expand_call-returns-clause-front t c =
     let p = c.procedure-procedure.result.now in
     let shown = c.variables-variables.ensures p c.procedure-procedure.ensures.there in
     call_front i.setting.now (i.most - 1) i.most c.args.front.now c.pass_call.new.self c.expand_block.new.front
-    c.args.name.now c.args.operands.now c.unwrap-number.result p c.as_slice-2.result.now c.procedure-procedure.ensures.flat
+    c.args.name.now c.args.operands.now c.unwrap-number.result p c.as_slice-2.result.now
+      c.procedure-procedure.ensures.flat
     (one_less i.setting.now i.most (view_of i.scope.now i.first) c.args.front.now c.args.name.now
-    c.args.operands.now c.requires.known) (sym c.number_of.ensures ∙ c.unwrap-number.ensures) c.procedure-procedure.ensures.there
+    c.args.operands.now c.requires.known) (sym c.number_of.ensures ∙ c.unwrap-number.ensures)
+      c.procedure-procedure.ensures.there
     (c.as_slice-2.ensures ∙ ap (λ (v : VariablesView). v.list) shown) c.in_ok-pass_call.ensures
     c.in_ok-expand_block.ensures.front
 
@@ -221,7 +225,8 @@ expand_call-returns-clause-text t c =
     call_text i.setting.now (i.most - 1) i.most c.args.front.now c.pass_call.new.self c.args.name.now
     c.args.operands.now c.unwrap-number.result p i.scope.now c.scope-scope.result i.first c.next-fresh.result
     c.as_slice-parameters.result.now c.as_slice.result.now c.as_slice-2.result.now c.args.out.now
-    c.put_parameters.new.out c.put_cleared.new.out c.expand_block.new.out (one_less i.setting.now i.most (view_of i.scope.now i.first) c.args.front.now c.args.name.now
+    c.put_parameters.new.out c.put_cleared.new.out c.expand_block.new.out
+      (one_less i.setting.now i.most (view_of i.scope.now i.first) c.args.front.now c.args.name.now
     c.args.operands.now c.requires.known)
     (sym c.number_of.ensures ∙ c.unwrap-number.ensures) there own c.in_ok-pass_call.ensures
     (c.scope-scope.ensures ∙ ap (sight i.setting.now.records i.setting.now.globals) same) c.next-fresh.ensures

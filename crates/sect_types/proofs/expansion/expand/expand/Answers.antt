@@ -28,7 +28,8 @@ loop-number-init c =
     (AreWritten c.args.setting.now c.args.threads.now c.args.threads.now (length c.globals.result.now) 0 [])
     (sym c.new-fresh.ensures.items)
     (starts c.args.setting.now c.args.threads.now (length c.globals.result.now)
-    (ap length c.globals.ensures ∙ ap (λ (w : SettingView). length w.globals) c.setting.view_is) c.requires.fits c.requires.known))
+    (ap length c.globals.ensures ∙ ap (λ (w : SettingView). length w.globals) c.setting.view_is) c.requires.fits
+      c.requires.known))
 
 pub loop-number-preserved : goal.loop-number-preserved
 loop-number-preserved c =

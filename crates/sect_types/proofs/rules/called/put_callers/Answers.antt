@@ -36,7 +36,7 @@ loop-callee-preserved c =
     (sym (set_put q c.push.new.self c.loop-callee.callers.items))
     (one_reversed c.args.number ps c.loop-callee.callers.items all c.loop-callee.callee-index q c.push.new.self
     (omega arith)
-    refl calls there (c.in_ok-push.ensures ∙ ap (λ r. r ++ c.args.number ∷ []) row) c.loop-callee.invariant)
+    refl calls there (c.in_ok-push.ensures.ok ∙ ap (λ r. r ++ c.args.number ∷ []) row) c.loop-callee.invariant)
 
 pub returns : goal.returns
 returns c =

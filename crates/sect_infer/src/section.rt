@@ -11,7 +11,8 @@ ghost use Rattle.sect_infer.specs.Sets.{AreLocksOf, AreUnmarkedAt};
 use crate::lists::Lists;
 use crate::locks::Locks;
 use crate::numbering::Numbering;
-use crate::work::settle;
+use crate::numbers::Numbers;
+use crate::work::{Analysed, Solution, settle};
 use sect_graph::Flow;
 use sect_names::{
     Lock, Scheme, carrying_back_respects_covering, end_lock, locks_stay_the_programs,
@@ -86,10 +87,18 @@ fn found(alloc: Global, scheme: &Scheme, thread: u16, flow: &Flow) -> Result<Loc
     requires { AreLawful scheme.now thread flow.now }
     ensures { IfOk result (IsFound scheme.now thread flow.now) }
 {
-    let mut numbering = Numbering::with_room(alloc, room_for(flow))?;
-    let mut lists = Lists::new(alloc, flow.exit() as usize + 1)?;
-    settle(alloc, scheme, thread, flow, &mut numbering, &mut lists)?;
-    Locks::of(alloc, numbering, lists)
+    let section = Analysed {
+        scheme,
+        thread,
+        flow,
+    };
+    let mut solution = Solution {
+        numbering: Numbering::with_room(alloc, room_for(flow))?,
+        lists: Lists::new(alloc, flow.exit() as usize + 1)?,
+        found: Numbers::new(alloc),
+    };
+    settle(alloc, section, &mut solution)?;
+    Locks::of(alloc, solution.numbering, solution.lists)
 }
 
 /// The lock on all at each node of a graph, and at its exit.

@@ -8,7 +8,7 @@ ghost use Rattle.sect_infer.specs.steps.Working.{AreNumbered, AreLawfulAt, IsCar
 ghost use Rattle.sect_infer.specs.steps.Working.{AllStay, IsPassedOn, IsTakenOver, IsOwnPut, IsGeneratedPut};
 ghost use Rattle.sect_infer.specs.Numberings.{AreNumbers, HasLock, IsNumbering, IsFinding, Finds, fresh_from};
 
-use crate::carry::{carry, find};
+use crate::carry::{Transfer, find};
 use crate::lists::Lists;
 use crate::numbering::Numbering;
 use crate::numbers::Numbers;
@@ -18,56 +18,55 @@ use sect_names::{Change, Lock, Scheme};
 use sect_types::Label;
 use std::alloc::{AllocError, Global};
 
+/// A section whose locks are inferred.
+#[derive(Clone, Copy)]
+pub struct Analysed<'a> {
+    pub scheme: &'a Scheme,
+    pub thread: u16,
+    pub flow: &'a Flow,
+}
+
+/// What was found at the nodes of a section's graph: a numbering of locks, for each node the numbers of those that were
+/// found there, and the numbers that are found where a node is gone over.
+#[derive(Drop)]
+pub struct Solution {
+    pub numbering: Numbering,
+    pub lists: Lists,
+    pub found: Numbers,
+}
+
 /// Finds what is needed at a node for what is known where control may go on from it.
 fn find_after(
     alloc: Global,
-    scheme: &Scheme,
-    thread: u16,
-    flow: &Flow,
-    numbering: &mut Numbering,
-    found: &mut Numbers,
-    lists: &Lists,
+    section: Analysed<'_>,
+    solution: &mut Solution,
     node: u16,
 ) -> Result<(), AllocError>
-    requires node { node < length flow.now }
-    requires finding { IsFinding scheme.now numbering.old found.old }
-    requires numbered { AreNumbered scheme.now flow.now numbering.old lists.now }
-    requires lawful { AreLawfulAt scheme.now thread numbering.old.keys lists.now }
-    ensures { OnOk result (Finds scheme.now numbering.old found.old numbering.new found.new
-        (IsCarried scheme.now thread flow.now numbering.old.keys lists.now node)) }
+    requires node { node < length section.flow.now }
+    requires finding { IsFinding section.scheme.now solution.old.numbering solution.old.found }
+    requires numbered { AreNumbered section.scheme.now section.flow.now solution.old.numbering solution.old.lists }
+    requires lawful { AreLawfulAt section.scheme.now section.thread solution.old.numbering.keys solution.old.lists }
+    ensures found { OnOk result (Finds section.entry.scheme.now solution.old.numbering solution.old.found
+        solution.new.numbering solution.new.found (IsCarried section.entry.scheme.now section.entry.thread
+        section.entry.flow.now solution.old.numbering.keys solution.old.lists node)) }
+    ensures lists { solution.new.lists ≡ solution.old.lists }
 {
-    let label = flow.action(node);
-    match flow.succ(node) {
-        Successors::Next(next) => {
-            carry(
-                alloc,
-                scheme,
-                thread,
-                &label,
-                numbering,
-                found,
-                lists.of(next),
-            )
-        }
+    let label = section.flow.action(node);
+    let transfer = Transfer {
+        scheme: section.scheme,
+        thread: section.thread,
+        label: &label,
+    };
+    let Solution {
+        numbering,
+        lists,
+        found,
+    } = solution;
+    match section.flow.succ(node) {
+        Successors::Next(next) => transfer.carry(alloc, numbering, found, lists.of(next)),
         Successors::Branch(holds, fails) => {
-            carry(
-                alloc,
-                scheme,
-                thread,
-                &label,
-                numbering,
-                found,
-                lists.of(holds),
-            )?;
-            carry(
-                alloc,
-                scheme,
-                thread,
-                &label,
-                numbering,
-                found,
-                lists.of(fails),
-            )
+            transfer.carry(alloc, numbering, found, lists.of(holds))?;
+            transfer.carry(alloc, numbering, found, lists.of(fails))
         }
     }
 }
@@ -75,21 +74,29 @@ fn find_after(
 /// Finds what a node generates.
 fn find_own(
     alloc: Global,
-    scheme: &Scheme,
-    thread: u16,
-    flow: &Flow,
-    numbering: &mut Numbering,
-    found: &mut Numbers,
+    section: Analysed<'_>,
+    solution: &mut Solution,
     node: u16,
 ) -> Result<(), AllocError>
-    requires node { node < length flow.now }
-    requires finding { IsFinding scheme.now numbering.old found.old }
-    ensures { OnOk result (Finds scheme.now numbering.old found.old numbering.new found.new
-        (λ l. IsSeed scheme.now thread flow.now (need node l))) }
+    requires node { node < length section.flow.now }
+    requires finding { IsFinding section.scheme.now solution.old.numbering solution.old.found }
+    ensures found { OnOk result (Finds section.entry.scheme.now solution.old.numbering solution.old.found
+        solution.new.numbering solution.new.found
+        (λ l. IsSeed section.entry.scheme.now section.entry.thread section.entry.flow.now (need node l))) }
+    ensures lists { solution.new.lists ≡ solution.old.lists }
 {
-    match scheme.generate(alloc, thread, flow.action(node)) {
+    let scheme = section.scheme;
+    match scheme.generate(alloc, section.thread, section.flow.action(node)) {
         None => Ok(()),
-        Some(lock) => find(alloc, scheme, numbering, found, &lock),
+        Some(lock) => {
+            find(
+                alloc,
+                scheme,
+                &mut solution.numbering,
+                &mut solution.found,
+                &lock,
+            )
+        }
     }
 }
 
@@ -115,26 +122,24 @@ fn fresh(
 /// Goes over a node: finds what it needs for what is known now, beside what was known there. Whether there is more.
 fn visit(
     alloc: Global,
-    scheme: &Scheme,
-    thread: u16,
-    flow: &Flow,
-    numbering: &mut Numbering,
-    found: &mut Numbers,
-    lists: &mut Lists,
+    section: Analysed<'_>,
+    solution: &mut Solution,
     node: u16,
 ) -> Result<bool, AllocError>
-    requires node { node < length flow.now }
-    requires numbered { AreNumbered scheme.now flow.now numbering.old lists.old }
-    requires lawful { AreLawfulAt scheme.now thread numbering.old.keys lists.old }
-    ensures { IfOk result (IsVisit scheme.now thread flow.now numbering.old lists.old numbering.new lists.new node) }
+    requires node { node < length section.flow.now }
+    requires numbered { AreNumbered section.scheme.now section.flow.now solution.old.numbering solution.old.lists }
+    requires lawful { AreLawfulAt section.scheme.now section.thread solution.old.numbering.keys solution.old.lists }
+    ensures { IfOk result (IsVisit section.entry.scheme.now section.entry.thread section.entry.flow.now
+        solution.old.numbering solution.old.lists solution.new.numbering solution.new.lists node) }
 {
-    found.clear();
-    found.insert_all(lists.of(node))?;
-    let known = found.members().len();
-    find_after(alloc, scheme, thread, flow, numbering, found, lists, node)?;
-    find_own(alloc, scheme, thread, flow, numbering, found, node)?;
-    let more = fresh(alloc, numbering, found, &found.members()[known..])?;
-    lists.extend(alloc, node, more.as_slice())?;
+    solution.found.clear();
+    solution.found.insert_all(solution.lists.of(node))?;
+    let known = solution.found.members().len();
+    find_after(alloc, section, solution, node)?;
+    find_own(alloc, section, solution, node)?;
+    let found = &solution.found;
+    let more = fresh(alloc, &solution.numbering, found, &found.members()[known..])?;
+    solution.lists.extend(alloc, node, more.as_slice())?;
     Ok(!more.is_empty())
 }
 
@@ -154,22 +159,20 @@ fn all_stay(thread: u16, label: &Label, numbering: &Numbering, numbers: &[usize]
 
 /// The node behind this one, if nothing is known of this one yet, and it touches none of the locks that are known
 /// there.
-fn passed_on(
-    thread: u16,
-    flow: &Flow,
-    numbering: &Numbering,
-    lists: &Lists,
-    node: u16,
-) -> Option<u16>
-    requires node { node < length flow.now }
-    requires numbers { (j : ℕ) → AreNumbers numbering.now.keys (slice_index_or lists.now j []) }
-    ensures { MatchOption result ⊤ (IsPassedOn thread flow.now numbering.now.keys lists.now node) }
+fn passed_on(section: Analysed<'_>, solution: &Solution, node: u16) -> Option<u16>
+    requires node { node < length section.flow.now }
+    requires numbers { (j : ℕ) → AreNumbers solution.now.numbering.keys (slice_index_or solution.now.lists j []) }
+    ensures { MatchOption result ⊤ (IsPassedOn section.entry.thread section.entry.flow.now
+        solution.now.numbering.keys solution.now.lists node) }
 {
-    let Successors::Next(next) = flow.succ(node) else {
+    let Successors::Next(next) = section.flow.succ(node) else {
         return None;
     };
-    let label = flow.action(node);
-    if lists.of(node).is_empty() && all_stay(thread, &label, numbering, lists.of(next)) {
+    let label = section.flow.action(node);
+    let lists = &solution.lists;
+    if lists.of(node).is_empty()
+        && all_stay(section.thread, &label, &solution.numbering, lists.of(next))
+    {
         Some(next)
     } else {
         None
@@ -180,18 +183,18 @@ fn passed_on(
 fn put_own(
     alloc: Global,
     scheme: &Scheme,
-    numbering: &mut Numbering,
-    lists: &mut Lists,
+    solution: &mut Solution,
     node: u16,
     lock: &Lock,
 ) -> Result<(), AllocError>
-    requires node { node < length lists.old }
-    requires numbering { IsNumbering scheme.now numbering.old }
-    ensures { OnOk result (IsOwnPut scheme.now numbering.old lists.old numbering.new lists.new node lock.now) }
+    requires node { node < length solution.old.lists }
+    requires numbering { IsNumbering scheme.now solution.old.numbering }
+    ensures { OnOk result (IsOwnPut scheme.now solution.old.numbering solution.old.lists
+        solution.new.numbering solution.new.lists node lock.now) }
 {
-    let number = numbering.number(alloc, scheme, lock)?;
-    if !numbering.is_told(lists.of(node), number) {
-        lists.extend(alloc, node, &[number])?;
+    let number = solution.numbering.number(alloc, scheme, lock)?;
+    if !solution.numbering.is_told(solution.lists.of(node), number) {
+        solution.lists.extend(alloc, node, &[number])?;
     }
     Ok(())
 }
@@ -199,66 +202,61 @@ fn put_own(
 /// Puts the number of what a node generates behind the node's, unless it is there or that of a lock that covers it.
 fn put_generated(
     alloc: Global,
-    scheme: &Scheme,
-    thread: u16,
-    flow: &Flow,
-    numbering: &mut Numbering,
-    lists: &mut Lists,
+    section: Analysed<'_>,
+    solution: &mut Solution,
     node: u16,
 ) -> Result<(), AllocError>
-    requires node { node < length flow.now }
-    requires there { node < length lists.old }
-    requires numbering { IsNumbering scheme.now numbering.old }
-    ensures { OnOk result (IsGeneratedPut scheme.now thread flow.now numbering.old lists.old numbering.new lists.new
-        node) }
+    requires node { node < length section.flow.now }
+    requires there { node < length solution.old.lists }
+    requires numbering { IsNumbering section.scheme.now solution.old.numbering }
+    ensures { OnOk result (IsGeneratedPut section.entry.scheme.now section.entry.thread section.entry.flow.now
+        solution.old.numbering solution.old.lists solution.new.numbering solution.new.lists node) }
 {
-    match scheme.generate(alloc, thread, flow.action(node)) {
+    let scheme = section.scheme;
+    match scheme.generate(alloc, section.thread, section.flow.action(node)) {
         None => Ok(()),
-        Some(lock) => put_own(alloc, scheme, numbering, lists, node, &lock),
+        Some(lock) => put_own(alloc, scheme, solution, node, &lock),
     }
 }
 
 /// Goes over a node to which what is known behind it is passed on. Whether there is more than was known.
 fn pass_on(
     alloc: Global,
-    scheme: &Scheme,
-    thread: u16,
-    flow: &Flow,
-    numbering: &mut Numbering,
-    lists: &mut Lists,
+    section: Analysed<'_>,
+    solution: &mut Solution,
     node: u16,
     next: u16,
 ) -> Result<bool, AllocError>
-    requires node { node < length flow.now }
-    requires next { next < length lists.old }
-    requires numbered { AreNumbered scheme.now flow.now numbering.old lists.old }
-    requires lawful { AreLawfulAt scheme.now thread numbering.old.keys lists.old }
-    requires passed { IsPassedOn thread flow.now numbering.old.keys lists.old node next }
-    ensures { IfOk result (IsVisit scheme.now thread flow.now numbering.old lists.old numbering.new lists.new node) }
+    requires node { node < length section.flow.now }
+    requires next { next < length solution.old.lists }
+    requires numbered { AreNumbered section.scheme.now section.flow.now solution.old.numbering solution.old.lists }
+    requires lawful { AreLawfulAt section.scheme.now section.thread solution.old.numbering.keys solution.old.lists }
+    requires passed { IsPassedOn section.thread section.flow.now solution.old.numbering.keys solution.old.lists node
+        next }
+    ensures { IfOk result (IsVisit section.entry.scheme.now section.entry.thread section.entry.flow.now
+        solution.old.numbering solution.old.lists solution.new.numbering solution.new.lists node) }
 {
-    lists.share(node, next);
-    put_generated(alloc, scheme, thread, flow, numbering, lists, node)?;
-    Ok(!lists.of(node).is_empty())
+    solution.lists.share(node, next);
+    put_generated(alloc, section, solution, node)?;
+    Ok(!solution.lists.of(node).is_empty())
 }
 
 /// The node behind this one where its test doesn't hold, if nothing is known of this one yet, and it touches none of
 /// the locks that are known there.
-fn taken_over(
-    thread: u16,
-    flow: &Flow,
-    numbering: &Numbering,
-    lists: &Lists,
-    node: u16,
-) -> Option<u16>
-    requires node { node < length flow.now }
-    requires numbers { (j : ℕ) → AreNumbers numbering.now.keys (slice_index_or lists.now j []) }
-    ensures { MatchOption result ⊤ (IsTakenOver thread flow.now numbering.now.keys lists.now node) }
+fn taken_over(section: Analysed<'_>, solution: &Solution, node: u16) -> Option<u16>
+    requires node { node < length section.flow.now }
+    requires numbers { (j : ℕ) → AreNumbers solution.now.numbering.keys (slice_index_or solution.now.lists j []) }
+    ensures { MatchOption result ⊤ (IsTakenOver section.entry.thread section.entry.flow.now
+        solution.now.numbering.keys solution.now.lists node) }
 {
-    let Successors::Branch(_, fails) = flow.succ(node) else {
+    let Successors::Branch(_, fails) = section.flow.succ(node) else {
         return None;
     };
-    let label = flow.action(node);
-    if lists.of(node).is_empty() && all_stay(thread, &label, numbering, lists.of(fails)) {
+    let label = section.flow.action(node);
+    let lists = &solution.lists;
+    if lists.of(node).is_empty()
+        && all_stay(section.thread, &label, &solution.numbering, lists.of(fails))
+    {
         Some(fails)
     } else {
         None
@@ -268,75 +266,63 @@ fn taken_over(
 /// Goes over a node that takes over what is known behind it at one of two nodes. Whether there is more than was known.
 fn take_over(
     alloc: Global,
-    scheme: &Scheme,
-    thread: u16,
-    flow: &Flow,
-    numbering: &mut Numbering,
-    found: &mut Numbers,
-    lists: &mut Lists,
+    section: Analysed<'_>,
+    solution: &mut Solution,
     node: u16,
     next: u16,
 ) -> Result<bool, AllocError>
-    requires node { node < length flow.now }
-    requires next { next < length lists.old }
-    requires numbered { AreNumbered scheme.now flow.now numbering.old lists.old }
-    requires lawful { AreLawfulAt scheme.now thread numbering.old.keys lists.old }
-    requires taken { IsTakenOver thread flow.now numbering.old.keys lists.old node next }
-    ensures { IfOk result (IsVisit scheme.now thread flow.now numbering.old lists.old numbering.new lists.new node) }
+    requires node { node < length section.flow.now }
+    requires next { next < length solution.old.lists }
+    requires numbered { AreNumbered section.scheme.now section.flow.now solution.old.numbering solution.old.lists }
+    requires lawful { AreLawfulAt section.scheme.now section.thread solution.old.numbering.keys solution.old.lists }
+    requires taken { IsTakenOver section.thread section.flow.now solution.old.numbering.keys solution.old.lists node
+        next }
+    ensures { IfOk result (IsVisit section.entry.scheme.now section.entry.thread section.entry.flow.now
+        solution.old.numbering solution.old.lists solution.new.numbering solution.new.lists node) }
 {
-    lists.share(node, next);
-    visit(alloc, scheme, thread, flow, numbering, found, lists, node)?;
-    Ok(!lists.of(node).is_empty())
+    solution.lists.share(node, next);
+    visit(alloc, section, solution, node)?;
+    Ok(!solution.lists.of(node).is_empty())
 }
 
 /// Goes over a node to which nothing is passed on: takes over what is known behind it where its test doesn't hold, or
 /// finds what it needs. Whether there is more.
 fn gather(
     alloc: Global,
-    scheme: &Scheme,
-    thread: u16,
-    flow: &Flow,
-    numbering: &mut Numbering,
-    found: &mut Numbers,
-    lists: &mut Lists,
+    section: Analysed<'_>,
+    solution: &mut Solution,
     node: u16,
 ) -> Result<bool, AllocError>
-    requires node { node < length flow.now }
-    requires within { StaysWithin flow.now }
-    requires numbered { AreNumbered scheme.now flow.now numbering.old lists.old }
-    requires lawful { AreLawfulAt scheme.now thread numbering.old.keys lists.old }
-    ensures { IfOk result (IsVisit scheme.now thread flow.now numbering.old lists.old numbering.new lists.new node) }
+    requires node { node < length section.flow.now }
+    requires within { StaysWithin section.flow.now }
+    requires numbered { AreNumbered section.scheme.now section.flow.now solution.old.numbering solution.old.lists }
+    requires lawful { AreLawfulAt section.scheme.now section.thread solution.old.numbering.keys solution.old.lists }
+    ensures { IfOk result (IsVisit section.entry.scheme.now section.entry.thread section.entry.flow.now
+        solution.old.numbering solution.old.lists solution.new.numbering solution.new.lists node) }
 {
-    match taken_over(thread, flow, numbering, lists, node) {
-        Some(next) => {
-            take_over(
-                alloc, scheme, thread, flow, numbering, found, lists, node, next,
-            )
-        }
-        None => visit(alloc, scheme, thread, flow, numbering, found, lists, node),
+    match taken_over(section, solution, node) {
+        Some(next) => take_over(alloc, section, solution, node, next),
+        None => visit(alloc, section, solution, node),
     }
 }
 
 /// Goes over a node: passes on to it what is known behind it, or gathers what it needs. Whether there is more.
 fn go_over(
     alloc: Global,
-    scheme: &Scheme,
-    thread: u16,
-    flow: &Flow,
-    numbering: &mut Numbering,
-    found: &mut Numbers,
-    lists: &mut Lists,
+    section: Analysed<'_>,
+    solution: &mut Solution,
     node: u16,
 ) -> Result<bool, AllocError>
-    requires node { node < length flow.now }
-    requires within { StaysWithin flow.now }
-    requires numbered { AreNumbered scheme.now flow.now numbering.old lists.old }
-    requires lawful { AreLawfulAt scheme.now thread numbering.old.keys lists.old }
-    ensures { IfOk result (IsVisit scheme.now thread flow.now numbering.old lists.old numbering.new lists.new node) }
+    requires node { node < length section.flow.now }
+    requires within { StaysWithin section.flow.now }
+    requires numbered { AreNumbered section.scheme.now section.flow.now solution.old.numbering solution.old.lists }
+    requires lawful { AreLawfulAt section.scheme.now section.thread solution.old.numbering.keys solution.old.lists }
+    ensures { IfOk result (IsVisit section.entry.scheme.now section.entry.thread section.entry.flow.now
+        solution.old.numbering solution.old.lists solution.new.numbering solution.new.lists node) }
 {
-    match passed_on(thread, flow, numbering, lists, node) {
-        Some(next) => pass_on(alloc, scheme, thread, flow, numbering, lists, node, next),
-        None => gather(alloc, scheme, thread, flow, numbering, found, lists, node),
+    match passed_on(section, solution, node) {
+        Some(next) => pass_on(alloc, section, solution, node, next),
+        None => gather(alloc, section, solution, node),
     }
 }
 
@@ -344,23 +330,18 @@ fn go_over(
 /// are carried back to it from where control may go on, but for locks that another covers which was found before.
 pub fn settle(
     alloc: Global,
-    scheme: &Scheme,
-    thread: u16,
-    flow: &Flow,
-    numbering: &mut Numbering,
-    lists: &mut Lists,
+    section: Analysed<'_>,
+    solution: &mut Solution,
 ) -> Result<(), AllocError>
-    requires lawful { AreLawful scheme.now thread flow.now }
-    requires begun { IsBegun flow.now numbering.old lists.old }
-    ensures { OnOk result (IsSettled scheme.now thread flow.now numbering.new lists.new) }
+    requires lawful { AreLawful section.scheme.now section.thread section.flow.now }
+    requires begun { IsBegun section.flow.now solution.old.numbering solution.old.lists }
+    ensures { OnOk result (IsSettled section.entry.scheme.now section.entry.thread section.entry.flow.now
+        solution.new.numbering solution.new.lists) }
 {
-    let predecessors = predecessors_of(alloc, flow)?;
-    let mut found = Numbers::new(alloc);
-    let mut waiting = Waiting::new(alloc, flow.exit());
+    let predecessors = predecessors_of(alloc, section.flow)?;
+    let mut waiting = Waiting::new(alloc, section.flow.exit());
     while let Some(node) = waiting.pop_last() {
-        let any = go_over(
-            alloc, scheme, thread, flow, numbering, &mut found, lists, node,
-        )?;
+        let any = go_over(alloc, section, solution, node)?;
         if any {
             waiting.insert_all(predecessors.of(node))?;
         }

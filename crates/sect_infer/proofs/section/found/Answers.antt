@@ -10,8 +10,8 @@ returns c =
     let s = c.args.scheme.now in
     let t = c.args.thread in
     let g = c.args.flow.now in
-    let a = c.settle.new.numbering in
-    let lists = c.settle.new.lists in
+    let a = c.settle.new.solution.numbering in
+    let lists = c.settle.new.solution.lists in
     IfOk-weaker c.of.result (λ (locks : LocksView). (order : List ℕ) × IsOrder a.keys lists order
     × (locks.at ≡ map (listed a order) lists) × (slice_get locks.at 0 ≡ Some locks.entry)) (IsFound s t g)
     (λ locks o. record {

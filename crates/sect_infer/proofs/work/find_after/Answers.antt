@@ -9,49 +9,51 @@ use Rattle.sect_infer.proofs.work.find_after.Goals as goal
 
 pub carry-requires-clause-numbers : goal.carry-requires-clause-numbers
 carry-requires-clause-numbers c =
-    subst (AreNumbers c.args.numbering.now.keys) (sym c.of.ensures) (c.requires.numbered.numbers c.in-Next.next)
+    subst (AreNumbers c.args.solution.now.numbering.keys) (sym c.of.ensures)
+    (c.requires.numbered.numbers c.in-Next.next)
 
 pub carry-requires-clause-lawful : goal.carry-requires-clause-lawful
 carry-requires-clause-lawful c =
-    λ l h. c.requires.lawful c.in-Next.next l (subst (λ ns. HasLock c.args.numbering.now.keys ns l) c.of.ensures h)
+    λ l h. c.requires.lawful c.in-Next.next l
+    (subst (λ ns. HasLock c.args.solution.now.numbering.keys ns l) c.of.ensures h)
 
 pub carry-requires-in-Branch-clause-numbers : goal.carry-requires-in-Branch-clause-numbers
 carry-requires-in-Branch-clause-numbers c =
-    subst (AreNumbers c.args.numbering.now.keys) (sym c.of-in-Branch.ensures)
+    subst (AreNumbers c.args.solution.now.numbering.keys) (sym c.of-in-Branch.ensures)
     (c.requires.numbered.numbers c.in-Branch.holds)
 
 pub carry-requires-in-Branch-clause-lawful : goal.carry-requires-in-Branch-clause-lawful
 carry-requires-in-Branch-clause-lawful c =
     λ l h. c.requires.lawful c.in-Branch.holds l
-    (subst (λ ns. HasLock c.args.numbering.now.keys ns l) c.of-in-Branch.ensures h)
+    (subst (λ ns. HasLock c.args.solution.now.numbering.keys ns l) c.of-in-Branch.ensures h)
 
 pub carry-requires-in-Branch-2-clause-numbers : goal.carry-requires-in-Branch-2-clause-numbers
 carry-requires-in-Branch-2-clause-numbers c =
-    let a = c.args.numbering.now in
+    let a = c.args.solution.now.numbering in
     let b = c.carry-in-Branch.new.numbering in
-    let numbers : List ℕ = slice_index_or c.args.lists.now c.in-Branch.fails [] in
+    let numbers : List ℕ = slice_index_or c.args.solution.now.lists c.in-Branch.fails [] in
     subst (AreNumbers b.keys) (sym c.of-in-Branch-2.ensures)
     (extends_numbers a b c.in_ok-carry-in-Branch.ensures.longer numbers
     (c.requires.numbered.numbers c.in-Branch.fails))
 
 pub carry-requires-in-Branch-2-clause-lawful : goal.carry-requires-in-Branch-2-clause-lawful
 carry-requires-in-Branch-2-clause-lawful c = λ l h.
-    let a = c.args.numbering.now in
+    let a = c.args.solution.now.numbering in
     let b = c.carry-in-Branch.new.numbering in
-    let numbers : List ℕ = slice_index_or c.args.lists.now c.in-Branch.fails [] in
+    let numbers : List ℕ = slice_index_or c.args.solution.now.lists c.in-Branch.fails [] in
     c.requires.lawful c.in-Branch.fails l
     (extends_back a b c.in_ok-carry-in-Branch.ensures.longer numbers (c.requires.numbered.numbers c.in-Branch.fails)
     l (subst (λ ns. HasLock b.keys ns l) c.of-in-Branch-2.ensures h))
 
-pub returns-in-Next : goal.returns-in-Next
-returns-in-Next c =
-    let s = c.args.scheme.now in
-    let t = c.args.thread in
-    let g = c.args.flow.now in
+pub returns-in-Next-clause-found : goal.returns-in-Next-clause-found
+returns-in-Next-clause-found c =
+    let s = c.args.section.scheme.now in
+    let t = c.args.section.thread in
+    let g = c.args.section.flow.now in
     let j = c.args.node in
-    let lists = c.args.lists.now in
-    let a = c.args.numbering.now in
-    let ns = c.args.found.now in
+    let lists = c.args.solution.now.lists in
+    let a = c.args.solution.now.numbering in
+    let ns = c.args.solution.now.found in
     let node = told_at (λ (y : Node). y.label) g j c.action-label.result c.action-label.ensures in
     let goes : node.0.next ≡ Next c.in-Next.next =
     told_of (λ (y : Node). y.next) g j c.succ.result c.succ.ensures node.0 node.1 ∙ c.in-Next.is in
@@ -62,17 +64,17 @@ returns-in-Next c =
     (subst (λ numbers. Finds s a ns c.carry.new.numbering c.carry.new.found
     (CarriedOf s t c.action-label.result a.keys numbers)) c.of.ensures f))) c.carry.ensures
 
-pub returns-in_ok-carry-in-Branch : goal.returns-in_ok-carry-in-Branch
-returns-in_ok-carry-in-Branch c =
-    let s = c.args.scheme.now in
-    let t = c.args.thread in
-    let g = c.args.flow.now in
+pub returns-in_ok-carry-in-Branch-clause-found : goal.returns-in_ok-carry-in-Branch-clause-found
+returns-in_ok-carry-in-Branch-clause-found c =
+    let s = c.args.section.scheme.now in
+    let t = c.args.section.thread in
+    let g = c.args.section.flow.now in
     let j = c.args.node in
-    let lists = c.args.lists.now in
-    let a = c.args.numbering.now in
+    let lists = c.args.solution.now.lists in
+    let a = c.args.solution.now.numbering in
     let b = c.carry-in-Branch.new.numbering in
     let d = c.carry-in-Branch-2.new.numbering in
-    let ns = c.args.found.now in
+    let ns = c.args.solution.now.found in
     let ms = c.carry-in-Branch.new.found in
     let os = c.carry-in-Branch-2.new.found in
     let node = told_at (λ (y : Node). y.label) g j c.action-label.result c.action-label.ensures in

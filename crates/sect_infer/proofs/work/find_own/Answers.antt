@@ -8,23 +8,26 @@ use Rattle.sect_infer.proofs.work.find_own.Goals as goal
 
 -- the node, and what it generates
 told : (c : After-generate)
-    → (y : Node) × (slice_get c.args.flow.now c.args.node ≡ Some y)
-    × ((l : Lock) → (c.generate.result ≡ Some l) ↔ Generated c.args.scheme.now c.args.thread y.label l)
+    → (y : Node) × (slice_get c.args.section.flow.now c.args.node ≡ Some y)
+    × ((l : Lock) → (c.generate.result ≡ Some l)
+    ↔ Generated c.args.section.scheme.now c.args.section.thread y.label l)
 told c =
-    let node = told_at (λ (y : Node). y.label) c.args.flow.now c.args.node c.action.result c.action.ensures in (
+    let a = c.args.section in
+    let node = told_at (λ (y : Node). y.label) a.flow.now c.args.node c.action.result c.action.ensures in (
       node.0,
       node.1,
-      subst (λ a. (l : Lock) → (c.generate.result ≡ Some l) ↔ Generated c.args.scheme.now c.args.thread a l)
+      subst (λ z. (l : Lock) → (c.generate.result ≡ Some l) ↔ Generated a.scheme.now a.thread z l)
           (sym node.2) c.generate.ensures,
     )
 
-pub returns-in-None : goal.returns-in-None
-returns-in-None c =
-    let node = told (goal.at.returns-in-None c).After-generate in
-    own_none _ _ c.args.flow.now c.args.node node.0 node.1 c.generate.result node.2 _ _ c.in-None.is c.requires.finding
+pub returns-in-None-clause-found : goal.returns-in-None-clause-found
+returns-in-None-clause-found c =
+    let node = told (goal.at.returns-in-None-clause-found c).After-generate in
+    own_none _ _ c.args.section.flow.now c.args.node node.0 node.1 c.generate.result node.2 _ _ c.in-None.is
+    c.requires.finding
 
-pub returns-in-Some : goal.returns-in-Some
-returns-in-Some c =
-    let node = told (goal.at.returns-in-Some c).After-generate in
-    on_ok_weaker c.find.result (own_some _ _ c.args.flow.now c.args.node
+pub returns-in-Some-clause-found : goal.returns-in-Some-clause-found
+returns-in-Some-clause-found c =
+    let node = told (goal.at.returns-in-Some-clause-found c).After-generate in
+    on_ok_weaker c.find.result (own_some _ _ c.args.section.flow.now c.args.node
     node.0 node.1 c.generate.result node.2 _ _ _ _ c.in-Some.lock c.in-Some.is) c.find.ensures

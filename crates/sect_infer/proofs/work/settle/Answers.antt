@@ -8,19 +8,19 @@ use Rattle.sect_infer.proofs.work.settle.Goals as goal
 
 -- the node that is taken out was the last that waited
 working : (c : In-Some)
-    → IsWorking c.args.scheme.now c.args.thread c.args.flow.now c.loop-node.numbering c.loop-node.lists
-    (c.pop_last.new.self ++ c.in-Some.node ∷ [])
+    → IsWorking c.args.section.scheme.now c.args.section.thread c.args.section.flow.now
+    c.loop-node.solution.numbering c.loop-node.solution.lists (c.pop_last.new.self ++ c.in-Some.node ∷ [])
 working c = subst (IsWorking _ _ _ _ _) c.in-Some.ensures c.loop-node.invariant
 
 -- where there is more, the nodes before it wait too
 busy : (c : In_ok-insert_all)
-    → IsWorking c.args.scheme.now c.args.thread c.args.flow.now c.go_over.new.numbering c.go_over.new.lists
-    c.insert_all.new.self
+    → IsWorking c.args.section.scheme.now c.args.section.thread c.args.section.flow.now
+    c.go_over.new.solution.numbering c.go_over.new.solution.lists c.insert_all.new.self
 busy c =
     let w = working (goal.at.loop-node-preserved-in-Continue-branch-3 c).In-Some in
     let within = last_within _ _ _ _ _ _ _ w in
     work_busy _ _ _ _ _ _ _ _ _ _ w c.in_ok-any.ensures c.of.result.now c.insert_all.new.self
-    (subst (AreBefore c.args.flow.now c.in-Some.node) (sym c.of.ensures)
+    (subst (AreBefore c.args.section.flow.now c.in-Some.node) (sym c.of.ensures)
     (c.in_ok-predecessors.ensures.each c.in-Some.node (omega (arith, within)))) c.in_ok-insert_all.ensures.nodes
 
 pub predecessors_of-requires : goal.predecessors_of-requires
@@ -31,7 +31,9 @@ go_over-requires-clause-node c = last_within _ _ _ _ _ _ _ (working (goal.at.go_
 
 pub go_over-requires-clause-lawful : goal.go_over-requires-clause-lawful
 go_over-requires-clause-lawful c =
-    lawful_at c.args.scheme.now c.args.thread c.args.flow.now c.requires.lawful c.loop-node.numbering c.loop-node.lists
+    let a = c.args.section in
+    let of = c.loop-node.solution in
+    lawful_at a.scheme.now a.thread a.flow.now c.requires.lawful of.numbering of.lists
     c.loop-node.invariant.derived
 
 pub go_over-requires-clause-within : goal.go_over-requires-clause-within
@@ -43,7 +45,10 @@ of-requires c =
     omega (arith, within, c.in_ok-predecessors.ensures.count)
 
 pub loop-node-init : goal.loop-node-init
-loop-node-init c = work_begins c.args.scheme.now c.args.thread c.args.flow.now c.args.numbering.now c.args.lists.now
+loop-node-init c =
+    let a = c.args.section in
+    let of = c.args.solution.now in
+    work_begins a.scheme.now a.thread a.flow.now of.numbering of.lists
     c.new-waiting.result c.requires.begun
     (subst (λ n. (i : ℕ) → Has c.new-waiting.result i ↔ (i < n)) c.exit.ensures.number c.new-waiting.ensures)
 
@@ -68,7 +73,8 @@ loop-node-smaller c =
     c.in_ok-any.ensures (work_quiet _ _ _ _ _ _ _ _ _ _ w c.in_ok-any.ensures c.if-any.false) c.if-any.false refl)
 
 pub returns : goal.returns
-returns c = work_ends c.args.scheme.now c.args.thread c.args.flow.now c.requires.lawful c.loop-node.numbering
-    c.loop-node.lists c.loop-node.waiting
-    c.in_default.ensures
-    c.loop-node.invariant
+returns c =
+    let a = c.args.section in
+    let of = c.loop-node.solution in
+    work_ends a.scheme.now a.thread a.flow.now c.requires.lawful of.numbering of.lists c.loop-node.waiting
+    c.in_default.ensures c.loop-node.invariant

@@ -3,13 +3,13 @@ use Rattle.sect_lemmas.proofs.Places.{one_at}
 use Rattle.sect_names.specs.{declared.lock.Lock.{Lock}, Locks.{IsLockOf}, Carrying.{CarriedBack}}
 use Rattle.sect_infer.specs.Numbers.{with_number}
 use Rattle.sect_infer.proofs.{Extending.{numbered_there}, Carrying.{finds_one, finds_as}}
-use Rattle.sect_infer.proofs.carry.carry_by.Goals as goal
+use Rattle.sect_infer.proofs.carry.Transfer.carry_by.Goals as goal
 
 pub returns-in_ok-insert : goal.returns-in_ok-insert
 returns-in_ok-insert c = λ l at.
-    let s = c.args.scheme.now in
-    let t = c.args.thread in
-    let label = c.args.label.now in
+    let s = c.args.self.scheme.now in
+    let t = c.args.self.thread in
+    let label = c.args.self.label.now in
     let a = c.args.numbering.now in
     let n = c.args.number in
     let same : c.lock.result.now ≡ l = one_at a.keys n c.lock.result.now l c.lock.ensures at in

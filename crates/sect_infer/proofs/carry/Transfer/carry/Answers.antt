@@ -2,13 +2,13 @@ use Rattle.std.proofs.{Common.{◌↔◌, ◌≡◌}, lemmas.Result.{on_ok_weake
 use Rattle.sect_names.specs.{declared.lock.Lock.{Lock}, Locks.{IsLockOf}, Carrying.{CarriedBack}}
 use Rattle.sect_infer.specs.{Numbers.{with_numbers}, Numberings.{HasLock}}
 use Rattle.sect_infer.proofs.Carrying.{CarriedOf, finds_as, finds_numbers, all_carried}
-use Rattle.sect_infer.proofs.carry.carry.Goals as goal
+use Rattle.sect_infer.proofs.carry.Transfer.carry.Goals as goal
 
 pub returns-then-leaves_all : goal.returns-then-leaves_all
 returns-then-leaves_all c =
-    let s = c.args.scheme.now in
-    let t = c.args.thread in
-    let label = c.args.label.now in
+    let s = c.args.self.scheme.now in
+    let t = c.args.self.thread in
+    let label = c.args.self.label.now in
     let a = c.args.numbering.now in
     let found = c.args.found.now in
     let numbers = c.args.numbers.now in

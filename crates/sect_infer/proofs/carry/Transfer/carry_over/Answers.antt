@@ -4,13 +4,13 @@ use Rattle.sect_names.specs.{declared.lock.Lock.{Lock}, Carrying.{CarriedBack}}
 use Rattle.sect_names.specs.declared.lock.Lock.TheVariants as lock
 use Rattle.sect_infer.specs.{Numbers.{with_number}, steps.Putting.{AreOn}}
 use Rattle.sect_infer.proofs.{Carrying.{finds_one, finds_as}, Extending.{numbered_there}}
-use Rattle.sect_infer.proofs.carry.carry_over.Goals as goal
+use Rattle.sect_infer.proofs.carry.Transfer.carry_over.Goals as goal
 
 pub returns-in_ok-paths-in-Path : goal.returns-in_ok-paths-in-Path
 returns-in_ok-paths-in-Path c =
-    let s = c.args.scheme.now in
-    let t = c.args.thread in
-    let label = c.args.label.now in
+    let s = c.args.self.scheme.now in
+    let t = c.args.self.thread in
+    let label = c.args.self.label.now in
     let a = c.args.numbering.now in
     let e = c.in-Path.effect in
     let paths = c.in_ok-paths-in-Path.paths.items in
@@ -24,9 +24,9 @@ returns-in_ok-paths-in-Path c =
 
 pub returns-in_ok-insert-in-All : goal.returns-in_ok-insert-in-All
 returns-in_ok-insert-in-All c = λ l at.
-    let s = c.args.scheme.now in
-    let t = c.args.thread in
-    let label = c.args.label.now in
+    let s = c.args.self.scheme.now in
+    let t = c.args.self.thread in
+    let label = c.args.self.label.now in
     let a = c.args.numbering.now in
     let n = c.args.number in
     let found = c.args.found.now in

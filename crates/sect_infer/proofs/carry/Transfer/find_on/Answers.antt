@@ -3,20 +3,20 @@ use Rattle.sect_points.specs.Partitions.{HasClass}
 use Rattle.sect_names.specs.Carrying.{LockOn}
 use Rattle.sect_infer.specs.Numbers.{with_number}
 use Rattle.sect_infer.proofs.Carrying.{finds_none, finds_one, finds_as, lock_on_is, lock_of_class, no_lock_on}
-use Rattle.sect_infer.proofs.carry.find_on.Goals as goal
+use Rattle.sect_infer.proofs.carry.Transfer.find_on.Goals as goal
 
 pub number_in-requires : goal.number_in-requires
-number_in-requires c = (c.args.scheme.now, c.requires.numbering)
+number_in-requires c = (c.args.self.scheme.now, c.requires.numbering)
 
 pub returns-in-None : goal.returns-in-None
 returns-in-None c =
-    let s = c.args.scheme.now in
+    let s = c.args.self.scheme.now in
     finds_none s c.args.numbering.now c.args.found.now (LockOn s c.args.effect c.args.path) c.requires
     (no_lock_on s c.args.effect c.args.path c.class_of.result c.class_of.ensures c.in-None.is)
 
 pub returns-in_ok-insert-in-Some : goal.returns-in_ok-insert-in-Some
 returns-in_ok-insert-in-Some c =
-    let s = c.args.scheme.now in
+    let s = c.args.self.scheme.now in
     let e = c.args.effect in
     let p = c.args.path in
     let a = c.args.numbering.now in

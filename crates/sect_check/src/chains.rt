@@ -9,10 +9,9 @@ ghost use Rattle.sect_check.specs.steps.Parts.{JudgesChain, JudgesChains};
 
 use crate::claims::{ChainClaim, Claims};
 use crate::fault::SectionFault;
+use crate::judged::Judged;
 use crate::links::first_wrong;
-use sect_front::Locking;
-use sect_graph::Flow;
-use sect_names::{Lock, Scheme};
+use sect_names::Lock;
 use std::alloc::Global;
 
 /// The chain of this number. Their numbers rise and each one below is there, so it stands at the place of its number or
@@ -34,45 +33,37 @@ fn chain_of(chains: &[ChainClaim], number: usize) -> Option<&ChainClaim>
 /// Whether the lock of this number has its chain.
 fn judge_chain(
     alloc: Global,
-    scheme: &Scheme,
-    thread: u16,
-    locking: Locking,
-    flow: &Flow,
+    section: Judged<'_>,
     claims: &Claims,
     number: usize,
     lock: &Lock,
 ) -> Result<(), SectionFault>
     requires rise { DoRise claims.now.chains }
-    requires lawful { AreLawfulChains scheme.now thread claims.now.chains }
+    requires lawful { AreLawfulChains section.scheme.now section.thread claims.now.chains }
     requires below { HaveNumbersBelow claims.now.chains number }
-    ensures { JudgesChain scheme.now thread (end_locks locking) flow.now claims.now number lock.now result }
+    ensures { JudgesChain section.entry.scheme.now section.entry.thread
+        (end_locks section.entry.locking) section.entry.flow.now claims.now number lock.now result }
 {
     let Some(chain) = chain_of(claims.chains.as_slice(), number) else {
         return Err(SectionFault::NoChain { lock: number });
     };
-    match first_wrong(alloc, scheme, thread, locking, flow, lock, &chain.links)? {
+    match first_wrong(alloc, section, lock, &chain.links)? {
         None => Ok(()),
         Some(step) => Err(SectionFault::BrokenChain { lock: number, step }),
     }
 }
 
 /// Whether each lock of the entry list has its chain, and there is no other.
-pub fn judge_chains(
-    alloc: Global,
-    scheme: &Scheme,
-    thread: u16,
-    locking: Locking,
-    flow: &Flow,
-    claims: &Claims,
-) -> Result<(), SectionFault>
+pub fn judge_chains(alloc: Global, section: Judged<'_>, claims: &Claims) -> Result<(), SectionFault>
     requires rise { DoRise claims.now.chains }
-    requires lawful { AreLawfulChains scheme.now thread claims.now.chains }
-    ensures { JudgesChains scheme.now thread (end_locks locking) flow.now claims.now result }
+    requires lawful { AreLawfulChains section.scheme.now section.thread claims.now.chains }
+    ensures { JudgesChains section.entry.scheme.now section.entry.thread
+        (end_locks section.entry.locking) section.entry.flow.now claims.now result }
 {
     let entry = claims.entry.as_slice();
     for number in 0..entry.len() {
         let lock = &entry[number];
-        judge_chain(alloc, scheme, thread, locking, flow, claims, number, lock)?;
+        judge_chain(alloc, section, claims, number, lock)?;
     }
     match claims.chains.as_slice().get(entry.len()) {
         None => Ok(()),

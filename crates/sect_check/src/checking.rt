@@ -13,6 +13,7 @@ ghost use Rattle.sect_check.specs.steps.Parts.{JudgesAt, JudgesCert};
 use crate::claiming::claims_of;
 use crate::claims::Claims;
 use crate::fault::{CheckFault, of_section};
+use crate::judged::Judged;
 use crate::naming::Naming;
 use crate::section::judge_section;
 use crate::unresolved::Unresolved;
@@ -77,7 +78,13 @@ fn judge_at(alloc: Global, scheme: &Scheme, claims: &Claims, number: u16) -> Res
     let thread = scheme.program().section(number).thread;
     let locking = scheme.program().locking(number);
     let flow = scheme.graph().section(number);
-    match judge_section(alloc, scheme, thread, locking, flow, claims) {
+    let section = Judged {
+        scheme,
+        thread,
+        locking,
+        flow,
+    };
+    match judge_section(alloc, section, claims) {
         Ok(()) => Ok(()),
         Err(fault) => Err(of_section(number, fault)),
     }

@@ -9,6 +9,7 @@ mod claiming;
 mod claims;
 mod covering;
 mod fault;
+mod judged;
 mod laws;
 mod links;
 mod lists;

@@ -9,10 +9,10 @@ ghost use Rattle.sect_check.specs.steps.Shapes.{AreLawfulLinks};
 
 use crate::claimed_links::{ClaimedLink, ClaimedLinks};
 use crate::covering::has;
+use crate::judged::Judged;
 use crate::lists::generated_at;
-use sect_front::Locking;
 use sect_graph::{Flow, Successors};
-use sect_names::{Lock, Scheme, stays};
+use sect_names::{Lock, stays};
 use sect_types::Label;
 use std::alloc::{AllocError, Global};
 
@@ -38,21 +38,21 @@ fn leads_to(next: Successors, number: u32) -> bool
 }
 
 /// Whether the node of a step generates its lock.
-fn is_generated(
-    alloc: Global,
-    scheme: &Scheme,
-    thread: u16,
-    locking: Locking,
-    flow: &Flow,
-    step: ClaimedLink<'_>,
-) -> bool
-    ensures { IsTrue result ↔ IsGeneratedAt scheme.now thread (end_locks locking) flow.now
-        (link step.entry.node step.entry.lock.now) }
+fn is_generated(alloc: Global, section: Judged<'_>, step: ClaimedLink<'_>) -> bool
+    ensures { IsTrue result ↔ IsGeneratedAt section.entry.scheme.now section.entry.thread
+        (end_locks section.entry.locking) section.entry.flow.now (link step.entry.node step.entry.lock.now) }
 {
-    if step.node > flow.exit() as u32 {
+    if step.node > section.flow.exit() as u32 {
         return false;
     }
-    match generated_at(alloc, scheme, thread, locking, flow, step.node as u16) {
+    match generated_at(
+        alloc,
+        section.scheme,
+        section.thread,
+        section.locking,
+        section.flow,
+        step.node as u16,
+    ) {
         Some(lock) => lock == *step.lock,
         None => false,
     }
@@ -61,19 +61,21 @@ fn is_generated(
 /// Whether a lock is needed before a node because of another that is needed after it.
 fn is_carried_back(
     alloc: Global,
-    scheme: &Scheme,
-    thread: u16,
+    section: Judged<'_>,
     label: &Label,
     after: &Lock,
     before: &Lock,
 ) -> Result<bool, AllocError>
-    requires { IsLockOf scheme.now thread after.now }
-    ensures { IfOk result (λ it. IsTrue it ↔ CarriedBack scheme.now thread label.now after.now before.now) }
+    requires { IsLockOf section.scheme.now section.thread after.now }
+    ensures { IfOk result (λ it. IsTrue it
+        ↔ CarriedBack section.entry.scheme.now section.entry.thread label.now after.now before.now) }
 {
-    if stays(thread, label, after) {
+    if stays(section.thread, label, after) {
         return Ok(before == after);
     }
-    let carried = scheme.rewrite(alloc, thread, *label, after)?;
+    let carried = section
+        .scheme
+        .rewrite(alloc, section.thread, *label, after)?;
     Ok(has(carried.as_slice(), before))
 }
 
@@ -86,30 +88,25 @@ struct Pair<'a> {
 }
 
 /// Whether a step links to another. Mostly its lock is that one's, and stays.
-fn links_to(
-    alloc: Global,
-    scheme: &Scheme,
-    thread: u16,
-    flow: &Flow,
-    pair: Pair<'_>,
-) -> Result<bool, AllocError>
-    requires lawful { IsLockOf scheme.now thread pair.next.lock.now }
+fn links_to(alloc: Global, section: Judged<'_>, pair: Pair<'_>) -> Result<bool, AllocError>
+    requires lawful { IsLockOf section.scheme.now section.thread pair.next.lock.now }
     requires same { IsTrue pair.same → pair.step.lock.now ≡ pair.next.lock.now }
-    ensures { IfOk result (λ it. IsTrue it ↔ LinksTo scheme.now thread flow.now
+    ensures { IfOk result (λ it. IsTrue it
+        ↔ LinksTo section.entry.scheme.now section.entry.thread section.entry.flow.now
         (link pair.entry.step.node pair.entry.step.lock.now) (link pair.entry.next.node pair.entry.next.lock.now)) }
 {
     let Pair { step, next, same } = pair;
-    let Some(node) = node_of(flow, step.node) else {
+    let Some(node) = node_of(section.flow, step.node) else {
         return Ok(false);
     };
-    if !leads_to(flow.succ(node), next.node) {
+    if !leads_to(section.flow.succ(node), next.node) {
         return Ok(false);
     }
-    let label = flow.action(node);
-    if same && stays(thread, &label, next.lock) {
+    let label = section.flow.action(node);
+    if same && stays(section.thread, &label, next.lock) {
         return Ok(true);
     }
-    is_carried_back(alloc, scheme, thread, &label, next.lock, step.lock)
+    is_carried_back(alloc, section, &label, next.lock, step.lock)
 }
 
 /// The step at an index, behind another, and that one.
@@ -141,45 +138,43 @@ fn begins(links: &ClaimedLinks, lock: &Lock) -> bool
 /// Whether a step that isn't the first is linked to by the one before it, and the last one's lock is generated.
 fn is_right(
     alloc: Global,
-    scheme: &Scheme,
-    thread: u16,
-    locking: Locking,
-    flow: &Flow,
+    section: Judged<'_>,
     links: &ClaimedLinks,
     number: usize,
 ) -> Result<bool, AllocError>
     requires number { number < length links.now }
-    requires lawful { AreLawfulLinks scheme.now thread links.now }
-    ensures { IfOk result (λ it. IsTrue it ↔ (ComesRight scheme.now thread flow.now links.now number
-        × EndsRight scheme.now thread (end_locks locking) flow.now links.now number)) }
+    requires lawful { AreLawfulLinks section.scheme.now section.thread links.now }
+    ensures { IfOk result (λ it. IsTrue it
+        ↔ (ComesRight section.entry.scheme.now section.entry.thread section.entry.flow.now links.now number
+        × EndsRight section.entry.scheme.now section.entry.thread (end_locks section.entry.locking)
+        section.entry.flow.now links.now number)) }
 {
     let count = links.len();
-    if number > 0 && !links_to(alloc, scheme, thread, flow, pair_at(links, number))? {
+    if number > 0 && !links_to(alloc, section, pair_at(links, number))? {
         return Ok(false);
     }
-    Ok(number + 1 < count || is_generated(alloc, scheme, thread, locking, flow, links.at(number)))
+    Ok(number + 1 < count || is_generated(alloc, section, links.at(number)))
 }
 
 /// The first step at which these aren't a chain of the lock.
 pub fn first_wrong(
     alloc: Global,
-    scheme: &Scheme,
-    thread: u16,
-    locking: Locking,
-    flow: &Flow,
+    section: Judged<'_>,
     lock: &Lock,
     links: &ClaimedLinks,
 ) -> Result<Option<usize>, AllocError>
-    requires { AreLawfulLinks scheme.now thread links.now }
+    requires { AreLawfulLinks section.scheme.now section.thread links.now }
     ensures { IfOk result (λ found. MatchOption found
-        (IsChain scheme.now thread (end_locks locking) flow.now lock.now links.now)
-        (IsFirst (IsStepRight scheme.now thread (end_locks locking) flow.now lock.now links.now))) }
+        (IsChain section.entry.scheme.now section.entry.thread (end_locks section.entry.locking)
+        section.entry.flow.now lock.now links.now)
+        (IsFirst (IsStepRight section.entry.scheme.now section.entry.thread (end_locks section.entry.locking)
+        section.entry.flow.now lock.now links.now))) }
 {
     if !begins(links, lock) {
         return Ok(Some(0));
     }
     for number in 0..links.len() {
-        if !is_right(alloc, scheme, thread, locking, flow, links, number)? {
+        if !is_right(alloc, section, links, number)? {
             return Ok(Some(number));
         }
     }

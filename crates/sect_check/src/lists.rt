@@ -11,6 +11,7 @@ ghost use Rattle.sect_check.specs.steps.Shapes.{StaysWithin, AreLawfulLists};
 
 use crate::claims::Claims;
 use crate::covering::{are_covered, is_covered, list_at, set_of};
+use crate::judged::Judged;
 use indexmap::IndexSet;
 use sect_front::Locking;
 use sect_graph::{Flow, Successors};
@@ -39,42 +40,37 @@ pub fn generated_at(
 }
 
 /// Whether what a node generates is covered by its list.
-fn covers_generated(
-    alloc: Global,
-    scheme: &Scheme,
-    thread: u16,
-    locking: Locking,
-    flow: &Flow,
-    claims: &Claims,
-    node: u16,
-) -> bool
-    requires there { node ≤ length flow.now }
-    requires count { length claims.now.nodes ≡ length flow.now + 1 }
-    ensures { IsTrue result ↔ CoversGenerated scheme.now thread (end_locks locking) flow.now claims.now node }
+fn covers_generated(alloc: Global, section: Judged<'_>, claims: &Claims, node: u16) -> bool
+    requires there { node ≤ length section.flow.now }
+    requires count { length claims.now.nodes ≡ length section.flow.now + 1 }
+    ensures { IsTrue result ↔ CoversGenerated section.entry.scheme.now section.entry.thread
+        (end_locks section.entry.locking) section.entry.flow.now claims.now node }
 {
-    match generated_at(alloc, scheme, thread, locking, flow, node) {
-        Some(lock) => is_covered(scheme, list_at(claims, node), &lock),
+    match generated_at(
+        alloc,
+        section.scheme,
+        section.thread,
+        section.locking,
+        section.flow,
+        node,
+    ) {
+        Some(lock) => is_covered(section.scheme, list_at(claims, node), &lock),
         None => true,
     }
 }
 
 /// The first node, the exit counted, of which a lock that it generates isn't covered by its list.
-pub fn first_ungenerated(
-    alloc: Global,
-    scheme: &Scheme,
-    thread: u16,
-    locking: Locking,
-    flow: &Flow,
-    claims: &Claims,
-) -> Option<u16>
-    requires { length claims.now.nodes ≡ length flow.now + 1 }
+pub fn first_ungenerated(alloc: Global, section: Judged<'_>, claims: &Claims) -> Option<u16>
+    requires { length claims.now.nodes ≡ length section.flow.now + 1 }
     ensures none { IfNone result ((j : ℕ) →
-        CoversGenerated scheme.now thread (end_locks locking) flow.now claims.now j) }
+        CoversGenerated section.entry.scheme.now section.entry.thread (end_locks section.entry.locking)
+        section.entry.flow.now claims.now j) }
     ensures some { IfSome result
-        (IsFirst (CoversGenerated scheme.now thread (end_locks locking) flow.now claims.now)) }
+        (IsFirst (CoversGenerated section.entry.scheme.now section.entry.thread (end_locks section.entry.locking)
+        section.entry.flow.now claims.now)) }
 {
-    for node in 0..flow.exit() + 1 {
-        if !covers_generated(alloc, scheme, thread, locking, flow, claims, node) {
+    for node in 0..section.flow.exit() + 1 {
+        if !covers_generated(alloc, section, claims, node) {
             return Some(node);
         }
     }
@@ -84,43 +80,42 @@ pub fn first_ungenerated(
 /// Whether what a lock is carried back to over a node is covered by locks of the set.
 fn is_carried_into(
     alloc: Global,
-    scheme: &Scheme,
-    thread: u16,
+    section: Judged<'_>,
     label: &Label,
     set: &IndexSet<Lock>,
     lock: &Lock,
 ) -> Result<bool, AllocError>
-    requires { IsLockOf scheme.now thread lock.now }
+    requires { IsLockOf section.scheme.now section.thread lock.now }
     ensures { IfOk result (λ it. IsTrue it
-        ↔ ((r : Lock) → CarriedBack scheme.now thread label.now lock.now r → CoveredBy scheme.now set.now.keys r)) }
+        ↔ ((r : Lock) → CarriedBack section.entry.scheme.now section.entry.thread label.now lock.now r
+        → CoveredBy section.entry.scheme.now set.now.keys r)) }
 {
-    if stays(thread, label, lock) {
-        return scheme.is_covered(set, lock);
+    if stays(section.thread, label, lock) {
+        return section.scheme.is_covered(set, lock);
     }
-    let carried = scheme.rewrite(alloc, thread, *label, lock)?;
-    are_covered(scheme, set, carried.as_slice())
+    let carried = section.scheme.rewrite(alloc, section.thread, *label, lock)?;
+    are_covered(section.scheme, set, carried.as_slice())
 }
 
 /// Whether what the locks of a list are carried back to over a node is covered by locks of the set. Where the set has
 /// them all, those that stay are covered.
 fn carries_into(
     alloc: Global,
-    scheme: &Scheme,
-    thread: u16,
+    section: Judged<'_>,
     label: Label,
     set: &IndexSet<Lock>,
     list: Listed<'_>,
 ) -> Result<bool, AllocError>
-    requires lawful { (l : Lock) → Has list.locks.now l → IsLockOf scheme.now thread l }
+    requires lawful { (l : Lock) → Has list.locks.now l → IsLockOf section.scheme.now section.thread l }
     requires held { IsTrue list.held → (l : Lock) → Has list.locks.now l → Has set.now.keys l }
     ensures { IfOk result (λ it. IsTrue it
-        ↔ AreCarriedInto scheme.now thread label set.now.keys list.entry.locks.now) }
+        ↔ AreCarriedInto section.entry.scheme.now section.entry.thread label set.now.keys list.entry.locks.now) }
 {
     for lock in list.locks {
-        if list.held && stays(thread, &label, lock) {
+        if list.held && stays(section.thread, &label, lock) {
             continue;
         }
-        if !is_carried_into(alloc, scheme, thread, &label, set, lock)? {
+        if !is_carried_into(alloc, section, &label, set, lock)? {
             return Ok(false);
         }
     }
@@ -192,33 +187,33 @@ fn in_order(next: Successors) -> (u16, u16)
 /// this one's list.
 fn first_uncarried_from(
     alloc: Global,
-    scheme: &Scheme,
-    thread: u16,
-    flow: &Flow,
+    section: Judged<'_>,
     claims: &Claims,
     left: Left<'_>,
 ) -> Result<Option<u16>, AllocError>
-    requires there { left.from < length flow.now }
+    requires there { left.from < length section.flow.now }
     requires set { (l : Lock) → Has left.set.now.keys l ↔ Has (list_at claims.now left.from) l }
-    requires count { length claims.now.nodes ≡ length flow.now + 1 }
-    requires within { StaysWithin flow.now }
-    requires lawful { AreLawfulLists scheme.now thread claims.now }
+    requires count { length claims.now.nodes ≡ length section.flow.now + 1 }
+    requires within { StaysWithin section.flow.now }
+    requires lawful { AreLawfulLists section.scheme.now section.thread claims.now }
     ensures none { IfOk result (λ found. IfNone found ((j : ℕ) →
-        CoversCarried scheme.now thread flow.now claims.now left.entry.from j)) }
+        CoversCarried section.entry.scheme.now section.entry.thread section.entry.flow.now claims.now
+        left.entry.from j)) }
     ensures some { IfOk result (λ found. IfSome found
-        (IsFirst (CoversCarried scheme.now thread flow.now claims.now left.entry.from))) }
+        (IsFirst (CoversCarried section.entry.scheme.now section.entry.thread section.entry.flow.now claims.now
+        left.entry.from))) }
 {
-    let label = flow.action(left.from);
-    let (first, second) = in_order(flow.succ(left.from));
+    let label = section.flow.action(left.from);
+    let (first, second) = in_order(section.flow.succ(left.from));
     let at_first = list_beside(claims, left.from, first);
-    if !carries_into(alloc, scheme, thread, label, left.set, at_first)? {
+    if !carries_into(alloc, section, label, left.set, at_first)? {
         return Ok(Some(first));
     }
     if second == first {
         return Ok(None);
     }
     let at_second = list_beside(claims, left.from, second);
-    if !carries_into(alloc, scheme, thread, label, left.set, at_second)? {
+    if !carries_into(alloc, section, label, left.set, at_second)? {
         return Ok(Some(second));
     }
     Ok(None)
@@ -228,24 +223,23 @@ fn first_uncarried_from(
 /// list, carried back, isn't covered by the first one's list.
 pub fn first_uncarried(
     alloc: Global,
-    scheme: &Scheme,
-    thread: u16,
-    flow: &Flow,
+    section: Judged<'_>,
     claims: &Claims,
 ) -> Result<Option<(u16, u16)>, AllocError>
-    requires count { length claims.now.nodes ≡ length flow.now + 1 }
-    requires within { StaysWithin flow.now }
-    requires lawful { AreLawfulLists scheme.now thread claims.now }
+    requires count { length claims.now.nodes ≡ length section.flow.now + 1 }
+    requires within { StaysWithin section.flow.now }
+    requires lawful { AreLawfulLists section.scheme.now section.thread claims.now }
     ensures none { IfOk result (λ found. IfNone found ((i j : ℕ) →
-        CoversCarried scheme.now thread flow.now claims.now i j)) }
+        CoversCarried section.entry.scheme.now section.entry.thread section.entry.flow.now claims.now i j)) }
     ensures some { IfOk result (λ found. IfSome found (λ e.
-        IsFirstPair (CoversCarried scheme.now thread flow.now claims.now) e.0 e.1)) }
+        IsFirstPair (CoversCarried section.entry.scheme.now section.entry.thread section.entry.flow.now claims.now)
+        e.0 e.1)) }
 {
     let mut set = IndexSet::new(alloc);
-    for from in 0..flow.exit() {
+    for from in 0..section.flow.exit() {
         set = next_set(alloc, claims, from, set)?;
         let left = Left { from, set: &set };
-        if let Some(to) = first_uncarried_from(alloc, scheme, thread, flow, claims, left)? {
+        if let Some(to) = first_uncarried_from(alloc, section, claims, left)? {
             return Ok(Some((from, to)));
         }
     }

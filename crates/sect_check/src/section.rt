@@ -11,31 +11,24 @@ use crate::chains::judge_chains;
 use crate::claims::Claims;
 use crate::covering::{are_covered, list_at, set_of};
 use crate::fault::SectionFault;
+use crate::judged::Judged;
 use crate::lists::{first_uncarried, first_ungenerated};
 use indexmap::IndexSet;
-use sect_front::Locking;
-use sect_graph::Flow;
 use sect_names::{Lock, Scheme};
 use std::alloc::{AllocError, Global};
 
 /// Whether the lists of the nodes are right.
-fn judge_lists(
-    alloc: Global,
-    scheme: &Scheme,
-    thread: u16,
-    locking: Locking,
-    flow: &Flow,
-    claims: &Claims,
-) -> Result<(), SectionFault>
-    requires count { length claims.now.nodes ≡ length flow.now + 1 }
-    requires within { StaysWithin flow.now }
-    requires lawful { AreLawfulLists scheme.now thread claims.now }
-    ensures { JudgesLists scheme.now thread (end_locks locking) flow.now claims.now result }
+fn judge_lists(alloc: Global, section: Judged<'_>, claims: &Claims) -> Result<(), SectionFault>
+    requires count { length claims.now.nodes ≡ length section.flow.now + 1 }
+    requires within { StaysWithin section.flow.now }
+    requires lawful { AreLawfulLists section.scheme.now section.thread claims.now }
+    ensures { JudgesLists section.entry.scheme.now section.entry.thread
+        (end_locks section.entry.locking) section.entry.flow.now claims.now result }
 {
-    if let Some(node) = first_ungenerated(alloc, scheme, thread, locking, flow, claims) {
+    if let Some(node) = first_ungenerated(alloc, section, claims) {
         return Err(SectionFault::NotGenerated { node });
     }
-    match first_uncarried(alloc, scheme, thread, flow, claims)? {
+    match first_uncarried(alloc, section, claims)? {
         None => Ok(()),
         Some((from, to)) => Err(SectionFault::NotCarried { from, to }),
     }
@@ -78,20 +71,18 @@ fn judge_entry(
 /// Whether what is claimed of a section is right: else its first fault.
 pub fn judge_section(
     alloc: Global,
-    scheme: &Scheme,
-    thread: u16,
-    locking: Locking,
-    flow: &Flow,
+    section: Judged<'_>,
     claims: &Claims,
 ) -> Result<(), SectionFault>
-    requires shape { HaveShape flow.now claims.now }
-    requires within { StaysWithin flow.now }
-    requires lawful { AreLawfulLists scheme.now thread claims.now }
-    requires chains { AreLawfulChains scheme.now thread claims.now.chains }
-    ensures { JudgesSection scheme.now thread (end_locks locking) flow.now claims.now result }
+    requires shape { HaveShape section.flow.now claims.now }
+    requires within { StaysWithin section.flow.now }
+    requires lawful { AreLawfulLists section.scheme.now section.thread claims.now }
+    requires chains { AreLawfulChains section.scheme.now section.thread claims.now.chains }
+    ensures { JudgesSection section.entry.scheme.now section.entry.thread
+        (end_locks section.entry.locking) section.entry.flow.now claims.now result }
 {
-    judge_lists(alloc, scheme, thread, locking, flow, claims)?;
+    judge_lists(alloc, section, claims)?;
     let set = set_of(alloc, claims.entry.as_slice())?;
-    judge_entry(alloc, scheme, claims, &set)?;
-    judge_chains(alloc, scheme, thread, locking, flow, claims)
+    judge_entry(alloc, section.scheme, claims, &set)?;
+    judge_chains(alloc, section, claims)
 }

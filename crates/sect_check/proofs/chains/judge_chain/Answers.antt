@@ -15,10 +15,11 @@ first_wrong-requires c = λ a h.
 
 pub returns-in-Some-2 : goal.returns-in-Some-2
 returns-in-Some-2 c =
+    let section = c.args.section in
     let chain = c.in-Some.chain.now in
     let found = subst (λ (xs : List ChainClaim). Has xs chain) c.as_slice.ensures c.in-Some.ensures.0 in (
       refl,
-      broken_at c.args.scheme.now c.args.thread (end_locks c.args.locking) c.args.flow.now c.args.claims.now
+      broken_at section.scheme.now section.thread (end_locks section.locking) section.flow.now c.args.claims.now
           c.args.number c.args.lock.now chain (found, c.in-Some.ensures.1)
           chain.links refl c.in_ok-first_wrong.field-0 c.in-Some-2.step
           c.in-Some-2.is c.in_ok-first_wrong.ensures,

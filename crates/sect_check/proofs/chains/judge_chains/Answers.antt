@@ -8,48 +8,53 @@ use Rattle.sect_check.proofs.chains.judge_chains.Goals as goal
 
 pub judge_chain-requires-clause-below : goal.judge_chain-requires-clause-below
 judge_chain-requires-clause-below c =
+    let section = c.args.section in
     let within : c.loop-number.number ≤ length c.args.claims.now.entry =
     omega (arith, c.loop-number-test.true, ap length c.as_slice-entry.ensures) in
-    numbers_below c.args.scheme.now c.args.thread (end_locks c.args.locking) c.args.flow.now c.args.claims.now
+    numbers_below section.scheme.now section.thread (end_locks section.locking) section.flow.now c.args.claims.now
     c.loop-number.number within c.loop-number.invariant
 
 pub returns-in_err-judge_chain : goal.returns-in_err-judge_chain
 returns-in_err-judge_chain c =
+    let section = c.args.section in
     let entry = c.as_slice-entry.result.now in
     let n = c.loop-number.number in
     let l = c.index-entry-number.result in
     let at = subst (λ (ls : List Lock). slice_get ls n ≡ Some l) c.as_slice-entry.ensures
     (slice_get_read entry (length entry) n l refl c.loop-number-test.true c.index-entry-number.is) in
-    chain_passed c.args.scheme.now c.args.thread (end_locks c.args.locking) c.args.flow.now c.args.claims.now n l at
+    chain_passed section.scheme.now section.thread (end_locks section.locking) section.flow.now c.args.claims.now n l at
     c.loop-number.invariant (Unit {0})
     c.from_residual.result c.in_err-judge_chain.field-0.0 c.from_residual.ensures.1 c.in_err-judge_chain.ensures
 
 pub loop-number-preserved : goal.loop-number-preserved
 loop-number-preserved c =
+    let section = c.args.section in
     let entry = c.as_slice-entry.result.now in
     let n = c.loop-number.number in
     let l = c.index-entry-number.result in
     let at = subst (λ (ls : List Lock). slice_get ls n ≡ Some l) c.as_slice-entry.ensures
     (slice_get_read entry (length entry) n l refl c.loop-number-test.true c.index-entry-number.is) in
-    chains_more c.args.scheme.now c.args.thread (end_locks c.args.locking) c.args.flow.now c.args.claims.now n l at
+    chains_more section.scheme.now section.thread (end_locks section.locking) section.flow.now c.args.claims.now n l at
     c.loop-number.invariant c.in_ok-judge_chain.ensures
 
 pub returns-in-None : goal.returns-in-None
 returns-in-None c =
-    let s = c.args.scheme.now in
-    let last = end_locks c.args.locking in
+    let section = c.args.section in
+    let s = section.scheme.now in
+    let last = end_locks section.locking in
     let claims = c.args.claims.now in
     let n = c.loop-number.number in
     let past : length claims.entry ≤ n = omega (arith, c.loop-number-test.false, ap length c.as_slice-entry.ensures) in
     let all = ltb-false (length c.as_slice-entry.result.now) (length c.as_slice.result.now)
     (sym c.in-None.ensures.lookup.0) in (
-      chains_done s c.args.thread last c.args.flow.now claims n past c.loop-number.invariant,
-      no_others s c.args.thread last c.args.flow.now claims n past c.loop-number.invariant c.requires.rise
+      chains_done s section.thread last section.flow.now claims n past c.loop-number.invariant,
+      no_others s section.thread last section.flow.now claims n past c.loop-number.invariant c.requires.rise
           (omega (arith, all, ap length c.as_slice-entry.ensures, ap length c.as_slice.ensures)),
     )
 
 pub returns-in-Some : goal.returns-in-Some
 returns-in-Some c =
+    let section = c.args.section in
     let claims = c.args.claims.now in
     let n = c.loop-number.number in
     let chain = c.in-Some.chain.now in
@@ -61,5 +66,5 @@ returns-in-Some c =
     (ltb-true (length entry) (length chains) (sym look.0)) look.1 in
     let at = subst (λ (xs : List ChainClaim). slice_get xs (length claims.entry) ≡ Some chain) c.as_slice.ensures
     (subst (λ k. slice_get chains k ≡ Some chain) (ap length c.as_slice-entry.ensures) found) in
-    stray_breaks c.args.scheme.now c.args.thread (end_locks c.args.locking) c.args.flow.now claims n past
+    stray_breaks section.scheme.now section.thread (end_locks section.locking) section.flow.now claims n past
     c.loop-number.invariant c.requires.rise chain at

@@ -4,4 +4,5 @@ use Rattle.sect_check.specs.Valid.{HasItsChain}
 use Rattle.sect_check.proofs.chains.judge_chains.Given as goal
 
 abbrev pub invariant-loop-number : goal.invariant-loop-number
-invariant-loop-number l = (m : ℕ) → m < l.number → HasItsChain l.scheme l.thread (end_locks l.locking) l.flow l.claims m
+invariant-loop-number l = (m : ℕ) → m < l.number
+    → HasItsChain l.section.scheme.now l.section.thread (end_locks l.section.locking) l.section.flow.now l.claims m

@@ -12,14 +12,16 @@ returns-then-not-branch c = (
 
 pub loop-number-preserved : goal.loop-number-preserved
 loop-number-preserved c =
-    let s = c.args.scheme.now in
+    let section = c.args.section in
+    let s = section.scheme.now in
     let links = c.args.links.now in
-    below_next (λ m. ComesRight s c.args.thread c.args.flow.now links m
-    × EndsRight s c.args.thread (end_locks c.args.locking) c.args.flow.now links m) c.loop-number.number
+    below_next (λ m. ComesRight s section.thread section.flow.now links m
+    × EndsRight s section.thread (end_locks section.locking) section.flow.now links m) c.loop-number.number
     c.loop-number.invariant (c.in_ok-is_right.ensures.0 c.if-not-branch.false)
 
 pub returns : goal.returns
 returns c =
-    chain_when c.args.scheme.now c.args.thread (end_locks c.args.locking) c.args.flow.now c.args.lock.now
+    let section = c.args.section in
+    chain_when section.scheme.now section.thread (end_locks section.locking) section.flow.now c.args.lock.now
     c.args.links.now (c.begins.ensures.0 c.if-not-begins.false)
     (λ m lt. c.loop-number.invariant m (omega (arith, lt, c.loop-number-test.false)))

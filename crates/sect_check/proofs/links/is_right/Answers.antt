@@ -15,7 +15,8 @@ links_to-requires c = record {
 
 pub returns-then-not-branch : goal.returns-then-not-branch
 returns-then-not-branch c =
-    let to = comes_to c.args.scheme.now c.args.thread c.args.flow.now c.args.links.now c.args.number _ _
+    let section = c.args.section in
+    let to = comes_to section.scheme.now section.thread section.flow.now c.args.links.now c.args.number _ _
     c.if-number-gt0.true c.pair_at.ensures.step c.pair_at.ensures.next in (
       λ t. absurd (true≢false (sym t)),
       λ h. absurd (true≢false (sym (c.in_ok-links_to.ensures.1 (to h.0)) ∙ c.if-not-branch.true)),
@@ -23,9 +24,9 @@ returns-then-not-branch c =
 
 pub returns-else-number-count : goal.returns-else-number-count
 returns-else-number-count c =
-    let s = c.args.scheme.now in
-    let t = c.args.thread in
-    let g = c.args.flow.now in
+    let s = c.args.section.scheme.now in
+    let t = c.args.section.thread in
+    let g = c.args.section.flow.now in
     let links = c.args.links.now in
     let n = c.args.number in
     let comes : ComesRight s t g links n = elim c.else-number-gt0.branch [
@@ -34,6 +35,6 @@ returns-else-number-count c =
           (w.in_ok-links_to.ensures.0 w.if-not-branch.false)
       | else-number-gt0-via-else-number-gt0 w ↦ comes_first s t g links n (omega (arith, w.if-number-gt0.false))
     ] in
-    let ends = ends_last s t g links n (end_locks c.args.locking) _ c.requires.number
+    let ends = ends_last s t g links n (end_locks c.args.section.locking) _ c.requires.number
     (omega (arith, c.if-number-count.false, c.len-count.ensures)) c.at.ensures in
     (λ made. (comes, ends.0 (c.is_generated.ensures.0 made)), λ h. c.is_generated.ensures.1 (ends.1 h.1))

@@ -8,8 +8,8 @@ use Rattle.sect_check.proofs.links.links_to.Goals as goal
 
 pub returns-then-stays : goal.returns-then-stays
 returns-then-stays c =
-    let s = c.args.scheme.now in
-    let g = c.args.flow.now in
+    let s = c.args.section.scheme.now in
+    let g = c.args.section.flow.now in
     let pair = c.args.pair in
     let node = c.in-Some.node in
     let x = told_at (λ (n : Node). n.label) g node c.action-label.result c.action-label.ensures in
@@ -20,7 +20,7 @@ returns-then-stays c =
         subst (λ i. slice_get g i ≡ Some x.0) c.in-Some.ensures.0 x.1,
         subst (λ (z : Successors). IsSuccessor z pair.next.node) (sym next)
             (c.leads_to.ensures.0 c.if-not-leads_to.false),
-        subst (λ (a : Label). CarriedBack s c.args.thread a pair.next.lock.now pair.step.lock.now) (sym x.2)
+        subst (λ (a : Label). CarriedBack s c.args.section.thread a pair.next.lock.now pair.step.lock.now) (sym x.2)
             (stay.1 (c.requires.same c.if-same.true)),
       ),
       λ h. refl,

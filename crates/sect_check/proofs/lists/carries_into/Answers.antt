@@ -24,22 +24,23 @@ returns-then-not-branch c =
 
 pub loop-lock-preserved : goal.loop-lock-preserved
 loop-lock-preserved c =
+    let section = c.args.section in
     let locks = c.args.list.locks.now in
     let within : c.loop-lock.lock-index < length locks = omega arith in
-    carried_more c.args.scheme.now c.args.thread c.args.label c.args.set.now.keys locks c.loop-lock.lock-index
+    carried_more section.scheme.now section.thread c.args.label c.args.set.now.keys locks c.loop-lock.lock-index
     c.lock-item.result
     within c.lock-item.is c.loop-lock.invariant (c.in_ok-is_carried_into.ensures.0 c.if-not-branch.false)
 
 pub loop-lock-preserved-then-stays : goal.loop-lock-preserved-then-stays
 loop-lock-preserved-then-stays c =
-    let s = c.args.scheme.now in
+    let s = c.args.section.scheme.now in
     let keys = c.args.set.now.keys in
     let locks = c.args.list.locks.now in
     let within : c.loop-lock.lock-index < length locks = omega arith in
     let x = c.lock-item.result in
     let has = item_has locks c.loop-lock.lock-index x within c.lock-item.is in
     let stay = c.stays.ensures c.if-stays.true s (c.requires.lawful x has) in
-    carried_more s c.args.thread c.args.label keys locks c.loop-lock.lock-index x within c.lock-item.is
+    carried_more s c.args.section.thread c.args.label keys locks c.loop-lock.lock-index x within c.lock-item.is
     c.loop-lock.invariant
     (λ r back. subst (CoveredBy s keys) (sym ((stay r).0 back))
     (x, c.requires.held c.if-list.true x has, covers_refl s x))

@@ -5,14 +5,14 @@ use Rattle.sect_check.proofs.lists.first_uncarried_from.Goals as goal
 
 pub returns-then-not-branch-clause-some : goal.returns-then-not-branch-clause-some
 returns-then-not-branch-clause-some c =
-    first_is c.args.scheme.now _ c.args.flow.now c.args.claims.now c.args.left.from _ _
+    first_is c.args.section.scheme.now _ c.args.section.flow.now c.args.claims.now c.args.left.from _ _
     c.action-label.ensures c.succ.ensures c.args.left.set.now.keys _ refl c.requires.set _ _
     c.in_order-first.ensures.each c.in_order-first.ensures.order _ c.list_beside-at_first.ensures.locks
     (λ h. true≢false (sym (c.in_ok-carries_into.ensures.1 h) ∙ c.if-not-branch.true))
 
 pub returns-then-not-branch-2-clause-some : goal.returns-then-not-branch-2-clause-some
 returns-then-not-branch-2-clause-some c =
-    second_is c.args.scheme.now _ c.args.flow.now c.args.claims.now c.args.left.from _ _
+    second_is c.args.section.scheme.now _ c.args.section.flow.now c.args.claims.now c.args.left.from _ _
     c.action-label.ensures c.succ.ensures c.args.left.set.now.keys _ refl c.requires.set _ _
     c.in_order-first.ensures.each c.in_order-first.ensures.order _ c.list_beside-at_first.ensures.locks
     (c.in_ok-carries_into.ensures.0 c.if-not-branch.false) _ c.list_beside-at_second.ensures.locks
@@ -20,7 +20,7 @@ returns-then-not-branch-2-clause-some c =
 
 pub returns-clause-none : goal.returns-clause-none
 returns-clause-none c =
-    all_hold c.args.scheme.now _ c.args.flow.now c.args.claims.now c.args.left.from _ _
+    all_hold c.args.section.scheme.now _ c.args.section.flow.now c.args.claims.now c.args.left.from _ _
     c.action-label.ensures c.succ.ensures c.args.left.set.now.keys _ refl c.requires.set _ _
     c.in_order-first.ensures.each c.in_order-first.ensures.order _ c.list_beside-at_first.ensures.locks
     (c.in_ok-carries_into.ensures.0 c.if-not-branch.false) _ c.list_beside-at_second.ensures.locks
@@ -28,7 +28,7 @@ returns-clause-none c =
 
 pub returns-then-second-first-clause-none : goal.returns-then-second-first-clause-none
 returns-then-second-first-clause-none c =
-    one_holds c.args.scheme.now _ c.args.flow.now c.args.claims.now c.args.left.from _ _
+    one_holds c.args.section.scheme.now _ c.args.section.flow.now c.args.claims.now c.args.left.from _ _
     c.action-label.ensures c.succ.ensures c.args.left.set.now.keys _ refl c.requires.set _ _
     c.in_order-first.ensures.each c.in_order-first.ensures.order _ c.list_beside-at_first.ensures.locks
     c.if-second-first.true (c.in_ok-carries_into.ensures.0 c.if-not-branch.false)
@@ -36,14 +36,14 @@ returns-then-second-first-clause-none c =
 pub list_beside-at_first-requires-clause-node : goal.list_beside-at_first-requires-clause-node
 list_beside-at_first-requires-clause-node c =
     let first = c.in_order-first.result.0 in
-    let to = stays c.args.flow.now c.requires.within c.args.left.from c.succ.result c.succ.ensures first
+    let to = stays c.args.section.flow.now c.requires.within c.args.left.from c.succ.result c.succ.ensures first
     ((c.in_order-first.ensures.each first).1 (inl refl)) in
     omega (arith, to, c.requires.count)
 
 pub list_beside-at_second-requires-clause-node : goal.list_beside-at_second-requires-clause-node
 list_beside-at_second-requires-clause-node c =
     let second = c.in_order-first.result.1 in
-    let to = stays c.args.flow.now c.requires.within c.args.left.from c.succ.result c.succ.ensures second
+    let to = stays c.args.section.flow.now c.requires.within c.args.left.from c.succ.result c.succ.ensures second
     ((c.in_order-first.ensures.each second).1 (inr refl)) in
     omega (arith, to, c.requires.count)
 

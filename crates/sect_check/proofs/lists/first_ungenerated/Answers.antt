@@ -6,13 +6,15 @@ use Rattle.sect_check.proofs.lists.first_ungenerated.Goals as goal
 
 pub loop-node-preserved : goal.loop-node-preserved
 loop-node-preserved c =
-    below_next (CoversGenerated c.args.scheme.now c.args.thread (end_locks c.args.locking) c.args.flow.now
+    let section = c.args.section in
+    below_next (CoversGenerated section.scheme.now section.thread (end_locks section.locking) section.flow.now
     c.args.claims.now) c.loop-node.node c.loop-node.invariant
     (c.covers_generated.ensures.0 c.if-not-covers_generated.false)
 
 pub returns-clause-none : goal.returns-clause-none
 returns-clause-none c =
-    let g = c.args.flow.now in
+    let section = c.args.section in
+    let g = section.flow.now in
     let past : length g < c.loop-node.node = omega (arith, c.exit-node-end.ensures.number, c.loop-node-test.false) in
-    all_covered c.args.scheme.now c.args.thread (end_locks c.args.locking) g c.args.claims.now c.loop-node.node past
+    all_covered section.scheme.now section.thread (end_locks section.locking) g c.args.claims.now c.loop-node.node past
     c.loop-node.invariant

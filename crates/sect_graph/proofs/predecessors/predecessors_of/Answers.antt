@@ -3,9 +3,6 @@ use Rattle.sect_graph.specs.{declared.flow.Successors.TheVariants.{Next, Branch}
 use Rattle.sect_lemmas.proofs.Places.{told_at}
 use Rattle.sect_graph.proofs.Preceding.{before_none, before_next, before_done, added_one, added_two, goes_within}
 use Rattle.sect_graph.proofs.Preceding.{rising_one, rising_two}
-use Rattle.sect_graph.proofs.predecessors.predecessors_of.Goals.{in-Next+in_ok-add-in-Next}
-use Rattle.sect_graph.proofs.predecessors.predecessors_of.Goals.{in-Branch+in_ok-add-in-Branch+then-fails-holds+in_ok-add-in-Branch-2}
-use Rattle.sect_graph.proofs.predecessors.predecessors_of.Goals.{in-Branch+in_ok-add-in-Branch+else-fails-holds}
 use Rattle.sect_graph.proofs.predecessors.predecessors_of.Goals as goal
 
 pub add-requires : goal.add-requires
@@ -41,7 +38,7 @@ loop-node-preserved c =
     let node = told_at (λ (y : Node). y.next) g j c.succ.result c.succ.ensures in
     let y = node.0 in
     elim c.match-succ.branch [
-      | in-Next+in_ok-add-in-Next w ↦
+      | goal.in-Next+in_ok-add-in-Next w ↦
           let is : y.next ≡ Next w.in-Next.next = node.2 ∙ w.in-Next.is in
           let a = w.in_ok-add-in-Next.ensures in
           let to = w.in-Next.next in
@@ -52,7 +49,7 @@ loop-node-preserved c =
           (added_one y.next to old w.add.new.self j (λ m. rw is (λ h. h, λ h. h)) a.added)
           (rising_one j old w.add.new.self to there a.behind c.loop-node.invariant.rising)
           c.loop-node.invariant)
-      | in-Branch+in_ok-add-in-Branch+then-fails-holds+in_ok-add-in-Branch-2 w ↦
+      | goal.in-Branch+in_ok-add-in-Branch+then-fails-holds+in_ok-add-in-Branch-2 w ↦
           let holds = w.in-Branch.holds in
           let fails = w.in-Branch.fails in
           let is : y.next ≡ Branch holds fails = node.2 ∙ w.in-Branch.is in
@@ -72,7 +69,7 @@ loop-node-preserved c =
           (added_two y.next holds fails old mid new j (λ m. rw is (λ h. h, λ h. h)) a.count a.added b.added)
           (rising_two j old mid new holds fails first second w.if-fails-holds.true a.behind b.behind
           c.loop-node.invariant.rising) c.loop-node.invariant)
-      | in-Branch+in_ok-add-in-Branch+else-fails-holds w ↦
+      | goal.in-Branch+in_ok-add-in-Branch+else-fails-holds w ↦
           let holds = w.in-Branch.holds in
           let fails = w.in-Branch.fails in
           let is : y.next ≡ Branch holds fails = node.2 ∙ w.in-Branch.is in

@@ -33,7 +33,7 @@ loop-thread-preserved c =
           (thread_added ps (expands i) i.call n c.in_ok-locals.locals c.in_ok-body.body x c.as_slice.result.now
           c.requires.own c.in_ok-locals.ensures c.as_slice.ensures c.in_ok-body.ensures c.put_block.new.nodes.items
           c.loop-thread.out.items c.push.new.self.items (rw c.new-nodes.ensures.items at c.in_ok-next.ensures.nodes)
-          (rw c.new.ensures at c.in_ok-push.ensures.items)),
+          (rw c.from_vec.ensures at c.in_ok-push.ensures.items)),
       walked_more items_in_thread items_in_threads (thread_parts ps (expands i) (expands_sections i))
           (threads_sections ps (expands i) (expands_sections i)) (parts_listed ps (expands i) (expands_sections i))
           c.args.threads.now c.loop-thread.thread-index c.args.item n c.in_ok-next.next c.args.sections.now.items

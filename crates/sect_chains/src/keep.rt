@@ -17,6 +17,14 @@ pub struct KeptLink {
     pub next: Option<usize>,
 }
 
+/// Steps at one node that link to one: their node, and the index of the step to which they link, none where their locks
+/// are generated.
+#[derive(Clone, Copy)]
+pub struct Siblings {
+    pub node: u16,
+    pub next: Option<usize>,
+}
+
 /// Whether a lock is another than those with these numbers, and none of them covers it.
 fn is_new(numbering: &Numbering, found: &Numbers, number: usize) -> bool
     requires { number < length numbering.now.above }
@@ -44,57 +52,57 @@ pub fn keep(
     Ok(())
 }
 
-/// Finds the locks with these numbers at a node. Their steps are kept in the same way, each with this index.
-fn keep_all(
-    numbering: &Numbering,
-    found: &mut Vec<Numbers>,
-    steps: &mut Vec<KeptLink>,
-    node: u16,
-    next: Option<usize>,
-    numbers: &[usize],
-) -> Result<(), AllocError>
-    requires node { node < length found.old.items }
-    requires numbers { (n : ℕ) → Has numbers.now n → n < length numbering.now.above }
-    ensures { OnOk result (kept found.new.items steps.new.items
-        ≡ keep_each numbering.now.above (kept found.old.items steps.old.items) node next numbers.now) }
-{
-    for number in numbers {
-        let step = KeptLink {
-            node,
-            number: *number,
-            next,
-        };
-        keep(numbering, found, steps, step)?;
+impl Siblings {
+    /// Finds the locks with these numbers at the node. Their steps are kept in the same way as one is.
+    fn keep_all(
+        self,
+        numbering: &Numbering,
+        found: &mut Vec<Numbers>,
+        steps: &mut Vec<KeptLink>,
+        numbers: &[usize],
+    ) -> Result<(), AllocError>
+        requires node { self.node < length found.old.items }
+        requires numbers { (n : ℕ) → Has numbers.now n → n < length numbering.now.above }
+        ensures { OnOk result (kept found.new.items steps.new.items
+            ≡ keep_each numbering.now.above (kept found.old.items steps.old.items) self.node self.next numbers.now) }
+    {
+        for number in numbers {
+            let step = KeptLink {
+                node: self.node,
+                number: *number,
+                next: self.next,
+            };
+            keep(numbering, found, steps, step)?;
+        }
+        Ok(())
     }
-    Ok(())
-}
 
-/// Finds the locks with these numbers at a node, in their canonical order. Their steps are kept in the same way, each
-/// with this index.
-#[tactic(auto, using(crate::proofs::Listing::few_in_order))]
-pub fn keep_found(
-    alloc: Global,
-    numbering: &Numbering,
-    found: &mut Vec<Numbers>,
-    steps: &mut Vec<KeptLink>,
-    node: u16,
-    next: Option<usize>,
-    numbers: &Numbers,
-) -> Result<(), AllocError>
-    requires node { node < length found.old.items }
-    requires count { length numbering.now.above ≡ length numbering.now.keys }
-    requires apart { AreApart numbering.now.keys }
-    requires once { AreApart numbers.now }
-    requires numbers { AreNumbers numbering.now.keys numbers.now }
-    ensures { OnOk result ((order : List ℕ) × IsOrderOf numbering.now.keys numbers.now order
-        × (kept found.new.items steps.new.items
-        ≡ keep_each numbering.now.above (kept found.old.items steps.old.items) node next order)) }
-{
-    let members = numbers.members();
-    // Mostly there is one.
-    if members.len() <= 1 {
-        return keep_all(numbering, found, steps, node, next, members);
+    /// Finds the locks with these numbers at the node, in their canonical order. Their steps are kept in the same way
+    /// as one is.
+    #[tactic(auto, using(crate::proofs::Listing::few_in_order))]
+    pub fn keep_found(
+        self,
+        alloc: Global,
+        numbering: &Numbering,
+        found: &mut Vec<Numbers>,
+        steps: &mut Vec<KeptLink>,
+        numbers: &Numbers,
+    ) -> Result<(), AllocError>
+        requires node { self.node < length found.old.items }
+        requires count { length numbering.now.above ≡ length numbering.now.keys }
+        requires apart { AreApart numbering.now.keys }
+        requires once { AreApart numbers.now }
+        requires numbers { AreNumbers numbering.now.keys numbers.now }
+        ensures { OnOk result ((order : List ℕ) × IsOrderOf numbering.now.keys numbers.now order
+            × (kept found.new.items steps.new.items
+            ≡ keep_each numbering.now.above (kept found.old.items steps.old.items) self.node self.next order)) }
+    {
+        let members = numbers.members();
+        // Mostly there is one.
+        if members.len() <= 1 {
+            return self.keep_all(numbering, found, steps, members);
+        }
+        let order = in_order(alloc, numbering, members)?;
+        self.keep_all(numbering, found, steps, order.as_slice())
     }
-    let order = in_order(alloc, numbering, members)?;
-    keep_all(numbering, found, steps, node, next, order.as_slice())
 }

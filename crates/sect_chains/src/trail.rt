@@ -8,7 +8,7 @@ ghost use Rattle.sect_chains.specs.steps.{Trails.{RespectCover, GoBack, AreFrom}
 ghost use Rattle.sect_chains.specs.steps.Ordering.{IsSearched};
 ghost use Rattle.sect_graph.specs.Predecessors.{StaysWithin};
 
-use crate::work::{Searched, Trail, carry, generated};
+use crate::work::{Searched, Trail};
 use sect_graph::predecessors_of;
 use sect_infer::Numbers;
 use sect_names::Link;
@@ -26,12 +26,12 @@ pub fn trail_of(alloc: Global, section: Searched<'_>) -> Result<Trail, AllocErro
         section.entry.flow.now) }
 {
     let predecessors = predecessors_of(alloc, section.flow)?;
-    let mut trail = generated(alloc, section)?;
+    let mut trail = section.generated(alloc)?;
     let mut fresh = Numbers::new(alloc);
     let mut done = 0;
     while done < trail.steps.len() {
         let nodes = predecessors.of(trail.steps[done].node);
-        carry(alloc, section, nodes, &mut trail, &mut fresh, done)?;
+        section.carry(alloc, nodes, &mut trail, &mut fresh, done)?;
         done += 1;
     }
     Ok(trail)

@@ -10,7 +10,7 @@ use Rattle.sect_chains.specs.steps.Working.{kept_of}
 use Rattle.sect_chains.proofs.{Growing.{kept_numbers, link_at, lock_is, grows_none, grows_at}, Places.{in_front}}
 use Rattle.sect_chains.proofs.Carrying.{carry_next, carry_done}
 use Rattle.sect_chains.proofs.Spreading.{first_begin, first_before, first_next, first_done}
-use Rattle.sect_chains.proofs.work.carry.Goals as goal
+use Rattle.sect_chains.proofs.work.Searched.carry.Goals as goal
 
 pub carry_to-requires-clause-node : goal.carry_to-requires-clause-node
 carry_to-requires-clause-node c =
@@ -20,7 +20,7 @@ carry_to-requires-clause-node c =
     let x = at_of steps c.args.index c.requires.index in
     let found = (c.requires.before x.0 x.1 (get_or nodes i 0)).0
     (Has-get_or nodes i 0 (omega (arith, c.loop-node-test.true))) in
-    slice_get_within c.args.section.flow.now (get_or nodes i 0) found.0 found.1
+    slice_get_within c.args.self.flow.now (get_or nodes i 0) found.0 found.1
 
 pub carry_to-requires-clause-index : goal.carry_to-requires-clause-index
 carry_to-requires-clause-index c =
@@ -44,7 +44,7 @@ carry_to-requires-clause-leads c = λ y x at_y at_x.
     let same : z.0 ≡ x = one_at c.loop-node.trail.steps.items c.args.index z.0 x still at_x in
     let found = (c.requires.before z.0 z.1 (get_or nodes i 0)).0
     (Has-get_or nodes i 0 (omega (arith, c.loop-node-test.true))) in
-    let here : found.0 ≡ y = one_at c.args.section.flow.now (get_or nodes i 0) found.0 y found.1 at_y in
+    let here : found.0 ≡ y = one_at c.args.self.flow.now (get_or nodes i 0) found.0 y found.1 at_y in
     subst (λ n. LeadsTo n x.node) here (subst (λ (s : KeptLink). LeadsTo found.0 s.node) same found.2)
 
 pub carry_to-requires-clause-work : goal.carry_to-requires-clause-work
@@ -63,7 +63,7 @@ carry_to-requires-clause-sorted c =
 
 pub carry_to-requires-clause-before : goal.carry_to-requires-clause-before
 carry_to-requires-clause-before c = λ l.
-    let a = c.args.section in
+    let a = c.args.self in
     let old = c.args.trail.now in
     let nodes = c.args.predecessors.now in
     let i = c.loop-node.node-index in
@@ -75,7 +75,7 @@ carry_to-requires-clause-before c = λ l.
 
 pub loop-node-init : goal.loop-node-init
 loop-node-init c =
-    let a = c.args.section in
+    let a = c.args.self in
     let old = c.args.trail.now in
     record {
       kept = λ b at. grows_none a.scheme.now a.thread a.last.now a.flow.now old.numbering (kept_of old)
@@ -87,7 +87,7 @@ loop-node-init c =
 
 pub loop-node-preserved : goal.loop-node-preserved
 loop-node-preserved c =
-    let a = c.args.section in
+    let a = c.args.self in
     let s = a.scheme.now in
     let g = a.flow.now in
     let old = c.args.trail.now in
@@ -122,7 +122,7 @@ loop-node-preserved c =
 
 pub returns-clause-kept : goal.returns-clause-kept
 returns-clause-kept c = λ b at.
-    let a = c.args.section in
+    let a = c.args.self in
     let s = a.scheme.now in
     let g = a.flow.now in
     let old = c.args.trail.now in
@@ -139,7 +139,7 @@ returns-clause-kept c = λ b at.
 
 pub returns-clause-order : goal.returns-clause-order
 returns-clause-order c = λ b at.
-    let a = c.args.section in
+    let a = c.args.self in
     let s = a.scheme.now in
     let g = a.flow.now in
     let old = c.args.trail.now in

@@ -8,12 +8,12 @@ use Rattle.sect_infer.specs.Numberings.{Finds, IsFinding}
 use Rattle.sect_chains.specs.steps.{Keeping.{KeptView}, Working.{links_of, nexts_of, kept_of, Grows}}
 use Rattle.sect_chains.specs.steps.Ordering.{links_in, nexts_in, Adds}
 use Rattle.sect_chains.proofs.{Adding.{carried_adds}, Growing.{kept_numbers, step_found, lock_is}, Working.{trail_lock}}
-use Rattle.sect_chains.proofs.{Carrying.{carried_to}, work.carry_over.Goals.{In_ok-carry_one}}
-use Rattle.sect_chains.proofs.work.carry_over.Goals as goal
+use Rattle.sect_chains.proofs.{Carrying.{carried_to}, work.Searched.carry_over.Goals.{In_ok-carry_one}}
+use Rattle.sect_chains.proofs.work.Searched.carry_over.Goals as goal
 
 pub carry_one-requires-clause-number : goal.carry_one-requires-clause-number
 carry_one-requires-clause-number c =
-    let a = c.args.section in
+    let a = c.args.self in
     let old = c.args.trail.now in
     let x = c.index.result.now in
     let at : slice_get old.steps.items c.args.index ≡ Some x = slice_get-get_or old.steps.items c.args.index x
@@ -23,7 +23,7 @@ carry_one-requires-clause-number c =
 
 pub carry_one-requires-clause-lawful : goal.carry_one-requires-clause-lawful
 carry_one-requires-clause-lawful c = λ l got.
-    let a = c.args.section in
+    let a = c.args.self in
     let old = c.args.trail.now in
     let x = c.index.result.now in
     let at : slice_get old.steps.items c.args.index ≡ Some x = slice_get-get_or old.steps.items c.args.index x
@@ -35,12 +35,12 @@ carry_one-requires-clause-lawful c = λ l got.
 
 -- what is found, by the numbers that were found
 finds : (c : In_ok-carry_one) → (y : Node) (b : Link)
-    → slice_get c.args.section.flow.now c.args.node ≡ Some y
+    → slice_get c.args.self.flow.now c.args.node ≡ Some y
     → slice_get (links_in c.args.trail.now) c.args.index ≡ Some b
-    → (LeadsTo y b.node) × Finds c.args.section.scheme.now c.args.trail.now.numbering [] c.carry_one.new.numbering
-    c.carry_one.new.found (CarriedBack c.args.section.scheme.now c.args.section.thread y.label b.lock)
+    → (LeadsTo y b.node) × Finds c.args.self.scheme.now c.args.trail.now.numbering [] c.carry_one.new.numbering
+    c.carry_one.new.found (CarriedBack c.args.self.scheme.now c.args.self.thread y.label b.lock)
 finds c y b at_y at_b =
-    let a = c.args.section in
+    let a = c.args.self in
     let s = a.scheme.now in
     let t = a.thread in
     let g = a.flow.now in
@@ -62,9 +62,9 @@ finds c y b at_y at_b =
     )
 
 -- what was found for the lock of the step
-finding : (c : In_ok-carry_one) → IsFinding c.args.section.scheme.now c.carry_one.new.numbering c.carry_one.new.found
+finding : (c : In_ok-carry_one) → IsFinding c.args.self.scheme.now c.carry_one.new.numbering c.carry_one.new.found
 finding c =
-    let a = c.args.section in
+    let a = c.args.self in
     let old = c.args.trail.now in
     let x = c.index.result.now in
     let at : slice_get old.steps.items c.args.index ≡ Some x = slice_get-get_or old.steps.items c.args.index x
@@ -90,7 +90,7 @@ keep_found-requires-clause-numbers c = (finding (goal.at.keep_found-requires-cla
 
 pub returns-clause-kept : goal.returns-clause-kept
 returns-clause-kept c = on_ok_weaker c.keep_found.result (λ k y b at_y at_b.
-    let a = c.args.section in
+    let a = c.args.self in
     let s = a.scheme.now in
     let t = a.thread in
     let g = a.flow.now in
@@ -105,7 +105,7 @@ returns-clause-kept c = on_ok_weaker c.keep_found.result (λ k y b at_y at_b.
 
 pub returns-clause-order : goal.returns-clause-order
 returns-clause-order c = on_ok_weaker c.keep_found.result (λ k y b at_y at_b.
-    let a = c.args.section in
+    let a = c.args.self in
     let s = a.scheme.now in
     let t = a.thread in
     let g = a.flow.now in

@@ -8,11 +8,11 @@ use Rattle.sect_chains.specs.steps.{Keeping.{KeptView}, Working.{links_of, nexts
 use Rattle.sect_chains.specs.steps.Ordering.{links_in, nexts_in, Adds}
 use Rattle.sect_chains.proofs.{Adding.{carried_adds}, Carrying.{carried_to}, Growing.{kept_numbers}}
 use Rattle.sect_chains.proofs.{Listing.{few_in_order}, Staying.{stayed}}
-use Rattle.sect_chains.proofs.work.carry_to.Goals as goal
+use Rattle.sect_chains.proofs.work.Searched.carry_to.Goals as goal
 
 pub lock-requires : goal.lock-requires
 lock-requires c =
-    let a = c.args.section in
+    let a = c.args.self in
     let old = c.args.trail.now in
     let x = c.index.result.now in
     let at : slice_get old.steps.items c.args.index ≡ Some x = slice_get-get_or old.steps.items c.args.index x
@@ -22,7 +22,7 @@ lock-requires c =
 
 pub returns-then-stays-clause-kept : goal.returns-then-stays-clause-kept
 returns-then-stays-clause-kept c = on_ok_weaker c.keep.result (λ is y b at_y at_b.
-    let a = c.args.section in
+    let a = c.args.self in
     let s = a.scheme.now in
     let t = a.thread in
     let g = a.flow.now in
@@ -44,7 +44,7 @@ returns-then-stays-clause-kept c = on_ok_weaker c.keep.result (λ is y b at_y at
 
 pub returns-then-stays-clause-order : goal.returns-then-stays-clause-order
 returns-then-stays-clause-order c = on_ok_weaker c.keep.result (λ is y b at_y at_b.
-    let a = c.args.section in
+    let a = c.args.self in
     let s = a.scheme.now in
     let t = a.thread in
     let g = a.flow.now in

@@ -4,11 +4,11 @@ use Rattle.sect_names.specs.declared.link.Link.{Link}
 use Rattle.sect_chains.specs.declared.work.Trail.{Trail}
 use Rattle.sect_chains.specs.steps.Working.{kept_of, IsGeneratedBelow}
 use Rattle.sect_chains.proofs.{Spreading.{below_before, begins}, Growing.{grows_found}, Carrying.{generated_all}}
-use Rattle.sect_chains.proofs.work.generated.Goals as goal
+use Rattle.sect_chains.proofs.work.Searched.generated.Goals as goal
 
 pub returns-clause-all : goal.returns-clause-all
 returns-clause-all c =
-    let a = c.args.section in
+    let a = c.args.self in
     let s = a.scheme.now in
     let t = a.thread in
     let last = a.last.now in
@@ -23,7 +23,7 @@ returns-clause-all c =
 
 pub put_at_end-requires-clause-before : goal.put_at_end-requires-clause-before
 put_at_end-requires-clause-before c = λ l.
-    let a = c.args.section in
+    let a = c.args.self in
     let s = a.scheme.now in
     let g = a.flow.now in
     let first : Trail =
@@ -33,7 +33,7 @@ put_at_end-requires-clause-before c = λ l.
 
 pub returns-clause-order : goal.returns-clause-order
 returns-clause-order c =
-    let a = c.args.section in
+    let a = c.args.self in
     let first : Trail =
       record { numbering = c.new.result; found = c.in_ok-none_found.field-0; steps = c.new-2.result } in
     begins a.scheme.now a.thread a.last.now a.flow.now first c.put_by_nodes.new.trail

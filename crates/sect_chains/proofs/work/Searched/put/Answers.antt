@@ -4,11 +4,11 @@ use Rattle.sect_names.specs.Chains.{link}
 use Rattle.sect_chains.specs.steps.{Keeping.{KeptView}, Working.{links_of, nexts_of, kept_of, Grows}}
 use Rattle.sect_chains.specs.steps.Ordering.{links_in, nexts_in, Adds}
 use Rattle.sect_chains.proofs.{Adding.{put_adds}, Carrying.{put_one, generated_within}}
-use Rattle.sect_chains.proofs.work.put.Goals as goal
+use Rattle.sect_chains.proofs.work.Searched.put.Goals as goal
 
 pub keep-requires-clause-node : goal.keep-requires-clause-node
 keep-requires-clause-node c =
-    let a = c.args.section in
+    let a = c.args.self in
     let old = c.args.trail.now in
     generated_within a.scheme.now a.thread a.last.now a.flow.now old.numbering (kept_of old)
     (link c.args.node c.args.lock.now) c.requires.work c.requires.generated
@@ -21,7 +21,7 @@ keep-requires-clause-number c =
 
 pub returns-clause-kept : goal.returns-clause-kept
 returns-clause-kept c =
-    let a = c.args.section in
+    let a = c.args.self in
     let s = a.scheme.now in
     let g = a.flow.now in
     let old = c.args.trail.now in
@@ -39,7 +39,7 @@ returns-clause-kept c =
 
 pub returns-clause-order : goal.returns-clause-order
 returns-clause-order c =
-    let a = c.args.section in
+    let a = c.args.self in
     let s = a.scheme.now in
     let g = a.flow.now in
     let old = c.args.trail.now in

@@ -5,18 +5,18 @@ use Rattle.sect_names.specs.Chains.{link}
 use Rattle.sect_chains.specs.steps.{Working.{kept_of, GoesOn}, Ordering.{AllBefore}}
 use Rattle.sect_chains.proofs.Carrying.{IsOfEnd, end_none, end_next}
 use Rattle.sect_chains.proofs.Spreading.{end_begin, end_before, end_more, end_done}
-use Rattle.sect_chains.proofs.work.put_at_end.Goals as goal
+use Rattle.sect_chains.proofs.work.Searched.put_at_end.Goals as goal
 
 pub put-requires-clause-generated : goal.put-requires-clause-generated
 put-requires-clause-generated c =
-    let last = c.args.section.last.now in
+    let last = c.args.self.last.now in
     let i = c.loop-lock.lock-index in
     let within : i < length last = omega (arith, c.loop-lock-test.true) in
     inr (c.exit.ensures.number, subst (Has last) (sym c.lock-item.is) (Has-get_or last i c.lock-item.result within))
 
 pub put-requires-clause-before : goal.put-requires-clause-before
 put-requires-clause-before c =
-    let a = c.args.section in
+    let a = c.args.self in
     let last = a.last.now in
     let i = c.loop-lock.lock-index in
     let within : i < length last = omega (arith, c.loop-lock-test.true) in
@@ -28,7 +28,7 @@ put-requires-clause-before c =
 
 pub loop-lock-init : goal.loop-lock-init
 loop-lock-init c =
-    let a = c.args.section in
+    let a = c.args.self in
     let old = c.args.trail.now in
     record {
       kept = end_none a.scheme.now a.thread a.last.now a.flow.now old.numbering (kept_of old) c.requires.work;
@@ -37,7 +37,7 @@ loop-lock-init c =
 
 pub loop-lock-preserved : goal.loop-lock-preserved
 loop-lock-preserved c =
-    let a = c.args.section in
+    let a = c.args.self in
     let last = a.last.now in
     let i = c.loop-lock.lock-index in
     let old = c.args.trail.now in
@@ -54,7 +54,7 @@ loop-lock-preserved c =
 
 pub returns-clause-kept : goal.returns-clause-kept
 returns-clause-kept c =
-    let a = c.args.section in
+    let a = c.args.self in
     let last = a.last.now in
     let i = c.loop-lock.lock-index in
     let past : length last ≤ i = omega (arith, c.loop-lock-test.false) in
@@ -63,7 +63,7 @@ returns-clause-kept c =
 
 pub returns-clause-order : goal.returns-clause-order
 returns-clause-order c =
-    let a = c.args.section in
+    let a = c.args.self in
     let last = a.last.now in
     let i = c.loop-lock.lock-index in
     end_done a.scheme.now a.thread last a.flow.now c.args.trail.now c.loop-lock.trail i

@@ -5,11 +5,11 @@ use Rattle.sect_lemmas.proofs.Places.{told_at}
 use Rattle.sect_chains.specs.steps.{Working.{kept_of, IsGeneratedBy}, Ordering.{links_in, nexts_in}}
 use Rattle.sect_chains.proofs.Adding.{adds_none, adds_as}
 use Rattle.sect_chains.proofs.Carrying.{by_node_none, by_node_one, by_node_nothing, by_node_is, generated_here}
-use Rattle.sect_chains.proofs.work.put_by_node.Goals as goal
+use Rattle.sect_chains.proofs.work.Searched.put_by_node.Goals as goal
 
 pub returns-in-None-clause-kept : goal.returns-in-None-clause-kept
 returns-in-None-clause-kept c =
-    let a = c.args.section in
+    let a = c.args.self in
     let s = a.scheme.now in
     let g = a.flow.now in
     let old = c.args.trail.now in
@@ -21,7 +21,7 @@ returns-in-None-clause-kept c =
 
 pub put-requires-clause-generated : goal.put-requires-clause-generated
 put-requires-clause-generated c =
-    let a = c.args.section in
+    let a = c.args.self in
     let s = a.scheme.now in
     let g = a.flow.now in
     let node = told_at (λ (y : Node). y.label) g c.args.node c.action-label.result c.action-label.ensures in
@@ -31,7 +31,7 @@ put-requires-clause-generated c =
 
 pub returns-in-Some-clause-kept : goal.returns-in-Some-clause-kept
 returns-in-Some-clause-kept c =
-    let a = c.args.section in
+    let a = c.args.self in
     let s = a.scheme.now in
     let g = a.flow.now in
     let old = c.args.trail.now in
@@ -45,7 +45,7 @@ returns-in-Some-clause-kept c =
 
 pub returns-in-None-clause-order : goal.returns-in-None-clause-order
 returns-in-None-clause-order c =
-    let a = c.args.section in
+    let a = c.args.self in
     let s = a.scheme.now in
     let g = a.flow.now in
     let old = c.args.trail.now in
@@ -58,7 +58,7 @@ returns-in-None-clause-order c =
 
 pub returns-in-Some-clause-order : goal.returns-in-Some-clause-order
 returns-in-Some-clause-order c =
-    let a = c.args.section in
+    let a = c.args.self in
     let s = a.scheme.now in
     let g = a.flow.now in
     let old = c.args.trail.now in

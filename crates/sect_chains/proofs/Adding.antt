@@ -295,7 +295,7 @@ pub none_kept : (keys : List Lock) (steps : List KeptLink) → steps ≡ [] → 
     → slice_get (links_of keys steps) i ≡ Some a → ⊥
 none_kept keys steps none i a at =
     (let got : slice_get (links_of keys []) i ≡ Some a = subst (λ xs. slice_get (links_of keys xs) i ≡ Some a)
-      none at in
+    none at in
     absurd cc)
 
 pub none_sorted : (keys : List Lock) (steps : List KeptLink) → steps ≡ []

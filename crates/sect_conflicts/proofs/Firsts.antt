@@ -17,7 +17,7 @@ before_or_above xs up i g within is x h below =
     elim (Has-cases (take i xs) (g ∷ drop (i + 1) xs) x (subst (λ ys. Has ys x) split h)) [
       | inl a ↦ a
       | inr (inl e) ↦ absurd (not_below_itself g.key
-        (subst (λ (y : Grip). is_key_below y.key g.key ≡ true) (sym e) below))
+          (subst (λ (y : Grip). is_key_below y.key g.key ≡ true) (sym e) below))
       | inr (inr a) ↦ absurd (not_below_itself x.key
           (below_along x.key g.key x.key below (above.0 x a)))
     ]

@@ -7,7 +7,7 @@ use Rattle.sect_conflicts.proofs.shared.Stronger.{negated, unnegated}
 
 abbrev parts_apart : Mode → Mode → Mode → Bool
 parts_apart m n b = if_then (not (are_compatible (join_of m n) b))
-  (not (are_compatible m b) || not (are_compatible n b))
+    (not (are_compatible m b) || not (are_compatible n b))
 
 -- what isn't compatible with a join isn't with one of both
 pub join_apart : (m n b : Mode) → are_compatible (join_of m n) b ≡ false

@@ -49,7 +49,7 @@ is_profile c compiled i set part set_is part_is of at profile thread always site
           ∙ ap (λ (s : SectionView). s.thread) (one_at (sections_of (program_of c).texts) i of other at also);
       always = here;
       ascends = subst Ascends (sym always) (steady_ascends c.scheme part set
-        (compiled.planned i set part set_is part_is));
+          (compiled.planned i set part set_is part_is));
       sites = subst (λ locks. AreSitesOfLocks c.scheme locks profile.sites.items) (sym (given_at c.sets i set set_is))
           sites;
     }

@@ -138,7 +138,7 @@ module _ (c : CompiledView) where
   all_compared n pairs past so_far = record {
     each = so_far.each;
     all = λ m k compared. (let within = slice_get_within (sections_of (program_of c).texts) m compared.one
-      compared.first
+        compared.first
         in so_far.all m k compared (inl (omega (arith, within, past))));
     order = so_far.order;
   }

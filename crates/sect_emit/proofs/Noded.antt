@@ -59,7 +59,7 @@ module _ (v : CompiledView) (compiled : IsCompiled v) (i : ℕ) (s : SectionView
         ↔ IsGeneratedAt v.scheme x.thread (end_of v.scheme i) (flow_nodes x.body) (link n l))
         (sym (section_here v i s at))
         (subst (λ h. (l : Lock) → (own ≡ Some l) ↔ IsGeneratedAt v.scheme s.thread (end_of v.scheme i) h
-          (link n l)) graph
+        (link n l)) graph
         (subst (λ e. (l : Lock) → (own ≡ Some l) ↔ IsGeneratedAt v.scheme s.thread e g (link n l)) end_here generated))
 
     -- what a node generates names what is there

@@ -119,7 +119,7 @@ step_alike : (fs : List OpenBlock) (b : BlockView) (p : Partial) → TakesAlike 
 step_alike fs b place.Start = (λ n m. refl, λ i j. refl)
 step_alike fs b (place.Inside l) = (
   λ n m. moves fs b (advance_of l (token.Name n)) ∙ (head_alike l).0 n m
-    ∙ sym (moves fs b (advance_of l (token.Name m))),
+      ∙ sym (moves fs b (advance_of l (token.Name m))),
   λ i j. moves fs b (advance_of l (token.Number i)) ∙ (head_alike l).1 i j
       ∙ sym (moves fs b (advance_of l (token.Number j))),
 )
@@ -326,7 +326,7 @@ kinds_expected bytes here r k kinds h e = λ places spells.
     let at : ℕ = length bytes - length (after_gap h.reached.rest) in
     let ps : List TokenAt = h.places in
     let split = goes_behind (length bytes) bytes ps h.reached.rest places spells.0 h.reached.reaches spells.1
-      spells.2 in
+    spells.2 in
     let all : tokens_before at places ≡ tokens_in ps =
     ap (tokens_before at) split.1
     ∙ (before_joined at ps split.0 (read_before (length bytes) bytes ps h.reached.rest h.reached.reaches)

@@ -194,12 +194,12 @@ no_double b rest t e free next = go (eqb b 61) (eqb b 33) (eqb b 60) refl refl r
 
     go : (p q r : Bool) → eqb b 61 ≡ p → eqb b 33 ≡ q → eqb b 60 ≡ r
         → cond p (Some (token.Comparison comparison.Equal))
-          (cond q (Some (token.Comparison comparison.NotEqual))
-            (cond r (Some (token.Comparison comparison.LessOrEqual)) None)) ≡ None
+        (cond q (Some (token.Comparison comparison.NotEqual))
+        (cond r (Some (token.Comparison comparison.LessOrEqual)) None)) ≡ None
     go true q r f g h = absurd (clash token.Equal (ap single_sign (eqb-true b 61 f)) refl)
     go false true r f g h = absurd (none_or_some t (sym (ap single_sign (eqb-true b 33 g)) ∙ e))
     go false false true f g h = absurd (clash (token.Comparison comparison.Less)
-      (ap single_sign (eqb-true b 60 h)) refl)
+        (ap single_sign (eqb-true b 60 h)) refl)
     go false false false f g h = refl
 
 -- what a sign at the front spells
@@ -333,7 +333,7 @@ module _ (b : ℕ) (bs : List ℕ) (t : Token) (n : ℕ) (f : IsFirst t n (b ∷
   pub word_count : is_name_byte b ≡ true → length front ≡ n
   word_count p = with_count (length front) n (spelled front) t
       (ap (λ c. cond c (with_length (length front) (spelled front)) (sign_at b bs)) (sym p)
-        ∙ lexeme_only (b ∷ bs) t n f)
+      ∙ lexeme_only (b ∷ bs) t n f)
 
   pub sign_there : is_name_byte b ≡ false → sign_at b bs ≡ Some (pair t n)
   sign_there p =

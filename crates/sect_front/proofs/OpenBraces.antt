@@ -18,7 +18,7 @@ pub record OpenHere (bytes here braces : List ℕ) : Type 0 where
 
 pub open_first : (bytes : List ℕ) → OpenHere bytes (after_gap bytes) []
 open_first bytes =
-  record { places = []; reached = reached_none bytes; are = refl; below = All-nil (λ n. n < length bytes) }
+    record { places = []; reached = reached_none bytes; are = refl; below = All-nil (λ n. n < length bytes) }
 
 pub open_next : (bytes here braces new : List ℕ) (t : Token) (n : ℕ) → OpenHere bytes here braces
     → lexeme_of here ≡ Some (t, n) → new ≡ open_behind (length bytes - length here) braces t

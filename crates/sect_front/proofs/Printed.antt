@@ -83,13 +83,13 @@ solid token.Plus h = record { first = _; others = _; is = refl; no_blank = refl;
 solid token.Minus h = record { first = _; others = _; is = refl; no_blank = refl; no_slash = refl }
 solid token.Star h = record { first = _; others = _; is = refl; no_blank = refl; no_slash = refl }
 solid (token.Comparison comparison.Equal) h = record
-  { first = _; others = _; is = refl; no_blank = refl; no_slash = refl }
+    { first = _; others = _; is = refl; no_blank = refl; no_slash = refl }
 solid (token.Comparison comparison.NotEqual) h = record
-  { first = _; others = _; is = refl; no_blank = refl; no_slash = refl }
+    { first = _; others = _; is = refl; no_blank = refl; no_slash = refl }
 solid (token.Comparison comparison.Less) h = record
-  { first = _; others = _; is = refl; no_blank = refl; no_slash = refl }
+    { first = _; others = _; is = refl; no_blank = refl; no_slash = refl }
 solid (token.Comparison comparison.LessOrEqual) h =
-  record { first = _; others = _; is = refl; no_blank = refl; no_slash = refl }
+    record { first = _; others = _; is = refl; no_blank = refl; no_slash = refl }
 
 -- each token may stand before what is printed behind it
 stands_before : (t : Token) (w : List ℕ) → stands t (separator t ∷ w) ≡ true

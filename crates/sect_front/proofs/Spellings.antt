@@ -242,7 +242,7 @@ single_back b =
     if_some_so P (eqb b 45) token.Minus _ (λ e. record { is = ap (λ x. x ∷ []) (eqb-true b 45 e); proper = refl }) (
     if_some_so P (eqb b 42) token.Star _ (λ e. record { is = ap (λ x. x ∷ []) (eqb-true b 42 e); proper = refl }) (
     if_some_so P (eqb b 60) (token.Comparison comparison.Less) _
-      (λ e. record { is = ap (λ x. x ∷ []) (eqb-true b 60 e); proper = refl }) (
+    (λ e. record { is = ap (λ x. x ∷ []) (eqb-true b 60 e); proper = refl }) (
     λ t e. absurd (none_or_some t e)))))))))))))
 
 double_back : (b : ℕ) (t : Token) → double_sign b ≡ Some t → IsSpelling t (b ∷ 61 ∷ [])

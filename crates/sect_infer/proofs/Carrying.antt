@@ -139,7 +139,7 @@ module _ (s : SchemeView) where
   -- the locks on one path more
   pub finds_on_more : (e : Effect) (a b c : NumberingView) (ns ms os : List ℕ) (q : PathView) (paths : List PathView)
       → Finds s a ns b ms (AreOn s e paths) → Finds s b ms c os (LockOn s e q)
-        → Finds s a ns c os (AreOn s e (q ∷ paths))
+      → Finds s a ns c os (AreOn s e (q ∷ paths))
   finds_on_more e a b c ns ms os q paths f g =
       finds_as a c ns os (λ l. AreOn s e paths l ⊎ LockOn s e q l) (AreOn s e (q ∷ paths))
       (λ l. (

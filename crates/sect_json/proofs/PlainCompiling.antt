@@ -46,5 +46,5 @@ module _ (c : CompiledView) where
   pub plain_compiled : IsPlain (compiled_json c)
   plain_compiled =
       or_from _ _ (plain_map (section_json c) plain_section
-        (range_with_len 0 (length (sections_of (program_of c).texts))))
+      (range_with_len 0 (length (sections_of (program_of c).texts))))
       (or_from _ _ (plain_map (thread_json c) plain_thread (range_with_len 0 (length (program_of c).texts))) refl)

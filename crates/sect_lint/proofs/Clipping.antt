@@ -75,7 +75,7 @@ line_from text at within =
     let before : ℕ = column_of text at - 1 in
     let there : drop before (drop start text) ≡ drop at text =
     drop-drop before start text ∙ ap (λ n. drop n text)
-      (omega (arith, column_least text at, column_most text at within)) in
+    (omega (arith, column_least text at, column_most text at within)) in
     ap (take_while in_line) (sym (take-append-drop before (drop start text)))
     ∙ before_place text at within (drop before (drop start text))
     ∙ ap (λ l. take before (drop start text) ++ take_while in_line l) there
@@ -158,7 +158,7 @@ module _ (line : List ℕ) (place : ℕ) (long : place + most_shown + 1 ≤ leng
       ++ carets (take count (drop (place - from) (take most_shown (drop from cut)))))
       (shown_alike (place - from) (omega arith))
       ∙ ap (λ l. dots (nat_lt 0 from) (codes "   ")
-        ++ flat_map (under (codes " ")) (take (place - from) (drop from line))
+      ++ flat_map (under (codes " ")) (take (place - from) (drop from line))
       ++ carets (take count (drop (place - from) l))) (shown_alike most_shown (omega arith))
 
 -- a line that is cut behind what may be shown looks like the whole: where it is longer, and always

@@ -195,7 +195,7 @@ module _ (bytes : List ℕ) (old new : Option (List ℕ)) (inbox : List ℕ) (le
   -- no whole message stands at the front of what is left
   ended_by_rest : (status : ℕ) (front : Front) → front_of (inbox ++ u.more) ≡ front
       → (front ≡ Part) ⊎ (front ≡ Malformed) → status ≡ status_by s.phase front
-        → (sent : List ℕ) × IsSession bytes sent status × Appends old new sent
+      → (sent : List ℕ) × IsSession bytes sent status × Appends old new sent
   ended_by_rest status front e rest is = (
     u.sent,
     record {

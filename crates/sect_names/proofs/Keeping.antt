@@ -91,8 +91,8 @@ pub keeps_its_class : (s : SchemeView) → IsScheme s → (t : ℕ) (step : Labe
 keeps_its_class s scheme t (label.Act a) there p q h =
     agree_before s.classes (path_classes s.classes scheme.parted) t a
     (keeps_classes s.classes (thread_actions s.program) scheme.parted scheme.flow.closed (thread_action t a)
-      there) p q h
+    there) p q h
 keeps_its_class s scheme t (label.Test d) there p q is =
-  agree_itself s.classes (path_classes s.classes scheme.parted) p q is
+    agree_itself s.classes (path_classes s.classes scheme.parted) p q is
 keeps_its_class s scheme t (label.Section i) there p q is =
-  agree_itself s.classes (path_classes s.classes scheme.parted) p q is
+    agree_itself s.classes (path_classes s.classes scheme.parted) p q is

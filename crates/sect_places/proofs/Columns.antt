@@ -12,7 +12,7 @@ no_feed column [] none = omega arith
 no_feed column (b ∷ bs) none =
     let one : next_column column b ≡ column + 1 =
     ap (λ is. if is then 1 else column + 1) (false_from_ne_true (b == line_feed)
-      (none 0 (omega arith) (omega arith))) in
+    (none 0 (omega arith) (omega arith))) in
     let rest = no_feed (next_column column b) bs (λ k low high. none (suc k) (omega arith) (omega (arith, high))) in
     omega (arith, one, rest)
 

@@ -14,7 +14,7 @@ in_order total bytes (p ∷ ps) rest from h e =
     let n : length (spelling_of p.token) ≡ h.0 =
     sym (ap length f.spells.is) ∙ length-take-le h.0 (after_gap bytes) f.within in
     let left : length (drop h.0 (after_gap bytes)) ≡ length (after_gap bytes) - h.0 =
-      length-drop h.0 (after_gap bytes) in (
+    length-drop h.0 (after_gap bytes) in (
       omega (arith, h.1, e, gap_fits bytes),
       omega (arith, n, f.some),
       omega (arith, n, h.1, f.within),

@@ -14,7 +14,7 @@ is_feed b = b == line_feed
 
 one_position : (p q : Position) → p.line ≡ q.line → p.column ≡ q.column → p ≡ q
 one_position p q e f = ap (λ l. record { line = l; column = p.column }) e
-  ∙ ap (λ c. record { line = q.line; column = c }) f
+    ∙ ap (λ c. record { line = q.line; column = c }) f
 
 abbrev step_to : Bool → Position → Position
 step_to b p = if b then record { line = p.line + 1; column = 1 } else record { line = p.line; column = p.column + 1 }

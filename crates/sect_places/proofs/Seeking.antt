@@ -116,4 +116,4 @@ module _ (t : TreeView) (rs : List Record) (gs : List GlobalObject) (ps : List P
   item_left n h lt =
       let some = at_of (item_tokens t) item (omega (arith, items_count t, lt)) in
       none_or_some some.0 (sym (ap (λ w. slice_get w item) (sym parts_are) ∙ h [] ∙ slice_get_past [] n (omega arith))
-        ∙ some.1)
+      ∙ some.1)

@@ -22,25 +22,10 @@ pub struct NodeSpan {
     pub call: Option<Span>,
 }
 
-/// Where the nodes of a text come from, by their numbers.
-#[derive(Drop)]
-struct TextSpans {
-    list: Vec<NodeSpan>,
-}
-
-impl Model for TextSpans {
-    ghost use Rattle.std.specs.Prelude.{List};
-    ghost use Rattle.sect_places.specs.declared.origin_spans.NodeSpan.{NodeSpan};
-
-    ghost Value = { List NodeSpan };
-
-    ghost view = { λ s. s.list.items };
-}
-
 /// Where the nodes of each thread and of each section of a program come from, and the bytes of each section's `atomic`.
 pub struct NodeSpans {
-    threads: Vec<TextSpans>,
-    sections: Vec<TextSpans>,
+    threads: Vec<Items<NodeSpan>>,
+    sections: Vec<Items<NodeSpan>>,
     heads: Vec<Span>,
 }
 
@@ -68,7 +53,7 @@ impl NodeSpans {
         requires { number < length self.now.threads }
         ensures { slice_get self.now.threads number ≡ Some result.now }
     {
-        self.threads[number as usize].list.as_slice()
+        self.threads[number as usize].as_slice()
     }
 
     /// Where the nodes of a section come from.
@@ -76,7 +61,7 @@ impl NodeSpans {
         requires { number < length self.now.sections }
         ensures { slice_get self.now.sections number ≡ Some result.now }
     {
-        self.sections[number as usize].list.as_slice()
+        self.sections[number as usize].as_slice()
     }
 
     /// The bytes of the `atomic` of a section.
@@ -97,7 +82,11 @@ fn call_span(spans: &[Span], call: Option<usize>) -> Option<Span>
 }
 
 /// The bytes of nodes, by where they come from.
-fn text_spans(alloc: Global, spans: &[Span], origins: &[Origin]) -> Result<TextSpans, AllocError>
+fn text_spans(
+    alloc: Global,
+    spans: &[Span],
+    origins: &[Origin],
+) -> Result<Items<NodeSpan>, AllocError>
     requires { All (IsPlaced (length spans.now)) origins.now }
     ensures { IfOk result (λ list. list ≡ map (node_span spans.now) origins.now) }
 {
@@ -108,7 +97,7 @@ fn text_spans(alloc: Global, spans: &[Span], origins: &[Origin]) -> Result<TextS
             call: call_span(spans, origin.call),
         })?;
     }
-    Ok(TextSpans { list })
+    Ok(Items::from_vec(list))
 }
 
 /// The bytes of the nodes of texts.
@@ -116,7 +105,7 @@ fn texts_spans(
     alloc: Global,
     spans: &[Span],
     texts: &[Items<Origin>],
-) -> Result<Vec<TextSpans>, AllocError>
+) -> Result<Vec<Items<NodeSpan>>, AllocError>
     requires { All (All (IsPlaced (length spans.now))) texts.now }
     ensures { IfOk result (λ lists. lists.items ≡ map (map (node_span spans.now)) texts.now) }
 {

@@ -57,7 +57,7 @@ module _ (p : ProgramView) (fuel : ℕ) (es : States) (n : ℕ) (all : Found) (b
       once = before.once;
       found = found_on all (λ x h. h)
           (λ x other. subst (Has (ends_in all)) (one_end x other)
-            (lookup_has itself end_eq serial_end_tells all y old.0));
+          (lookup_has itself end_eq serial_end_tells all y old.0));
     })
     end_kept fs (inr new) = subst (AreEnds p fuel es (n + 1)) (sym new.1) (record {
       right = right_on;

@@ -114,7 +114,7 @@ pub grows_on : (p : ProgramView) (es fs : States) (n t : ℕ) → Grows es fs �
     → GoesOn p fs n t
 grows_on p es fs n t g lt on e r at ran =
     grows_has es fs (trimmed r) g (on e r (get_before es g.0 n e lt
-      (sym (ap (λ (xs : States). slice_get xs n) g.1) ∙ at)) ran)
+    (sym (ap (λ (xs : States). slice_get xs n) g.1) ∙ at)) ran)
 
 -- one state is at a place
 on_at : (p : ProgramView) (es : States) (n t : ℕ) (e : RunView × List ℕ) → slice_get es n ≡ Some e

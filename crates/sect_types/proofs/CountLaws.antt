@@ -92,7 +92,7 @@ call_count : (rs : List Record) (gs : List GlobalObject) (ps : List Procedure) (
     → CountsCalls table call →
     (o : Option Procedure) (q : Option ℕ) (v : Scene) (a : NextNumbers) (vs : List Operand) (k : TextView) →
     statement_count (written_call rs gs ps table call o q v a vs k) ≡ (sums_of ps table o).statements +
-      statement_count k
+    statement_count k
 call_count rs gs ps table call h None q v a vs k = omega arith
 call_count rs gs ps table call h (Some p) q v a vs k =
     let inner : Scene = record { sight = sight rs gs (variables p); first = a.fresh } in

@@ -70,7 +70,7 @@ call_parts : (w : SettingView) (n most : ℕ) (v : Scene) (f : FrontView) (x : L
     → IsSome (numbered_there w most v f (Call x vs))
     → IsSome (set_parameters v f.at.fresh p.parameters vs)
     × IsSome (expanded_block w.procedures (sums_within n w.procedures)
-      (expand_within n w.records w.globals w.procedures)
+    (expand_within n w.records w.globals w.procedures)
     (view_of (sight w.records w.globals (variables p)) f.at.fresh) (after_call f.at p) p.body)
 call_parts w n most v f x vs q p e g h known =
     let table = sums_within n w.procedures in

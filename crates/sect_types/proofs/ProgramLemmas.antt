@@ -53,7 +53,7 @@ few_fields : (records : List (List ℕ)) (rs : List Record) → fields_fine reco
 few_fields records [] h = All-nil (λ (ts : List ValueType). length ts ≤ most_fields)
 few_fields records (r ∷ rs) h =
     let parts = and_parts (all_known records r.fields && nat_le (length r.fields) most_fields)
-      (fields_fine records rs) h in
+    (fields_fine records rs) h in
     All-cons (λ (ts : List ValueType). length ts ≤ most_fields) (types_of records r.fields) (field_types records rs)
     (few_types records r.fields most_fields parts.0) (few_fields records rs parts.1)
 
@@ -84,11 +84,11 @@ fields_there : (records : List (List ℕ)) (rs : List Record) → fields_fine re
 fields_there records [] h = All-nil (λ (ts : List ValueType). All (IsInRange (length records)) ts)
 fields_there records (r ∷ rs) h =
     let parts = and_parts (all_known records r.fields && nat_le (length r.fields) most_fields)
-      (fields_fine records rs) h in
+    (fields_fine records rs) h in
     All-cons (λ (ts : List ValueType). All (IsInRange (length records)) ts) (types_of records r.fields)
     (field_types records rs)
     (types_there records r.fields (and_parts (all_known records r.fields) (nat_le (length r.fields) most_fields)
-      parts.0).0)
+    parts.0).0)
     (fields_there records rs parts.1)
 
 globals_there : (records : List (List ℕ)) (gs : List GlobalObject) → globals_known records gs ≡ true
@@ -145,7 +145,7 @@ procedure_known records (x ∷ ps) zero p h e =
 procedure_known records (x ∷ ps) (suc q) p h e =
     procedure_known records ps q p
     (and_parts (all_known records (variables x) && nat_le (length (variables x)) most_locals)
-      (variables_fine records ps)
+    (variables_fine records ps)
     h).1 e
 
 pub numbered_known : (records : List (List ℕ)) (ps : List Procedure) (q : Option ℕ) (p : Procedure)

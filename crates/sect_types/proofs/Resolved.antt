@@ -44,7 +44,7 @@ resolved_to : (s : Sight) (site : ℕ) (p : leaf.Primitive) → rule_in (primiti
 resolved_to s site p e =
     let l = linked s site p e in
     let x = subst (λ r. IfOk r (λ a. IsSoundAction (environment s) a
-      × (is_shared a ≡ shares (PrimitiveHead p)))) l.typed
+    × (is_shared a ≡ shares (PrimitiveHead p)))) l.typed
     (primitive_sound s site p) in
     let y = subst (λ r. IfOk r (Makes (primitive_sums p).sites site)) l.typed (primitive_makes s site p) in
     (l.what, l.numbered, record { sound = x.0; shared = x.1; makes = y.0; sited = y.1 })

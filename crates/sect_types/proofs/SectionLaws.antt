@@ -121,7 +121,7 @@ mutual
 mutual
   pub statement_numbers : (d : Declared) (ps : List Procedure) (table : List Sums) (call : Writer) → CallsFlat call
       → CallsKeep call → (ls : List Declaration) (at : Place) (v : Scene) (a : NextNumbers) (s : StatementView)
-        (k : TextView)
+      (k : TextView)
       → IsCleanStatement d ls at s → AreNumbered (a.sections + statement_sections s) k
       → AreNumbered a.sections (written_statement ps table call v a s k)
   statement_numbers d ps table call f n ls at v a (Primitive p) k h g = subst (λ i. AreNumbered i k) (omega arith) g

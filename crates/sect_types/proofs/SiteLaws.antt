@@ -87,8 +87,12 @@ mutual
       → length (made_in (written_statement ps table call (view d ls n) a s k))
       ≡ (statement_sums ps table s).sites + length (made_in k)
   statement_makes d ps table call m ls at n a (Primitive p) k h =
-      omega (arith, length-append (made_by (written_action (view d ls n) a p)) (made_in k), action_makes d ls
-        at n a p h)
+      omega (
+        arith,
+        length-append (made_by (written_action (view d ls n) a p)) (made_in k),
+        action_makes d ls
+            at n a p h,
+      )
   statement_makes d ps table call m ls at n a (If t b) k h =
       let x = written_block ps table call (view d ls n) a b in
       omega (arith, length-append (made_in x) (made_in k), block_makes d ps table call m ls (deeper at) n a b h.1)

@@ -268,7 +268,7 @@ pub call_by_parts : (t : TreeView) (n fuel q : ℕ) (p : Procedure) (s inner : S
     → slice_get t.procedures q ≡ Some p → inner ≡ sight t.records t.globals (variables p) → own ≡ a.fresh
     → ps ≡ p.parameters → ls ≡ p.locals → b ≡ record a { fresh = a.fresh + (length ps + length ls) }
     → Appends old one (write_parameters (view_of s first) own ps vs)
-      → Appends one two (write_locals (own + length ps) ls)
+    → Appends one two (write_locals (own + length ps) ls)
     → Appends two new (joined (block_by t n inner own b p.body))
     → Appends old new (calls_by t fuel (Some q) (view_of s first) a vs)
 call_by_parts t n fuel q p s inner first own a b ps ls vs old one two new f e i o x y c g h j k =
@@ -357,7 +357,7 @@ either_written t n s first a m f v b d c p q old new e g h past i j k =
 pub while_written : (t : TreeView) (n : ℕ) (s : Sight) (first : ℕ) (a : NextNumbers) (f : StatementView) (v : Test)
     (b : BlockView)
     (c : Condition) (inner old new : TextView) → f ≡ While v b
-      → c ≡ moved_condition first (condition_in (condition_of s v))
+    → c ≡ moved_condition first (condition_in (condition_of s v))
     → inner ≡ block_by t n s first a b → new ≡ joined old (Loop c inner Stop)
     → Appends old new (statement_by t n s first a f)
 while_written t n s first a f v b c inner old new e g h j k =

@@ -25,12 +25,12 @@ pub record IsPut (source : List ℕ) (names : List NameSpan) (c : CompiledView) 
     pub note : p.note ≡ mark.note
 
 module _ (source : List ℕ) (names : List NameSpan) (c : CompiledView) (tokens : List Span)
-  (ranges : List TokenRange) where
+    (ranges : List TokenRange) where
   -- they are those of a text's tokens and of its tree's items
   pub all_placed : (spelled : IsSpelled source c.scheme.program.source)
       → tokens ≡ map token_span spelled.places → ranges ≡ item_tokens c.scheme.program.source → (ws : List Warning)
       (ps : List PlacedView) → AllZip (IsPut source names c tokens ranges) ws ps
-        → AllZip (IsPlaced source names c spelled) ws ps
+      → AllZip (IsPlaced source names c spelled) ws ps
   all_placed spelled ts rs [] [] each = tt
   all_placed spelled ts rs [] (p ∷ ps) each = absurd each
   all_placed spelled ts rs (w ∷ ws) [] each = absurd each

@@ -122,7 +122,7 @@ module _ (s : SchemeView) (t : ℕ) (last : List Lock) (g : List Node) (n : ℕ)
         (λ k below. turn.before k (get_or chain k turn.next) below
         (slice_get-get_or chain k turn.next (omega (arith, below, within))))
         (λ lt. ap is_on_path (ap (λ (x : Link). x.lock)
-          (get_or_from_slice_get chain (suc turn.place) turn.next turn.next
+        (get_or_from_slice_get chain (suc turn.place) turn.next turn.next
         turn.second) ∙ turn.on_path)) in
         subst (λ m. cond (nat_lt m (length chain)) (Some m) None ≡ Some (suc turn.place)) (sym at)
         (ap (λ b. cond b (Some (suc turn.place)) None) (lt-ltb (suc turn.place) (length chain) within))

@@ -212,7 +212,7 @@ module _ (c : CompiledView) (compiled : IsCompiled c) (fuel : ℕ) (order : List
       let none = not_ended g moves in
       let more = ((kept (lone store output (outside g)) came).threads t (outside g) at).at.1 none in
       came_on c fuel order (lone store output (outside g))
-        (lone store output (outside (local_step (program_of c) t g))) t
+      (lone store output (outside (local_step (program_of c) t g))) t
       Local came (
         outside g,
         at,
@@ -229,12 +229,12 @@ module _ (c : CompiledView) (compiled : IsCompiled c) (fuel : ℕ) (order : List
       → Reached c fuel order (lone store output (outside (up_to n (program_of c) t g)))
   local_on zero g store output came = came
   local_on (suc n) g store output came = by (is_standing g) refl
-    (local_on n (local_step (program_of c) t g) store output)
+      (local_on n (local_step (program_of c) t g) store output)
     where
       by : (b : Bool) → is_standing g ≡ b
           → (Reached c fuel order (lone store output (outside (local_step (program_of c) t g)))
           → Reached c fuel order (lone store output
-            (outside (up_to n (program_of c) t (local_step (program_of c) t g)))))
+          (outside (up_to n (program_of c) t (local_step (program_of c) t g)))))
           → Reached c fuel order
           (lone store output (outside (if b then g else up_to n (program_of c) t (local_step (program_of c) t g))))
       by true stands later = came
@@ -286,7 +286,7 @@ module _ (c : CompiledView) (compiled : IsCompiled c) (fuel : ℕ) (order : List
 
   ReachedEnd : ℕ → TextView → List ℤ → Left → Type 0
   ReachedEnd i rest output left = (hs : List Grip)
-    × Reached c fuel order (lone (store_left left) output (over i rest left hs))
+      × Reached c fuel order (lone (store_left left) output (over i rest left hs))
 
   -- one step in the section, and what follows
   one_act : (i : ℕ) (k rest : TextView) (w : WorkView) (hs : List Grip) (store : StoreView) (output : List ℤ)
@@ -399,7 +399,7 @@ module _ (c : CompiledView) (compiled : IsCompiled c) (fuel : ℕ) (order : List
       let g : FrameView = record { text = Section i body rest; work = w; ended = None } in
       let plan : List Grip = plan_at c i store w.locals in
       let in_first = came_on c fuel order (lone store output (outside g))
-        (lone store output (entered g plan [])) t Enter
+      (lone store output (entered g plan [])) t Enter
       came (
         outside g,
         at_lone store output (outside g),

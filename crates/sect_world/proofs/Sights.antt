@@ -27,7 +27,7 @@ module _ (c : CompiledView) (fuel : ℕ) (trace : List Event) (order : List ℕ)
 
   pub wish_none : length rs ≤ t → None ≡ first_wish (state_of c store output rs table.held) t
   wish_none h = sym (ap wish_in (slice_get_past (state_of c store output rs table.held).threads t
-    (omega (arith, many, h))))
+      (omega (arith, many, h))))
 
   pub wish_some : (r : Runner) → slice_get rs t ≡ Some r
       → slice_get r.wanted.items r.taken ≡ first_wish (state_of c store output rs table.held) t

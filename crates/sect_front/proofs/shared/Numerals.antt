@@ -114,7 +114,7 @@ record IsRead (limit k : ℕ) (ds : List ℕ) (n : ℕ) : Type 0 where
 
 decimal_read : (limit k : ℕ) (ds : List ℕ) (n : ℕ) → numeral_from limit k ds ≡ Some n → IsRead limit k ds n
 decimal_read limit k [] n h = let e = some_injective k n h in
-  record { digits = refl; value = e; low = λ l. omega (arith, e) }
+    record { digits = refl; value = e; low = λ l. omega (arith, e) }
 decimal_read limit k (d ∷ ds) n h =
     let more : ℕ = k * 10 + (d - 48) in
     let c = chosen (is_digit d && nat_lt more limit) (numeral_from limit more ds) n h in

@@ -8,4 +8,4 @@ put_conflict-requires c =
     let pairs = c.args.pairs.now in
     let x = c.pair-item.result in
     c.requires x (subst (Has pairs) (sym c.pair-item.is)
-      (Has-get_or pairs c.loop-pair.pair-index x c.loop-pair-test.true))
+    (Has-get_or pairs c.loop-pair.pair-index x c.loop-pair-test.true))

@@ -29,7 +29,7 @@ returns-clause-answers c =
       runs = λ k d from.
           ends_of_runs d p c.args.fuel all.found (c.every_run_is_serial.ensures d from.compiled)
           (c.every_order_is_run.ensures d from.compiled)
-            (c.in_ok-program.ensures.only d.scheme.program from.accepted.text)
+          (c.in_ok-program.ensures.only d.scheme.program from.accepted.text)
           c.in_ok-all.ensures.outcomes;
       printed = c.in_ok-outcomes_printed.ensures;
     }

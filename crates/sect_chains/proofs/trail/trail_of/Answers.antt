@@ -33,7 +33,7 @@ carry-requires-clause-before c = λ x at_x.
     let i = c.loop-done.done in
     let b = link_at old.numbering.keys old.steps.items i x at_x in
     let d = kept_trail a.scheme.now a.thread a.last.now g old.numbering (kept_of old)
-      c.loop-done.invariant.work.kept b.0
+    c.loop-done.invariant.work.kept b.0
     (Has-slice_get (links_of old.numbering.keys old.steps.items) i b.0 b.1) in
     let there = (trail_lock a.scheme.now a.thread a.last.now g c.requires.lawful b.0 d.0 d.1).0 in
     let z = c.index.result.now in

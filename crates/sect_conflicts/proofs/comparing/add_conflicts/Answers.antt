@@ -58,5 +58,5 @@ returns c =
     let count = counted p.scheme c.program.result.now _
     (c.program.ensures ∙ ap (λ (s : SchemeView). s.program) c.scheme.ensures) c.section_count-count.ensures.count in
     row_ends p c.args.first c.loop-second.second c.loop-second.found.items
-      (omega (arith, c.loop-second-test.false, count))
+    (omega (arith, c.loop-second-test.false, count))
     c.loop-second.invariant

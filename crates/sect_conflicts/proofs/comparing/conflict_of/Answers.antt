@@ -27,7 +27,7 @@ path_pairs-requires-clause-first c =
     c.index-profiles-first.is in
     zipped_many (AreSitesOfLock p.scheme) c.set.result.now c.as_slice-3.result.now
     (sites_of_set p c.args.first x mine c.set.result.now c.set.ensures c.as_slice-3.result.now
-      c.as_slice-3.ensures.value)
+    c.as_slice-3.ensures.value)
 
 pub path_pairs-requires-clause-second : goal.path_pairs-requires-clause-second
 path_pairs-requires-clause-second c =

@@ -53,7 +53,7 @@ loop-number-preserved c =
     let more = ap length c.push_reserved-in-Ok.ensures.items ∙ length-append c.loop-number.rows.items (row ∷ []) in
     record {
       so = subst (λ ts. SoFar c.args.compiled.now c.args.fuel ts c.charted_turn.new.world
-        c.charted_turn.new.waiting.items
+          c.charted_turn.new.waiting.items
           c.push_reserved-in-Ok.new.self.items) (sym (take_more schedule i 0 c.loop-number-test.true))
           (so_far_more c.args.compiled.now c.args.fuel (take i schedule) c.loop-number.world c.charted_turn.new.world
           c.loop-number.waiting.items c.charted_turn.new.waiting.items c.loop-number.rows.items

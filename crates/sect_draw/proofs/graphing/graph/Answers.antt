@@ -17,6 +17,6 @@ loop-section-preserved c =
       clusters = inv.clusters ++ put.0;
       drawn = subst (λ n. AreClusters v first n (inv.clusters ++ put.0)) next
           (one_cluster v first (i - first) inv.clusters put.0 inv.drawn
-            (subst (λ n. IsCluster v n put.0) (sym from) put.1));
+          (subst (λ n. IsCluster v n put.0) (sym from) put.1));
       printed = put.2 ∙ (ap (λ t. t ++ put.0) inv.printed ∙ append_assoc opening inv.clusters put.0);
     }

@@ -7,7 +7,7 @@ pub returns : goal.returns
 returns c =
     let old = c.args.text.now.items in
     four_parts old c.put.new.text.items c.put_line.new.text.items c.put_line-2.new.text.items
-      c.put-2.new.text.items _ _ _ _
+    c.put-2.new.text.items _ _ _ _
     (c.in_ok-put.ensures ∙ ap (λ t. old ++ t) (c.as_str.ensures.value ∙ c.in_ok-opening.ensures.ok))
     (c.in_ok-put_line.ensures
     ∙ ap (λ t. c.put.new.text.items ++ label_line t) (c.as_str-2.ensures.value ∙ c.in_ok-named.ensures))

@@ -37,5 +37,5 @@ loop-column-preserved c =
           (ap (λ t. old ++ t)
           (sym (next_cell rows row j cell c.loop-column-test.true c.index-row-column.is
           (ap are_empty (sym (rest_is row (j + 1))) ∙ (sym c.are_empty.ensures ∙ c.if-are_empty.false))))
-            ∙ c.loop-column.invariant.added rows widths);
+          ∙ c.loop-column.invariant.added rows widths);
     }

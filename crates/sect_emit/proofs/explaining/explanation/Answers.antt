@@ -7,5 +7,5 @@ pub loop-section-preserved : goal.loop-section-preserved
 loop-section-preserved c =
     let put = c.in_ok-put_explained_section.ensures in
     one_explained c.args.compiled.now (map (λ v. v.items) c.args.lines.now) c.loop-section.section
-      (string_bytes c.loop-section.text)
+    (string_bytes c.loop-section.text)
     (string_bytes c.put_explained_section.new.text) c.loop-section.invariant put.0 put.1 put.2

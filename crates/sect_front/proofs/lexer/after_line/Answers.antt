@@ -14,7 +14,7 @@ returns-in-Some-clause-same c =
     let is : take (length bytes - (at + 1)) rest ≡ rest =
     take_all (length bytes - (at + 1)) rest (omega (arith, length-drop (at + 1) bytes)) in
     subst (λ l. skip false l ≡ skip true bytes) (sym is)
-      (subst (λ n. skip false (drop n bytes) ≡ skip true bytes) behind
+    (subst (λ n. skip false (drop n bytes) ≡ skip true bytes) behind
     (feed_found bytes at found.0.high found.0.before found.1))
 
 pub returns-in-None-clause-same : goal.returns-in-None-clause-same

@@ -14,7 +14,7 @@ returns-then-is_name_byte c = λ t n f.
 pub returns-in-Some-sign : goal.returns-in-Some-sign
 returns-in-Some-sign c = λ t n f.
     let there = sign_there c.in-Some.first.now c.in-Some.others.now t n
-      (subst (IsFirst t n) c.in-Some.ensures.cases.0 f)
+    (subst (IsFirst t n) c.in-Some.ensures.cases.0 f)
     (sym c.is_name_byte.ensures ∙ c.if-is_name_byte.false) in
     ap (λ z. z.1) (some_injective (pair c.in-Some-sign.field-0-0 c.in-Some-sign.count) (pair t n)
     (sym c.in-Some-sign.is ∙ (c.sign.ensures ∙ there)))
@@ -22,6 +22,6 @@ returns-in-Some-sign c = λ t n f.
 pub returns-in-None : goal.returns-in-None
 returns-in-None c = λ t n f.
     let there = sign_there c.in-Some.first.now c.in-Some.others.now t n
-      (subst (IsFirst t n) c.in-Some.ensures.cases.0 f)
+    (subst (IsFirst t n) c.in-Some.ensures.cases.0 f)
     (sym c.is_name_byte.ensures ∙ c.if-is_name_byte.false) in
     absurd (none_or_some (pair t n) (sym c.in-None.is ∙ (c.sign.ensures ∙ there)))

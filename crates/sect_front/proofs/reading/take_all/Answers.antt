@@ -72,7 +72,7 @@ returns-in-Err-Unexpected-clause-fault c =
     (λ behind spells. (
       subst (λ span. SpellingAt bytes span IsUnexpectedAt) (sym span.0)
           (unexpected_at bytes here r c.loop-here.level (token_here bytes here token) read stuck.reads span.1
-            behind spells),
+          behind spells),
       kinds_expected bytes here r c.loop-here.level kinds read taken,
     ))
 

@@ -5,4 +5,4 @@ returns-in-Some c = λ before h k. (rw c.in-Some.is at c.bad_from.ensures) befor
 
 pub returns-in-None : goal.returns-in-None
 returns-in-None c = λ before h k. let spelled = (rw c.in-None.is at c.bad_from.ensures) before h in
-  k spelled.0 spelled.1
+    k spelled.0 spelled.1

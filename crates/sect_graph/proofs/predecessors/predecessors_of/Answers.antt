@@ -44,7 +44,7 @@ loop-node-preserved c =
           let to = w.in-Next.next in
           let there : to < length old = (let within = goes_within g c.requires j (Next to) to
           (c.succ.ensures ∙ ap (λ n. Some n) w.in-Next.is) refl in
-            omega (arith, within, c.loop-node.invariant.count)) in
+          omega (arith, within, c.loop-node.invariant.count)) in
           rw w.lists-is (before_next g j y old w.add.new.self node.1 a.count
           (added_one y.next to old w.add.new.self j (λ m. rw is (λ h. h, λ h. h)) a.added)
           (rising_one j old w.add.new.self to there a.behind c.loop-node.invariant.rising)

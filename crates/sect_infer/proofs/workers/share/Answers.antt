@@ -19,8 +19,10 @@ loop-section-preserved g c =
             sections = dealt_one c.args.workers c.args.worker c.loop-section.section c.loop-section.found.items one refl
                 w.if-section-workers.true c.loop-section.invariant.sections;
             found = one_found s c.loop-section.found.items one c.loop-section.invariant.found within
-                (λ of graph at flow. (w.in_ok-locks.ensures.locks of graph at flow,
-                  w.in_ok-locks.ensures.lawful of at));
+                (λ of graph at flow. (
+                  w.in_ok-locks.ensures.locks of graph at flow,
+                  w.in_ok-locks.ensures.lawful of at,
+                ));
           })
       | else-section-workers w ↦ rw w.found-is (record {
         sections = dealt_past c.args.workers c.args.worker c.loop-section.section c.loop-section.found.items

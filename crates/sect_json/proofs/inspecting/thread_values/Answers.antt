@@ -11,7 +11,7 @@ loop-thread-preserved c =
     let of = c.args.of.now in
     range_more (thread_json of.compiled.now of.source.now of.spans.now of.names.now) c.loop-thread.thread
     c.loop-thread.values.items c.push.new.self.items c.in_ok-thread_value.field-0 c.loop-thread.invariant
-      c.in_ok-push.ensures.items
+    c.in_ok-push.ensures.items
     c.in_ok-thread_value.ensures
 
 pub returns : goal.returns

@@ -13,7 +13,7 @@ line_at-line-requires-clause-least c =
 pub line_at-line-requires-clause-most : goal.line_at-line-requires-clause-most
 line_at-line-requires-clause-most c =
     let within : c.args.span.start ≤ length c.args.source.now =
-      omega (arith, c.requires.within.0, c.requires.within.1) in
+    omega (arith, c.requires.within.0, c.requires.within.1) in
     subst (λ n. n ≤ c.args.span.start + 1) (sym c.requires.column)
     (column_most c.args.source.now c.args.span.start within)
 

@@ -23,7 +23,7 @@ returns-clause-told c =
     let tree = c.tree-tree.result.now in
     let words = c.in_ok-words.words in
     let there = subst (λ (t : TreeView). item_number t (of_scheme fault) < length (items t))
-      (sym c.tree-tree.ensures.tree)
+    (sym c.tree-tree.ensures.tree)
     (broken_within program c.requires.refused.0 fault (scheme_known fault c.in-Some.mistake c.in-Some.ensures)
     c.requires.known c.requires.refused.1) in
     let at : c.in_ok-item.item ≡ item_number tree (of_scheme fault) =

@@ -58,7 +58,7 @@ pub returns-clause-many : goal.returns-clause-many
 returns-clause-many c =
     own_many (tokens_of c.args.tree.now) c.put_threads.new.out.items (items c.args.tree.now)
     (subst (λ rs. AreOwn (tokens_of c.args.tree.now) rs (items c.args.tree.now))
-      (sym (tree_parts c.args.tree.now c.put_records.new.out.items c.put_globals.new.out.items
+    (sym (tree_parts c.args.tree.now c.put_records.new.out.items c.put_globals.new.out.items
     c.put_procedures.new.out.items c.put_threads.new.out.items c.records.result.now c.globals.result.now
     c.procedures.result.now c.threads.result.now c.in_ok-globals.globals c.in_ok-procedures.procedures
     c.in_ok-threads.threads c.records.ensures c.globals.ensures c.procedures.ensures c.threads.ensures
@@ -70,7 +70,7 @@ returns-clause-many c =
 pub returns-clause-own : goal.returns-clause-own
 returns-clause-own c =
     subst (λ rs. AreOwn (tokens_of c.args.tree.now) rs (items c.args.tree.now))
-      (sym (tree_parts c.args.tree.now c.put_records.new.out.items c.put_globals.new.out.items
+    (sym (tree_parts c.args.tree.now c.put_records.new.out.items c.put_globals.new.out.items
     c.put_procedures.new.out.items c.put_threads.new.out.items c.records.result.now c.globals.result.now
     c.procedures.result.now c.threads.result.now c.in_ok-globals.globals c.in_ok-procedures.procedures
     c.in_ok-threads.threads c.records.ensures c.globals.ensures c.procedures.ensures c.threads.ensures
@@ -82,7 +82,7 @@ returns-clause-own c =
 pub returns-clause-within : goal.returns-clause-within
 returns-clause-within c =
     subst (λ rs. AreAmong (length (tokens_of c.args.tree.now)) rs)
-      (sym (tree_parts c.args.tree.now c.put_records.new.out.items c.put_globals.new.out.items
+    (sym (tree_parts c.args.tree.now c.put_records.new.out.items c.put_globals.new.out.items
     c.put_procedures.new.out.items c.put_threads.new.out.items c.records.result.now c.globals.result.now
     c.procedures.result.now c.threads.result.now c.in_ok-globals.globals c.in_ok-procedures.procedures
     c.in_ok-threads.threads c.records.ensures c.globals.ensures c.procedures.ensures c.threads.ensures

@@ -24,14 +24,14 @@ returns-clause-are c =
     let source = c.args.source.now in
     let spans = c.in_ok-spans.spans.items in
     let places = c.as_slice-2.ensures.value ∙ c.in_ok-places.ensures
-      ∙ ap (beginnings source) c.as_slice.ensures.value in
+    ∙ ap (beginnings source) c.as_slice.ensures.value in
     IfOk-weaker c.section_lines.result _ _
     (λ lines h. record {
       spans = spans;
       placed = subst (λ (t : TreeView). AreItemSpans source t spans) c.tree.ensures.tree c.in_ok-spans.ensures;
       are = h ∙ ap (λ ps. map (map (node_line ps)) c.sections.result.now) places
           ∙ ap (map (map (node_line (beginnings source spans))))
-            (c.sections.ensures ∙ c.in_ok-origins.ensures.sections_are);
+          (c.sections.ensures ∙ c.in_ok-origins.ensures.sections_are);
     }) c.section_lines.ensures
 
 pub returns-clause-count : goal.returns-clause-count

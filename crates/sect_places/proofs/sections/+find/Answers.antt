@@ -8,7 +8,7 @@ put_block-put_statement-requires t c =
     omega (
       arith,
       size_at c.as_slice-statement-items.result.now c.loop-statement.statement-index c.statement-item.result
-        (omega arith),
+          (omega arith),
       ap (λ s. statement_size (statement_of s)) c.statement-item.is,
       ap block_size c.loop-statement.invariant.0,
       c.decreases,

@@ -8,4 +8,4 @@ pub returns : goal.returns
 unfolding behind
 returns c =
     ap (λ (k : KeptView). k.uses) (c.result.view_is ∙ c.in_ok-kept_uses.ensures)
-      ∙ all_wanted (name_uses c.args.tree.now)
+    ∙ all_wanted (name_uses c.args.tree.now)

@@ -8,7 +8,7 @@ pub table-requires : goal.table-requires
 table-requires c =
     subst HaveFewVariables (sym c.requires.context.procedures)
     (few_variables (names_of_records c.args.context.now.tree.now.records) c.args.context.now.tree.now.procedures
-      c.in_ok-variables.ensures.fine)
+    c.in_ok-variables.ensures.fine)
 
 pub returns-in_err-variables-clause-walks : goal.returns-in_err-variables-clause-walks
 returns-in_err-variables-clause-walks c =

@@ -49,7 +49,7 @@ returns-clause-numbers c =
     let texts : c.in_ok-texts.texts.items ≡ written_texts t =
     sym (texts_written t c.in_ok-texts.texts.items
     ((λ i. texts_of (tree_of (sym c.new-setting.ensures i) (sym c.threads.ensures i)))
-      ∙ c.in_ok-texts.ensures.texts)) in
+    ∙ c.in_ok-texts.ensures.texts)) in
     let same : map (fresh_in (tree_of c.new-setting.result c.threads.result.now)) c.threads.result.now
     ≡ map (fresh_in t) t.threads =
     λ i. map (fresh_in (tree_of (c.new-setting.ensures i) (c.threads.ensures i))) (c.threads.ensures i) in

@@ -24,7 +24,7 @@ returns-in_err-variables-clause-walks c =
     let names = c.loop-procedure.names in
     let e = c.in_err-variables.field-0.0 in
     handed_on d (procedure_items 0 [] c.args.context.now.tree.now.procedures) c.args.spot.now
-      c.pass_procedure.new.spot e
+    c.pass_procedure.new.spot e
     c.from_residual.result c.from_residual.ensures.1
     (fault_after d (procedure_items 0 [] c.args.context.now.tree.now.procedures)
     (λ w. AProcedure p.name names ∷ local_items [] (variables p)

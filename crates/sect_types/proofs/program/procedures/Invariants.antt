@@ -6,6 +6,6 @@ use Rattle.sect_types.proofs.program.procedures.Given as goal
 abbrev pub invariant-loop-procedure : goal.invariant-loop-procedure
 invariant-loop-procedure l =
     AreProcedures (declared_in l.context.tree.now) l.context.tree.now.procedures
-      (drop l.procedure-index l.procedure-items)
+    (drop l.procedure-index l.procedure-items)
     l.names l.all.items
     l.fn.spot l.spot

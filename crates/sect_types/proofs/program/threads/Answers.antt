@@ -37,7 +37,7 @@ pub loop-thread-preserved : goal.loop-thread-preserved
 loop-thread-preserved c =
     let after = c.in_ok-own.ensures in
     thread_more (declared_in c.args.context.now.tree.now) c.args.context.now.tree.now.threads
-      c.threads-thread-items.result.now
+    c.threads-thread-items.result.now
     c.loop-thread.thread-index c.thread-item.result c.loop-thread.names c.pass_thread.new.names c.loop-thread.all.items
     c.push.new.self.items c.args.spot.now c.loop-thread.spot c.pass_thread.new.spot
     (omega arith) c.thread-item.is c.loop-thread.invariant after.walks after.names
@@ -47,7 +47,7 @@ loop-thread-preserved c =
 pub returns-clause-walks : goal.returns-clause-walks
 returns-clause-walks c =
     (threads_done (declared_in c.args.context.now.tree.now) c.args.context.now.tree.now.threads
-      c.threads-thread-items.result.now
+    c.threads-thread-items.result.now
     c.loop-thread.thread-index c.loop-thread.names c.loop-thread.all.items c.args.spot.now c.loop-thread.spot
     c.loop-thread-test.false c.loop-thread.invariant).walks
 
@@ -55,13 +55,13 @@ pub returns-clause-locals : goal.returns-clause-locals
 returns-clause-locals c =
     sym (append-nil c.loop-thread.all.items)
     ∙ (threads_done (declared_in c.args.context.now.tree.now) c.args.context.now.tree.now.threads
-      c.threads-thread-items.result.now
+    c.threads-thread-items.result.now
     c.loop-thread.thread-index c.loop-thread.names c.loop-thread.all.items c.args.spot.now c.loop-thread.spot
     c.loop-thread-test.false c.loop-thread.invariant).named
 
 pub returns-clause-fine : goal.returns-clause-fine
 returns-clause-fine c =
     (threads_done (declared_in c.args.context.now.tree.now) c.args.context.now.tree.now.threads
-      c.threads-thread-items.result.now
+    c.threads-thread-items.result.now
     c.loop-thread.thread-index c.loop-thread.names c.loop-thread.all.items c.args.spot.now c.loop-thread.spot
     c.loop-thread-test.false c.loop-thread.invariant).fine

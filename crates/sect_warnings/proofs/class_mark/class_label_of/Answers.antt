@@ -14,9 +14,9 @@ long_in-long-requires c =
     let n = c.args.lock.class in
     let turn = c.turn_in-turn.result in
     let one = one_long v c.facts.ensures.compiled c.args.section c.requires.section n c.args.lock.effect
-      c.args.links.now
+    c.args.links.now
     c.requires.reason turn.node turn.lock.now c.turn_in-turn.ensures.turn c.in_ok-paths.paths.items
-      c.in_ok-paths.ensures
+    c.in_ok-paths.ensures
     in (
       one.0,
       subst (λ l. Has l one.0) (sym c.as_slice.ensures.value) one.1,

@@ -29,7 +29,7 @@ returns-clause-placed c =
     let placed : ArePlaced source names v ws ps =
     subst (λ l. ArePlaced source names v l ps) c.as_slice-2.ensures.value
     (subst (λ l. ArePlaced source l v c.as_slice-2.result.now ps) c.as_slice.ensures.value
-      c.in_ok-placed.ensures.placed) in
+    c.in_ok-placed.ensures.placed) in
     let spare : AreSpares v.scheme names spares =
     rw (c.scheme-2.ensures, c.as_slice-3.ensures.value) at c.in_ok-spares.ensures in (
       ws,

@@ -28,15 +28,15 @@ loop-warning-preserved c =
     let many = rw tree at c.in_ok-ranges.ensures.many in (
       rw (c.in_ok-push.ensures.items)
           (zip_more (IsPut source c.args.accepted.names.now v tokens ranges) c.args.found.now
-            c.loop-warning.warning-index w
+          c.loop-warning.warning-index w
           c.loop-warning.placed.items c.new.result c.loop-warning-test.true
           (get_or_default c.args.found.now c.loop-warning.warning-index _ w c.loop-warning-test.true)
           c.loop-warning.invariant.0 (subst (IsPut source c.args.accepted.names.now v tokens ranges w)
-            (sym c.new.ensures) (record {
+          (sym c.new.ensures) (record {
             told = refl;
             mark = mark;
             marks = subst (IsMarkOf source c.args.accepted.names.now v w) (sym c.item.view_is)
-              c.in_ok-item.ensures.marks;
+                c.in_ok-item.ensures.marks;
             there = omega (arith, there, many);
             span = rw (c.as_slice.ensures.value, c.as_slice-in-loop-warning.ensures.value) at c.item_span-span.ensures;
             label = refl;
@@ -53,11 +53,11 @@ returns-clause-placed c = λ spelled.
     rw (c.program-program.ensures, c.scheme.ensures) at c.tree-tree.ensures.tree in
     let found = c.args.found.now in
     let put = subst (λ ws. AllZip (IsPut c.args.accepted.source.now c.args.accepted.names.now v
-      c.in_ok-tokens.tokens.items c.in_ok-ranges.ranges.items) ws
+    c.in_ok-tokens.tokens.items c.in_ok-ranges.ranges.items) ws
     c.loop-warning.placed.items) (take_all c.loop-warning.warning-index found (omega arith))
     c.loop-warning.invariant.0 in
     all_placed c.args.accepted.source.now c.args.accepted.names.now v c.in_ok-tokens.tokens.items
-      c.in_ok-ranges.ranges.items spelled
+    c.in_ok-ranges.ranges.items spelled
     (rw tree at c.in_ok-tokens.ensures.spans spelled)
     (rw tree at c.in_ok-ranges.ensures.ranges) found c.loop-warning.placed.items put
 
@@ -68,9 +68,9 @@ returns-clause-within c =
     let ranges = c.in_ok-ranges.ranges.items in
     let found = c.args.found.now in
     let put = subst (λ ws. AllZip (IsPut c.args.accepted.source.now c.args.accepted.names.now v tokens ranges) ws
-      c.loop-warning.placed.items)
+    c.loop-warning.placed.items)
     (take_all c.loop-warning.warning-index found (omega arith)) c.loop-warning.invariant.0 in
     within c.args.accepted.source.now c.args.accepted.names.now v tokens ranges (length c.args.accepted.source.now)
-      c.in_ok-tokens.ensures.order
+    c.in_ok-tokens.ensures.order
     (subst (λ n. AreAmong n ranges) (sym c.in_ok-tokens.ensures.many) c.in_ok-ranges.ensures.within) found
     c.loop-warning.placed.items put

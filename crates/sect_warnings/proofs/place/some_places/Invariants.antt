@@ -8,6 +8,6 @@ use Rattle.sect_warnings.proofs.place.some_places.Given as goal
 abbrev pub invariant-loop-warning : goal.invariant-loop-warning
 invariant-loop-warning l =
     AllZip (IsPut l.accepted.source.now l.accepted.names.now l.accepted.compiled.now l.tokens.items l.ranges.items)
-      (take l.warning-index l.found) l.placed.items
+    (take l.warning-index l.found) l.placed.items
     × IfSome l.kept.reasons (AreReasons l.accepted.compiled.now)
-      × IfSome l.kept.deep (IsCompiledFrom l.accepted.source.now 3)
+    × IfSome l.kept.deep (IsCompiledFrom l.accepted.source.now 3)

@@ -16,7 +16,7 @@ returns-clause-all c =
     let mid = c.put_by_nodes.new.trail in
     let new = c.put_at_end.new.trail in
     generated_all s t last g mid.numbering (kept_of mid) new.numbering (kept_of new)
-      c.in_ok-put_by_nodes.ensures.kept.each
+    c.in_ok-put_by_nodes.ensures.kept.each
     (grows_found s t last g mid.numbering (kept_of mid) new.numbering (kept_of new) (λ (x : Link). (x.node ≡ length g)
     × Has last x.lock) c.in_ok-put_at_end.ensures.kept)
     c.in_ok-put_at_end.ensures.kept
@@ -27,7 +27,7 @@ put_at_end-requires-clause-before c = λ l.
     let s = a.scheme.now in
     let g = a.flow.now in
     let first : Trail =
-      record { numbering = c.new.result; found = c.in_ok-none_found.field-0; steps = c.new-2.result } in
+    record { numbering = c.new.result; found = c.in_ok-none_found.field-0; steps = c.new-2.result } in
     below_before s a.thread a.last.now g first c.put_by_nodes.new.trail c.new-2.ensures.items (length g)
     (IsGeneratedBelow s a.thread g (length g)) c.in_ok-put_by_nodes.ensures.order l
 
@@ -35,6 +35,6 @@ pub returns-clause-order : goal.returns-clause-order
 returns-clause-order c =
     let a = c.args.self in
     let first : Trail =
-      record { numbering = c.new.result; found = c.in_ok-none_found.field-0; steps = c.new-2.result } in
+    record { numbering = c.new.result; found = c.in_ok-none_found.field-0; steps = c.new-2.result } in
     begins a.scheme.now a.thread a.last.now a.flow.now first c.put_by_nodes.new.trail
     c.put_at_end.new.trail c.new-2.ensures.items c.in_ok-put_by_nodes.ensures.order c.in_ok-put_at_end.ensures.order

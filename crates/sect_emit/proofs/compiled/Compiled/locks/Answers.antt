@@ -9,7 +9,7 @@ returns-clause-inferred c =
     let i = c.args.section in
     let locks = c.index.result.now in
     let kept = kept_at c.self.inside.scheme c.self.inside.locks.items _ c.self.invariant c.args.self.now
-      c.self.view_is i
+    c.self.view_is i
     locks c.requires c.index.ensures in
     subst (λ (v : CompiledView). AreInferredAt v.scheme i locks) c.self.view_is
     (c.self.invariant.inferred.each i locks kept)

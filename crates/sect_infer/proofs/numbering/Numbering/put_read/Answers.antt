@@ -29,6 +29,6 @@ returns c = λ s is above.
     put_equal s t.keys c.as_slice.result.now (lock.Path f effect.Read) (lock.Path p effect.Read)
     (λ l. IfOk r (IsNumbered s t c.put_behind-in-Some.new.self l))
     (ap (λ q. lock.Path q effect.Read) c.in_ok-try_clone-in-Some.ensures)
-      (c.put_behind-in-Some.ensures s is (read_other f))
+    (c.put_behind-in-Some.ensures s is (read_other f))
     (subst (AreAbove s t.keys (lock.Path p effect.Read)) (sym all) (read_beside s t.keys p ns c.in-Some.write above
     (c.in-Some.ensures ∙ ap (λ q. Some (lock.Path q effect.Write)) c.in_ok-try_clone.ensures)))

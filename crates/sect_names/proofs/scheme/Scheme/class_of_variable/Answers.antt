@@ -7,4 +7,4 @@ pub returns : goal.returns
 returns c =
     rw (← c.self.view_is) (class_tells c.self.inside.classes (var c.args.variable) c.self.invariant.parted
     (path_classes _ c.self.invariant.parted) c.class_of_path.result c.class_of_path.ensures.some
-      c.class_of_path.ensures.none)
+    c.class_of_path.ensures.none)

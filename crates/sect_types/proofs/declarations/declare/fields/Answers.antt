@@ -13,7 +13,7 @@ loop-field-preserved c =
     c.field-item.result
     c.loop-field.names c.pass.new.names c.args.spot.now c.loop-field.spot c.pass.new.spot (omega arith)
     c.field-item.is c.loop-field.invariant after.walks after.names (ap (λ (s : Counts). s.sites) after.counts) after.few
-      after.known
+    after.known
 
 pub returns-in_err-pass-clause-walks : goal.returns-in_err-pass-clause-walks
 returns-in_err-pass-clause-walks c =

@@ -13,7 +13,7 @@ loop-global-preserved c =
     c.loop-global.global-index c.global-item.result
     c.loop-global.names c.pass.new.names c.args.spot.now c.loop-global.spot c.pass.new.spot (omega arith)
     c.global-item.is c.loop-global.invariant after.walks after.names (ap (λ (s : Counts). s.sites) after.counts)
-      after.few after.known
+    after.few after.known
 
 pub returns-in_err-pass-clause-walks : goal.returns-in_err-pass-clause-walks
 returns-in_err-pass-clause-walks c =

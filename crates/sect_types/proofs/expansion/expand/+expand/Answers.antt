@@ -179,7 +179,7 @@ expand_call-expand_block-requires t c =
     let procedures = i.setting.now.procedures in
     let shown = c.variables-variables.ensures p c.procedure-procedure.ensures.there in
     let more : i.most ≡ suc (i.most - 1) = one_less i.setting.now i.most (view_of i.scope.now i.first) c.args.front.now
-      c.args.name.now
+    c.args.name.now
     c.args.operands.now c.requires.known in (
       omega (
         arith,
@@ -207,10 +207,10 @@ expand_call-returns-clause-front t c =
     let shown = c.variables-variables.ensures p c.procedure-procedure.ensures.there in
     call_front i.setting.now (i.most - 1) i.most c.args.front.now c.pass_call.new.self c.expand_block.new.front
     c.args.name.now c.args.operands.now c.unwrap-number.result p c.as_slice-2.result.now
-      c.procedure-procedure.ensures.flat
+    c.procedure-procedure.ensures.flat
     (one_less i.setting.now i.most (view_of i.scope.now i.first) c.args.front.now c.args.name.now
     c.args.operands.now c.requires.known) (sym c.number_of.ensures ∙ c.unwrap-number.ensures)
-      c.procedure-procedure.ensures.there
+    c.procedure-procedure.ensures.there
     (c.as_slice-2.ensures ∙ ap (λ (v : VariablesView). v.list) shown) c.in_ok-pass_call.ensures
     c.in_ok-expand_block.ensures.front
 
@@ -226,7 +226,7 @@ expand_call-returns-clause-text t c =
     c.args.operands.now c.unwrap-number.result p i.scope.now c.scope-scope.result i.first c.next-fresh.result
     c.as_slice-parameters.result.now c.as_slice.result.now c.as_slice-2.result.now c.args.out.now
     c.put_parameters.new.out c.put_cleared.new.out c.expand_block.new.out
-      (one_less i.setting.now i.most (view_of i.scope.now i.first) c.args.front.now c.args.name.now
+    (one_less i.setting.now i.most (view_of i.scope.now i.first) c.args.front.now c.args.name.now
     c.args.operands.now c.requires.known)
     (sym c.number_of.ensures ∙ c.unwrap-number.ensures) there own c.in_ok-pass_call.ensures
     (c.scope-scope.ensures ∙ ap (sight i.setting.now.records i.setting.now.globals) same) c.next-fresh.ensures

@@ -29,7 +29,7 @@ loop-number-init c =
     (sym c.new-fresh.ensures.items)
     (starts c.args.setting.now c.args.threads.now (length c.globals.result.now)
     (ap length c.globals.ensures ∙ ap (λ (w : SettingView). length w.globals) c.setting.view_is) c.requires.fits
-      c.requires.known))
+    c.requires.known))
 
 pub loop-number-preserved : goal.loop-number-preserved
 loop-number-preserved c =

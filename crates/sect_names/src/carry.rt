@@ -75,74 +75,6 @@ fn unless_based(alloc: Global, x: Variable, path: &Path) -> Result<Vec<Path>, Al
     }
 }
 
-/// The paths with one field more, but `z.f` itself.
-fn with_field(
-    alloc: Global,
-    z: Variable,
-    f: Field,
-    field: Field,
-    paths: &[Path],
-) -> Result<Vec<Path>, AllocError>
-    ensures { IfOk result (λ longer. (q : PathView)
-        → Has longer.items q ↔ ((r : PathView) × Has paths.now r × GoesOn z f field r q)) }
-{
-    let mut longer = Vec::new(alloc);
-    for path in paths {
-        if !is_stored(z, f, field, path) {
-            longer.push(path.extended(&[field])?)?;
-        }
-    }
-    Ok(longer)
-}
-
-/// Whether the path with this field more is `z.f` itself.
-fn is_stored(z: Variable, f: Field, field: Field, path: &Path) -> bool
-    ensures { IsTrue result ↔ ((field ≡ f) × (path.now ≡ var z)) }
-{
-    field == f && path.is_variable(z)
-}
-
-/// The paths that may denote before the store `z.f = w` what a beginning with one field more denotes after it, where
-/// these may denote what the beginning does.
-fn over_field(
-    scheme: &Scheme,
-    alloc: Global,
-    z: Variable,
-    f: Field,
-    w: Option<Variable>,
-    beginning: &Path,
-    field: Field,
-    paths: &[Path],
-) -> Result<Vec<Path>, AllocError>
-    ensures { IfOk result (λ over. (q : PathView)
-        → Has over.items q ↔ OverField scheme.now.classes z f w beginning.now field paths.now q) }
-{
-    let mut over = with_field(alloc, z, f, field, paths)?;
-    if let Some(value) = value_read(scheme, z, f, w, beginning, field) {
-        over.push(Path::new(alloc, value))?;
-    }
-    Ok(over)
-}
-
-/// What the field of a path may denote because of the store `z.f = w`.
-fn value_read(
-    scheme: &Scheme,
-    z: Variable,
-    f: Field,
-    w: Option<Variable>,
-    path: &Path,
-    field: Field,
-) -> Option<Variable>
-    ensures { (v : Variable) → (result ≡ Some v)
-        ↔ ((field ≡ f) × AreOfOneClass scheme.now.classes path.now (var z) × (w ≡ Some v)) }
-{
-    if field == f && are_of_one_class(scheme, path, z) {
-        w
-    } else {
-        None
-    }
-}
-
 /// Whether a path and a variable have a class, and it is one.
 fn are_of_one_class(scheme: &Scheme, path: &Path, variable: Variable) -> bool
     ensures { IsTrue result ↔ AreOfOneClass scheme.now.classes path.now (var variable) }
@@ -153,25 +85,102 @@ fn are_of_one_class(scheme: &Scheme, path: &Path, variable: Variable) -> bool
     }
 }
 
-/// The paths that may denote before the store `z.f = w` what this path denotes after it, field by field.
-fn field_by_field(
-    scheme: &Scheme,
-    alloc: Global,
-    z: Variable,
-    f: Field,
-    w: Option<Variable>,
-    path: &Path,
-) -> Result<Vec<Path>, AllocError>
-    ensures { IfOk result (λ paths. (q : PathView)
-        → Has paths.items q ↔ BeforeStore scheme.now.classes z f w path.now q) }
-{
-    let mut beginning = Path::new(alloc, path.base());
-    let mut paths = alone(alloc, Path::new(alloc, path.base()))?;
-    for field in path.fields() {
-        paths = over_field(scheme, alloc, z, f, w, &beginning, *field, paths.as_slice())?;
-        beginning.push(*field)?;
+/// The store `z.f = w`: the variable z, the field f, and the variable w, none where `null` is stored.
+#[derive(Clone, Copy)]
+struct FieldStore {
+    base: Variable,
+    field: Field,
+    value: Option<Variable>,
+}
+
+impl FieldStore {
+    /// The paths with one field more, but `z.f` itself.
+    fn with_field(
+        self,
+        alloc: Global,
+        field: Field,
+        paths: &[Path],
+    ) -> Result<Vec<Path>, AllocError>
+        ensures { IfOk result (λ longer. (q : PathView)
+            → Has longer.items q ↔ ((r : PathView) × Has paths.now r × GoesOn self.base self.field field r q)) }
+    {
+        let mut longer = Vec::new(alloc);
+        for path in paths {
+            if !self.is_target(field, path) {
+                longer.push(path.extended(&[field])?)?;
+            }
+        }
+        Ok(longer)
     }
-    Ok(paths)
+
+    /// Whether the path with this field more is `z.f` itself.
+    fn is_target(self, field: Field, path: &Path) -> bool
+        ensures { IsTrue result ↔ ((field ≡ self.field) × (path.now ≡ var self.base)) }
+    {
+        field == self.field && path.is_variable(self.base)
+    }
+
+    /// The paths that may denote before the store what a beginning with one field more denotes after it, where these
+    /// may denote what the beginning does.
+    fn over_field(
+        self,
+        scheme: &Scheme,
+        alloc: Global,
+        beginning: &Path,
+        field: Field,
+        paths: &[Path],
+    ) -> Result<Vec<Path>, AllocError>
+        ensures { IfOk result (λ over. (q : PathView) → Has over.items q
+            ↔ OverField scheme.now.classes self.base self.field self.value beginning.now field paths.now q) }
+    {
+        let mut over = self.with_field(alloc, field, paths)?;
+        if let Some(value) = self.value_read(scheme, beginning, field) {
+            over.push(Path::new(alloc, value))?;
+        }
+        Ok(over)
+    }
+
+    /// What the field of a path may denote because of the store.
+    fn value_read(self, scheme: &Scheme, path: &Path, field: Field) -> Option<Variable>
+        ensures { (v : Variable) → (result ≡ Some v) ↔ ((field ≡ self.field)
+            × AreOfOneClass scheme.now.classes path.now (var self.base) × (self.value ≡ Some v)) }
+    {
+        if field == self.field && are_of_one_class(scheme, path, self.base) {
+            self.value
+        } else {
+            None
+        }
+    }
+
+    /// The paths that may denote before the store what this path denotes after it, field by field.
+    fn field_by_field(
+        self,
+        scheme: &Scheme,
+        alloc: Global,
+        path: &Path,
+    ) -> Result<Vec<Path>, AllocError>
+        ensures { IfOk result (λ paths. (q : PathView) → Has paths.items q
+            ↔ BeforeStore scheme.now.classes self.base self.field self.value path.now q) }
+    {
+        let mut beginning = Path::new(alloc, path.base());
+        let mut paths = alone(alloc, Path::new(alloc, path.base()))?;
+        for field in path.fields() {
+            paths = self.over_field(scheme, alloc, &beginning, *field, paths.as_slice())?;
+            beginning.push(*field)?;
+        }
+        Ok(paths)
+    }
+
+    /// The paths that may denote before the store what this path denotes after it.
+    fn before(self, scheme: &Scheme, alloc: Global, path: &Path) -> Result<Vec<Path>, AllocError>
+        ensures { IfOk result (λ paths. (q : PathView) → Has paths.items q
+            ↔ BeforeStore scheme.now.classes self.base self.field self.value path.now q) }
+    {
+        if path.follows(self.field) {
+            return self.field_by_field(scheme, alloc, path);
+        }
+        unchanged(alloc, path)
+    }
 }
 
 impl Scheme {
@@ -227,8 +236,12 @@ impl Scheme {
                 before_load(alloc, target, variable_of(thread, base), field, path)
             }
             Action::Store(base, field, value) => {
-                let z = variable_of(thread, base);
-                before_store(self, alloc, z, field, variable_in(thread, value), path)
+                let store = FieldStore {
+                    base: variable_of(thread, base),
+                    field,
+                    value: variable_in(thread, value),
+                };
+                store.before(self, alloc, path)
             }
             Action::Compute(_, _, _, _) | Action::Print(_) => unchanged(alloc, path),
         }
@@ -314,22 +327,4 @@ fn before_load(
 {
     let start = Path::new(alloc, z).extended(&[f])?;
     moved(alloc, x, &start, path)
-}
-
-/// The paths that may denote before the store `z.f = w` what this path denotes after it.
-fn before_store(
-    scheme: &Scheme,
-    alloc: Global,
-    z: Variable,
-    f: Field,
-    w: Option<Variable>,
-    path: &Path,
-) -> Result<Vec<Path>, AllocError>
-    ensures { IfOk result (λ paths. (q : PathView)
-        → Has paths.items q ↔ BeforeStore scheme.now.classes z f w path.now q) }
-{
-    if path.follows(f) {
-        return field_by_field(scheme, alloc, z, f, w, path);
-    }
-    unchanged(alloc, path)
 }

@@ -18,9 +18,9 @@ ghost use Rattle.sect_world.specs.steps.Moves.{IsNext};
 use crate::asking::{ask, first_wish, turned_by};
 use crate::event::{Deed, Event};
 use crate::giving::{come_out, give_back};
-use crate::inside::step_inside;
+use crate::inside::{Inside, step_inside};
 use crate::labels::next_label;
-use crate::outside::{begin, enter, is_met, step_outside};
+use crate::outside::{Entrant, begin, enter, is_met, step_outside};
 use crate::runner::{Phase, Runner, first_runners, have_ended, put_ends};
 use crate::turned::{EventKind, Turned, WorldFault};
 use sect_emit::{Compiled, Grip};
@@ -346,14 +346,15 @@ impl<'a> World<'a> {
         ensures ok { IfOk result (λ turned. IsTurned thread turned self.old self.new) }
         ensures err { OnErr result (self.new ≡ self.old) }
     {
-        let alloc = *self.moment.trace.allocator();
         self.moment.trace.reserve(1)?;
-        step_inside(
-            alloc,
-            self.compiled,
+        let at = Inside {
             thread,
             section,
             node,
+        };
+        step_inside(
+            self.compiled,
+            at,
             &mut self.moment.runners[thread as usize],
             &mut self.moment.store,
             &mut self.moment.table,
@@ -535,8 +536,7 @@ impl<'a> World<'a> {
     {
         is_met(
             self.compiled,
-            thread,
-            section,
+            Entrant { thread, section },
             &self.moment.runners[thread as usize],
             &self.moment.store,
             &self.moment.table,

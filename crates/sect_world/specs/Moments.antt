@@ -6,10 +6,11 @@ use Rattle.sect_world.specs.{Worlds.{WorldView}, declared.world.Moment.{Moment},
 -- the world of a moment of a run of this compiled program
 abbrev pub world_at : CompiledView → Moment → WorldView
 world_at c m =
-    shown c m.fuel m.trace.items m.order.items m.store m.output.items m.runners.items m.table.held m.granted.items
+    shown c m.fuel m.trace.items m.order.items m.store m.output.items m.runners.items m.table.held
+    m.let_in.granted.items
 
 -- it is a moment of a run of this compiled program
 abbrev pub IsMoment : CompiledView → Moment → Type 0
 IsMoment c m = IsWorld c m.fuel m.trace.items m.order.items m.store m.output.items m.runners.items m.table
-    × HasRoom (length m.table.held) m.grants.threads (vec_capacity m.granted) (vec_capacity m.ends)
+    × HasRoom (length m.table.held) m.let_in.grants.threads (vec_capacity m.let_in.granted) (vec_capacity m.ends)
     × (m.ends.items ≡ [])

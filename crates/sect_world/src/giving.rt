@@ -17,6 +17,13 @@ use sect_table::{Grant, Grants, Table};
 use sect_types::{End, Fault};
 use std::alloc::AllocError;
 
+/// The threads that the last turn has let in, in order, and room for the grants that let them in.
+#[derive(Drop)]
+pub struct LetIn {
+    pub grants: Grants,
+    pub granted: Vec<u16>,
+}
+
 /// Each grant is a `take` event of the thread that waited; `granted` tells whose.
 fn take_grants(
     trace: &mut Vec<Event>,
@@ -43,29 +50,33 @@ pub fn give_back(
     trace: &mut Vec<Event>,
     runners: &mut Vec<Runner>,
     table: &mut Table,
-    grants: &mut Grants,
-    granted: &mut Vec<u16>,
+    let_in: &mut LetIn,
     event: Event,
 )
     requires thread { event.thread < length table.old.held }
     requires idle { is_waiting event.thread table.old ≡ false }
-    requires grants { length table.old.held ≤ grants.old.threads }
+    requires grants { length table.old.held ≤ let_in.old.grants.threads }
     requires room { vec_len trace.old + 1 + length table.old.held ≤ vec_capacity trace.old }
-    requires place { length table.old.held ≤ vec_capacity granted.old }
+    requires place { length table.old.held ≤ vec_capacity let_in.old.granted }
     requires advance { CanAdvance (released event.thread table.old).grants runners.old.items }
     ensures trace { trace.new.items ≡ trace.old.items ++ event ∷ takes (released event.thread table.old).grants }
     ensures runners { runners.new.items ≡ all_advanced (released event.thread table.old).grants runners.old.items }
-    ensures granted { granted.new.items ≡ takers (released event.thread table.old).grants }
+    ensures granted { let_in.new.granted.items ≡ takers (released event.thread table.old).grants }
     ensures held { table.new.held ≡ (released event.thread table.old).held }
     ensures entries { table.new.entries ≡ (released event.thread table.old).entries }
     ensures kept { IsTableKept table.new }
-    ensures threads { grants.new.threads ≡ grants.old.threads }
-    ensures place { vec_capacity granted.new ≡ vec_capacity granted.old }
+    ensures threads { let_in.new.grants.threads ≡ let_in.old.grants.threads }
+    ensures place { vec_capacity let_in.new.granted ≡ vec_capacity let_in.old.granted }
 {
     trace.push_reserved(event);
-    table.release_all(event.thread, grants);
-    granted.clear();
-    take_grants(trace, runners, granted, grants.as_slice());
+    table.release_all(event.thread, &mut let_in.grants);
+    let_in.granted.clear();
+    take_grants(
+        trace,
+        runners,
+        &mut let_in.granted,
+        let_in.grants.as_slice(),
+    );
 }
 
 /// How a thread has ended that comes out of a section, by a fault or else to this node of its own graph.

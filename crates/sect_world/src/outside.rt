@@ -11,7 +11,7 @@ ghost use Rattle.sect_world.specs.{declared.runner.Phase.TheVariants.{Entered, R
 ghost use Rattle.sect_world.specs.Viewing.{text_at, frame_of};
 ghost use Rattle.sect_world.specs.steps.Moves.{StepsLocally};
 
-use crate::moving::{chosen, run_node};
+use crate::moving::{Step, chosen, run_node};
 use crate::plans::{plan_of, wish_of};
 use crate::runner::{Phase, Runner};
 use sect_emit::{Compiled, Grip};
@@ -26,25 +26,23 @@ use std::alloc::{AllocError, Global};
 /// it comes to. Outside a section a statement leaves the store as it is. Where memory is refused nothing has changed.
 fn run_outside(
     alloc: Global,
-    compiled: &Compiled,
-    thread: u16,
-    node: u16,
+    step: Step<'_>,
     work: &mut Work,
     store: &mut Store,
 ) -> Result<Result<u16, Fault>, AllocError>
-    requires thread { thread < length (program_of compiled.now).texts }
-    requires node { (g : List Node) → slice_get compiled.now.scheme.graphs.threads thread ≡ Some g → node < length g }
-    requires step { begins_step (rest_at (text_at compiled.now thread) node) ≡ true }
-    requires sound { IsSound (environment_at (program_of compiled.now) thread) false
-        (rest_at (text_at compiled.now thread) node) }
-    ensures steps { IfOk result (λ went. StepsLocally compiled.now thread (rest_at (text_at compiled.now thread) node)
+    requires thread { step.thread < length (program_of step.compiled.now).texts }
+    requires flow { slice_get step.compiled.now.scheme.graphs.threads step.thread ≡ Some step.flow.now }
+    requires node { step.node < length step.flow.now }
+    requires step { begins_step (rest_at (text_at step.compiled.now step.thread) step.node) ≡ true }
+    requires sound { IsSound (environment_at (program_of step.compiled.now) step.thread) false
+        (rest_at (text_at step.compiled.now step.thread) step.node) }
+    ensures steps { IfOk result (λ went. StepsLocally step.entry.compiled.now step.entry.thread
+        (rest_at (text_at step.entry.compiled.now step.entry.thread) step.entry.node)
         work.old store.old store.new went work.new) }
     ensures refused { OnErr result ((work.new ≡ work.old) × (store.new ≡ store.old)) }
 {
-    compiled.facts();
-    let program = compiled.scheme().program();
-    let flow = compiled.scheme().graph().thread(thread);
-    run_node(alloc, program, thread, flow, node, work, store)
+    step.compiled.facts();
+    run_node(alloc, step, work, store)
 }
 
 /// A thread outside sections runs its next statement or test. At the end of its text it has ended. Where memory is
@@ -71,11 +69,17 @@ pub fn step_outside(
     ensures refused { OnErr result (runner.new ≡ runner.old) }
 {
     compiled.facts();
-    let node = runner.node;
-    match run_outside(alloc, compiled, thread, node, &mut runner.work, store)? {
+    let flow = compiled.scheme().graph().thread(thread);
+    let step = Step {
+        compiled,
+        thread,
+        flow,
+        node: runner.node,
+    };
+    match run_outside(alloc, step, &mut runner.work, store)? {
         Ok(next) => {
             runner.node = next;
-            if next >= compiled.scheme().graph().thread(thread).exit() {
+            if next >= flow.exit() {
                 runner.ended = Some(End::Done);
             }
         }
@@ -185,21 +189,28 @@ fn has_objects(table: &Table, thread: u16, locks: &[Lock], store: &Store, work: 
     true
 }
 
+/// A thread that has entered a section.
+#[derive(Clone, Copy)]
+pub struct Entrant {
+    pub thread: u16,
+    pub section: u16,
+}
+
 /// Whether the plan of a section for a thread in this state is met by what it holds. The plan isn't made for that.
 pub fn is_met(
     compiled: &Compiled,
-    thread: u16,
-    section: u16,
+    entrant: Entrant,
     runner: &Runner,
     store: &Store,
     table: &Table,
 ) -> bool
-    requires section { section < length (sections_of (program_of compiled.now).texts) }
-    requires thread { thread < length table.now.held }
-    ensures { result ≡ meets_by (grips (held_by table.now thread))
-        (plan_at compiled.now section store.now runner.now.work.locals) }
+    requires section { entrant.section < length (sections_of (program_of compiled.now).texts) }
+    requires thread { entrant.thread < length table.now.held }
+    ensures { result ≡ meets_by (grips (held_by table.now entrant.thread))
+        (plan_at compiled.now entrant.section store.now runner.now.work.locals) }
 {
     compiled.facts();
+    let Entrant { thread, section } = entrant;
     meets(table, thread, compiled.part(section))
         && has_objects(table, thread, compiled.set(section), store, &runner.work)
 }

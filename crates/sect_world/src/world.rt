@@ -17,10 +17,10 @@ ghost use Rattle.sect_world.specs.steps.Moves.{IsNext};
 
 use crate::asking::{ask, first_wish, turned_by};
 use crate::event::{Deed, Event};
-use crate::giving::{come_out, give_back};
-use crate::inside::step_inside;
+use crate::giving::{LetIn, come_out, give_back};
+use crate::inside::{Inside, step_inside};
 use crate::labels::next_label;
-use crate::outside::{begin, enter, is_met, step_outside};
+use crate::outside::{Entrant, begin, enter, is_met, step_outside};
 use crate::runner::{Phase, Runner, first_runners, have_ended, put_ends};
 use crate::turned::{EventKind, Turned, WorldFault};
 use sect_emit::{Compiled, Grip};
@@ -50,8 +50,7 @@ pub struct Moment {
     output: Vec<i64>,
     runners: Vec<Runner>,
     table: Table,
-    grants: Grants,
-    granted: Vec<u16>,
+    let_in: LetIn,
     ends: Vec<Option<End>>,
 }
 
@@ -117,8 +116,10 @@ impl<'a> World<'a> {
             output: Vec::new(alloc),
             runners: first_runners(alloc, compiled, fuel)?,
             table: Table::with_threads(alloc, threads)?,
-            grants: Grants::with_threads(alloc, threads)?,
-            granted: Vec::with_capacity(alloc, threads)?,
+            let_in: LetIn {
+                grants: Grants::with_threads(alloc, threads)?,
+                granted: Vec::with_capacity(alloc, threads)?,
+            },
             ends: Vec::with_capacity(alloc, threads)?,
         };
         Ok(World { compiled, moment })
@@ -166,7 +167,7 @@ impl<'a> World<'a> {
     pub fn granted(&self) -> &[u16]
         ensures { result.now ≡ self.now.granted }
     {
-        self.moment.granted.as_slice()
+        self.moment.let_in.granted.as_slice()
     }
 
     /// The number of threads.
@@ -289,7 +290,7 @@ impl<'a> World<'a> {
             &mut self.moment.runners[thread as usize],
             &mut self.moment.store,
         )?;
-        self.moment.granted.clear();
+        self.moment.let_in.granted.clear();
         let deed = Deed::Local;
         self.moment.trace.push_reserved(Event { thread, deed });
         Ok(Turned::Moved(EventKind::Local))
@@ -311,7 +312,7 @@ impl<'a> World<'a> {
             &mut self.moment.runners[thread as usize],
             &self.moment.store,
         )?;
-        self.moment.granted.clear();
+        self.moment.let_in.granted.clear();
         let deed = Deed::Enter;
         self.moment.trace.push_reserved(Event { thread, deed });
         Ok(Turned::Moved(EventKind::Enter))
@@ -332,7 +333,7 @@ impl<'a> World<'a> {
             section,
             &mut self.moment.runners[thread as usize],
         );
-        self.moment.granted.clear();
+        self.moment.let_in.granted.clear();
         let deed = Deed::Begin;
         self.moment.trace.push_reserved(Event { thread, deed });
         Ok(Turned::Moved(EventKind::Begin))
@@ -346,19 +347,20 @@ impl<'a> World<'a> {
         ensures ok { IfOk result (λ turned. IsTurned thread turned self.old self.new) }
         ensures err { OnErr result (self.new ≡ self.old) }
     {
-        let alloc = *self.moment.trace.allocator();
         self.moment.trace.reserve(1)?;
-        step_inside(
-            alloc,
-            self.compiled,
+        let at = Inside {
             thread,
             section,
             node,
+        };
+        step_inside(
+            self.compiled,
+            at,
             &mut self.moment.runners[thread as usize],
             &mut self.moment.store,
             &mut self.moment.table,
         )?;
-        self.moment.granted.clear();
+        self.moment.let_in.granted.clear();
         let deed = Deed::Act;
         self.moment.trace.push_reserved(Event { thread, deed });
         Ok(Turned::Moved(EventKind::Act))
@@ -376,7 +378,7 @@ impl<'a> World<'a> {
             &mut self.moment.table,
             thread,
         )?;
-        self.moment.granted.clear();
+        self.moment.let_in.granted.clear();
         Ok(turned_by(answer))
     }
 
@@ -394,8 +396,7 @@ impl<'a> World<'a> {
             &mut self.moment.trace,
             &mut self.moment.runners,
             &mut self.moment.table,
-            &mut self.moment.grants,
-            &mut self.moment.granted,
+            &mut self.moment.let_in,
             Event { thread, deed },
         );
         Ok(Turned::Moved(EventKind::Again))
@@ -422,8 +423,7 @@ impl<'a> World<'a> {
             &mut self.moment.trace,
             &mut self.moment.runners,
             &mut self.moment.table,
-            &mut self.moment.grants,
-            &mut self.moment.granted,
+            &mut self.moment.let_in,
             Event { thread, deed },
         );
         Ok(Turned::Moved(EventKind::Leave))
@@ -436,7 +436,7 @@ impl<'a> World<'a> {
         ensures err { OnErr result (self.new ≡ self.old) }
     {
         if self.has_ended(thread) {
-            self.moment.granted.clear();
+            self.moment.let_in.granted.clear();
             return Ok(Turned::Ended);
         }
         match self.label_of(thread) {
@@ -535,8 +535,7 @@ impl<'a> World<'a> {
     {
         is_met(
             self.compiled,
-            thread,
-            section,
+            Entrant { thread, section },
             &self.moment.runners[thread as usize],
             &self.moment.store,
             &self.moment.table,

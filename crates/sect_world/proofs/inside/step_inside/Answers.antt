@@ -12,19 +12,19 @@ use Rattle.sect_world.proofs.inside.step_inside.Goals as goal
 
 -- the graph is the section's
 graph_at : (c : After-section-flow)
-    → slice_get c.args.compiled.now.scheme.graphs.sections c.args.section ≡ Some c.section-flow.result.now
-graph_at c = ap (λ (g : GraphView). slice_get g.sections c.args.section)
+    → slice_get c.args.compiled.now.scheme.graphs.sections c.args.at.section ≡ Some c.section-flow.result.now
+graph_at c = ap (λ (g : GraphView). slice_get g.sections c.args.at.section)
     (sym (c.graph.ensures ∙ ap (λ (s : SchemeView). s.graphs) c.scheme.ensures)) ∙ c.section-flow.ensures
 
 -- the node begins what is left of the section, which is a step
 node_at : (c : After-section-flow)
-    → (x : Node) × (slice_get c.section-flow.result.now c.args.node ≡ Some x)
-    × Begins (rest_at (body_at c.args.compiled.now c.args.section)) x
-    (rest_at (body_at c.args.compiled.now c.args.section) c.args.node)
-    × (begins_step (rest_at (body_at c.args.compiled.now c.args.section) c.args.node) ≡ true)
+    → (x : Node) × (slice_get c.section-flow.result.now c.args.at.node ≡ Some x)
+    × Begins (rest_at (body_at c.args.compiled.now c.args.at.section)) x
+    (rest_at (body_at c.args.compiled.now c.args.at.section) c.args.at.node)
+    × (begins_step (rest_at (body_at c.args.compiled.now c.args.at.section) c.args.at.node) ≡ true)
 node_at c =
-    let x = at_of c.section-flow.result.now c.args.node (c.requires.node c.section-flow.result.now (graph_at c)) in
-    let b = inside_step c.args.compiled.now c.facts.ensures.compiled c.args.thread c.args.section c.args.node
+    let x = at_of c.section-flow.result.now c.args.at.node (c.requires.node c.section-flow.result.now (graph_at c)) in
+    let b = inside_step c.args.compiled.now c.facts.ensures.compiled c.args.at.thread c.args.at.section c.args.at.node
     c.section-flow.result.now x.0 c.requires.section (graph_at c) x.1 c.requires.text in
     (x.0, x.1, b.0, b.1)
 
@@ -32,16 +32,16 @@ pub run_inside-requires-clause-step : goal.run_inside-requires-clause-step
 run_inside-requires-clause-step c = λ x at.
     let m = c.args.compiled.now in
     let graph = graph_at (goal.at.run_inside-requires-clause-step c).After-section-flow in
-    let b = inside_step m c.facts.ensures.compiled c.args.thread c.args.section c.args.node c.section-flow.result.now x
-    c.requires.section graph at c.requires.text in
-    step_label (rest_at (body_at m c.args.section)) x (rest_at (body_at m c.args.section) c.args.node) b.1 b.0
+    let b = inside_step m c.facts.ensures.compiled c.args.at.thread c.args.at.section c.args.at.node
+    c.section-flow.result.now x c.requires.section graph at c.requires.text in
+    step_label (rest_at (body_at m c.args.at.section)) x (rest_at (body_at m c.args.at.section) c.args.at.node) b.1 b.0
 
 pub returns-clause-acts : goal.returns-clause-acts
 returns-clause-acts c = λ text.
     let m = c.args.compiled.now in
-    let t = c.args.thread in
-    let i = c.args.section in
-    let k = rest_at (body_at m i) c.args.node in
+    let t = c.args.at.thread in
+    let i = c.args.at.section in
+    let k = rest_at (body_at m i) c.args.at.node in
     let x = node_at (goal.at.returns-clause-acts c).After-section-flow in
     let goes = c.in_ok-went.ensures.goes (rest_at (body_at m i)) k x.0 x.1 x.2 x.3 in
     let more = c.in_ok-went.ensures.table (rest_at (body_at m i)) k x.0 x.1 x.2 c.requires.text in
@@ -60,15 +60,15 @@ returns-clause-acts c = λ text.
 pub returns-clause-store : goal.returns-clause-store
 returns-clause-store c =
     let m = c.args.compiled.now in
-    let t = c.args.thread in
-    let k = rest_at (body_at m c.args.section) c.args.node in
+    let t = c.args.at.thread in
+    let k = rest_at (body_at m c.args.at.section) c.args.at.node in
     let x = node_at (goal.at.returns-clause-store c).After-section-flow in
-    let goes = c.in_ok-went.ensures.goes (rest_at (body_at m c.args.section)) k x.0 x.1 x.2 x.3 in
-    acted_store (rest_at (body_at m c.args.section)) t c.args.store.now c.run_inside.new.store
+    let goes = c.in_ok-went.ensures.goes (rest_at (body_at m c.args.at.section)) k x.0 x.1 x.2 x.3 in
+    acted_store (rest_at (body_at m c.args.at.section)) t c.args.store.now c.run_inside.new.store
     (step_in m t k c.args.runner.now.work c.args.store.now) c.in_ok-went.went c.run_inside.new.work goes
 
 pub returns-clause-table : goal.returns-clause-table
 returns-clause-table c =
-    let rest = rest_at (body_at c.args.compiled.now c.args.section) in
+    let rest = rest_at (body_at c.args.compiled.now c.args.at.section) in
     let x = node_at (goal.at.returns-clause-table c).After-section-flow in
-    c.in_ok-went.ensures.table rest (rest c.args.node) x.0 x.1 x.2 c.requires.text
+    c.in_ok-went.ensures.table rest (rest c.args.at.node) x.0 x.1 x.2 c.requires.text

@@ -86,7 +86,7 @@ turned c =
     let h = at_step p in
     let out = c.in_ok-step_inside.ensures in
     turns_inside _ _ _ _ _ _ _ _ c.self.invariant.0 c.args.thread h.0 h.1 _ (runner_at p) _ _ _
-    c.self.inside.moment.granted.items _ c.in_ok-reserve.ensures.items c.step_inside.new.runner refl
+    c.self.inside.moment.let_in.granted.items _ c.in_ok-reserve.ensures.items c.step_inside.new.runner refl
     c.clear.ensures.items c.args.section _ _ _ h.2 h.3 c.push_reserved.ensures.items out.acts out.store out.table
     out.sited
 

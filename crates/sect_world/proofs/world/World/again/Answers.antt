@@ -51,10 +51,10 @@ turned : (c : goal.After-give_back)
     → TurnsInto (world_at c.self.inside.compiled.now c.self.inside.moment) c.args.thread (Moved kind.Again)
     c.self.inside.compiled.now c.self.inside.moment.fuel c.give_back.new.trace.items
     c.self.inside.moment.order.items c.self.inside.moment.store c.self.inside.moment.output.items
-    c.give_back.new.runners.items c.give_back.new.table c.give_back.new.granted.items
+    c.give_back.new.runners.items c.give_back.new.table c.give_back.new.let_in.granted.items
 turned c =
     let e = c.give_back.ensures in
-    gave_back _ _ _ _ _ _ _ _ _ _ _ _ _ _ _ c.self.inside.moment.granted.items _ _ _
+    gave_back _ _ _ _ _ _ _ _ _ _ _ _ _ _ _ c.self.inside.moment.let_in.granted.items _ _ _
     (gives (goal.at.returns-clause-ok c).After-index_mut) (λ f. f) c.in_ok-reserve.ensures.items e.trace refl
     (sym (append-nil c.self.inside.moment.order.items)) e.runners e.granted e.held e.entries e.kept
 

@@ -39,7 +39,7 @@ turned c =
     c.requires.2 in
     let q = asker _ _ _ _ _ _ _ _ c.self.invariant.0 c.args.thread c.requires.0 c.requires.1 asks in
     let asked = c.in_ok-answer.ensures.ok q.runner q.at (grip c.requires.0 c.requires.1) q.wishes in
-    world_asked _ _ _ _ _ _ _ _ _ _ _ c.self.inside.moment.granted.items c.self.invariant.0 c.args.thread
+    world_asked _ _ _ _ _ _ _ _ _ _ _ c.self.inside.moment.let_in.granted.items c.self.invariant.0 c.args.thread
     c.requires.0 c.requires.1 c.in_ok-answer.answer asks asked c.ask.ensures.kept
 
 pub invariant_of-self-2 : goal.invariant_of-self-2

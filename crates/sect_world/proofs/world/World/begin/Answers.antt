@@ -60,7 +60,8 @@ turned c =
     let h = met p in
     let out = c.begin.ensures in
     turns_begun _ _ _ _ _ _ _ _ c.self.invariant.0 c.args.thread h.0 h.1 _ (runner_at p) _ _ _
-    c.self.inside.moment.granted.items _ c.in_ok-reserve.ensures.items c.begin.new.runner refl c.clear.ensures.items
+    c.self.inside.moment.let_in.granted.items _ c.in_ok-reserve.ensures.items c.begin.new.runner refl
+    c.clear.ensures.items
     c.args.section h.2.0 h.2.1 h.2.2 h.2.3 c.push_reserved.ensures.items out.phase
     (out.text c.args.section h.2.0 h.2.1
     (sym (text_is _ _ _ _ _ _ _ _ c.self.invariant.0 c.args.thread h.0 h.1 _ (runner_at p)) ∙ h.2.2.text))

@@ -55,7 +55,8 @@ turned c =
     let h = before_section p in
     let out = c.in_ok-enter.ensures in
     turns_in _ _ _ _ _ _ _ _ c.self.invariant.0 c.args.thread h.0 h.1 _ (runner_at p) _ _ _
-    c.self.inside.moment.granted.items _ c.in_ok-reserve.ensures.items c.enter.new.runner refl c.clear.ensures.items
+    c.self.inside.moment.let_in.granted.items _ c.in_ok-reserve.ensures.items c.enter.new.runner refl
+    c.clear.ensures.items
     c.args.section h.3.0 h.3.1 h.2 h.3.2 c.push_reserved.ensures.items out.phase out.wanted (out.frame _)
 
 pub invariant_of-self-2 : goal.invariant_of-self-2

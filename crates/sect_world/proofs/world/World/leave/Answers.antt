@@ -58,12 +58,13 @@ turned : (c : goal.After-give_back)
     → TurnsInto (world_at c.self.inside.compiled.now c.self.inside.moment) c.args.thread (Moved kind.Leave)
     c.self.inside.compiled.now c.self.inside.moment.fuel c.give_back.new.trace.items c.push_reserved.new.self.items
     c.self.inside.moment.store c.come_out.new.output.items c.give_back.new.runners.items c.give_back.new.table
-    c.give_back.new.granted.items
+    c.give_back.new.let_in.granted.items
 turned c =
     let e = c.give_back.ensures in
-    rw c.in_ok-come_out.ensures.output (gave_back _ _ _ _ _ _ _ _ _ _ _ _ _ _ _ c.self.inside.moment.granted.items
-    _ _ _ (gives (goal.at.returns-clause-ok c).In_ok-come_out) (λ f. f) c.in_ok-reserve.ensures.items e.trace
-    c.in_ok-reserve-2.ensures.items c.push_reserved.ensures.items e.runners e.granted e.held e.entries e.kept)
+    rw c.in_ok-come_out.ensures.output (gave_back _ _ _ _ _ _ _ _ _ _ _ _ _ _ _
+    c.self.inside.moment.let_in.granted.items _ _ _ (gives (goal.at.returns-clause-ok c).In_ok-come_out) (λ f. f)
+    c.in_ok-reserve.ensures.items e.trace c.in_ok-reserve-2.ensures.items c.push_reserved.ensures.items e.runners
+    e.granted e.held e.entries e.kept)
 
 pub invariant_of-self-2 : goal.invariant_of-self-2
 invariant_of-self-2 c = (

@@ -78,7 +78,7 @@ turned c =
     let h = before_step p in
     let out = c.in_ok-step_outside.ensures in
     rw out.store (turns_local _ _ _ _ _ _ _ _ c.self.invariant.0 c.args.thread h.0 h.1 _ (runner_at p) _ _ _
-    c.self.inside.moment.granted.items _ c.in_ok-reserve.ensures.items c.step_outside.new.runner refl
+    c.self.inside.moment.let_in.granted.items _ c.in_ok-reserve.ensures.items c.step_outside.new.runner refl
     c.clear.ensures.items h.2 h.3 c.push_reserved.ensures.items out.steps out.phase out.wanted.0 out.wanted.1)
 
 pub invariant_of-self-2 : goal.invariant_of-self-2

@@ -1,6 +1,6 @@
 -- Which step of a thread brings it a key: a `new` for which fuel is left and whose record nothing guards.
 use Rattle.std.proofs.Common.{◌≡◌, ◌<◌, [], ℕ, zero, suc, Bool, true, false, List, Option, Some, None, Result, Ok, Err}
-use Rattle.std.proofs.Common.{OnOk, refl, sym, ap, ◌∙◌, subst, arith}
+use Rattle.std.proofs.Common.{OnOk, OnErr, refl, sym, ap, ◌∙◌, subst, arith}
 use Rattle.std.specs.Prelude.{option_map, if◌then◌else◌, ℤ}
 use Rattle.sect_types.specs.{declared.expansion.action.Action.{Action}, declared.expansion.action.Condition.{Condition}}
 use Rattle.sect_types.specs.declared.expansion.action.Label.TheVariants.{Act, Test, Section as WholeSection}
@@ -57,6 +57,11 @@ begins_with rest x a (Section i p r) b is = absurd (section_is_no_act i a (sym (
 pub if_ok : {A B : Type 0} {P : Type 0} (r : Result A B) → P → OnOk r P
 if_ok (Ok x) p = p
 if_ok (Err e) p = tt
+
+-- and what holds at any rate holds where there is an error
+pub if_err : {A B : Type 0} {P : Type 0} (r : Result A B) → P → OnErr r P
+if_err (Ok x) p = tt
+if_err (Err e) p = p
 
 -- the node is the one that was looked up
 pub looked_up : {A B : Type 0} (f : A → B) (o : Option A) (x : A) (y : B) → o ≡ Some x → option_map f o ≡ Some y

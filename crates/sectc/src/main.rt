@@ -5,8 +5,12 @@
 mod tests;
 
 use sect_command::{FAILED, OUT_OF_MEMORY, WRONG_WORDS, command, told};
+use std::env::FillError;
 use std::process::ExitCode;
-use std::{env, io};
+use std::{env, io, str};
+
+/// The most bytes of a short word, as all numbers of a schedule are.
+const SHORT: usize = 64;
 
 fn main(rt: HostRuntime) -> ExitCode {
     let mut output = rt.stdout();
@@ -22,6 +26,29 @@ fn main(rt: HostRuntime) -> ExitCode {
 
 /// The words of the command line, the program's name first. An argument that is no text fails.
 fn arguments(rt: &(impl std::rt::Env + AllocGlobal)) -> io::Result<Vec<String>> {
-    let words: Vec<String> = env::args(rt)?.collect(rt.alloc())?;
-    Ok(words)
+    match short_arguments(rt)? {
+        Some(words) => Ok(words),
+        None => {
+            let words: Vec<String> = env::args(rt)?.collect(rt.alloc())?;
+            Ok(words)
+        }
+    }
+}
+
+/// The words of the command line, if each is a short text. `env::args` keeps 256 bytes for each word, which are 16 MB
+/// for a schedule of 60,000 turns.
+fn short_arguments(rt: &(impl std::rt::Env + AllocGlobal)) -> io::Result<Option<Vec<String>>> {
+    let mut room = [0u8; SHORT];
+    let mut words = Vec::new(rt.alloc());
+    for place in 0..usize::MAX {
+        match rt.arg(place, &mut room) {
+            Err(FillError::NotPresent) => return Ok(Some(words)),
+            Err(FillError::TooLong) => return Ok(None),
+            Ok(length) => match str::from_utf8(&room[..length]) {
+                Ok(word) => words.push(String::from_str(rt.alloc(), word)?)?,
+                Err(_) => return Ok(None),
+            },
+        }
+    }
+    Ok(None)
 }

@@ -9,6 +9,7 @@ mod run;
 mod sessions;
 mod streams;
 mod stretch;
+mod words;
 mod workers;
 
 use sect_command::command;

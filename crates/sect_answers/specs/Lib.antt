@@ -12,6 +12,6 @@ pub mod Conflicting
 pub mod Explaining
 pub mod Formats
 pub mod Graphing
-pub mod Linting
+pub mod Findings
 pub mod Scheduling
 pub mod Turns

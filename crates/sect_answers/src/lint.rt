@@ -3,7 +3,7 @@
 ghost use Rattle.std.specs.{Prelude.{IfOk, IfErr}, String.{string_bytes}};
 ghost use Rattle.sect_emit.specs.Compiled.{IsCompiledFrom};
 ghost use Rattle.sect_lint.specs.declared.format.LintFormat.TheVariants.{Json};
-ghost use Rattle.sect_answers.specs.Linting.{IsUnblamed, IsInspection, IsLintDue};
+ghost use Rattle.sect_answers.specs.Findings.{IsUnblamed, IsInspection, IsLintDue};
 
 use crate::refusal::Refusal;
 use sect_emit::{Compiled, compile_scheme};

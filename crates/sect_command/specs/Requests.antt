@@ -5,7 +5,7 @@ use Rattle.sect_infer.specs.Workers.{AreOffered}
 use Rattle.sect_answers.specs.{Answers.{IsAnswer, IsDue}, Charting.{IsCharted}, Checking.{IsValidInput, IsCheckDue}}
 use Rattle.sect_answers.specs.Compiling.{IsCertified, IsProgramListing, IsProgramDocument, IsCompileDue}
 use Rattle.sect_answers.specs.{Conflicting.{AreProgramConflicts}, Explaining.{IsProgramExplanation}}
-use Rattle.sect_answers.specs.{Graphing.{IsProgramGraph, IsGraphDue}, Linting.{IsUnblamed, IsInspection, IsLintDue}}
+use Rattle.sect_answers.specs.{Graphing.{IsProgramGraph, IsGraphDue}, Findings.{IsUnblamed, IsInspection, IsLintDue}}
 use Rattle.sect_answers.specs.{Outcomes.{AreAllOutcomes, IsOutcomesDue}, Refusals.{refusal_text}}
 use Rattle.sect_answers.specs.{Running.{IsOutcomeOfRun}, Scheduling.{IsScheduled, IsScheduleDue}}
 use Rattle.sect_answers.specs.{Serial.{IsOutcome, IsSerialDue}, declared.refusal.Refusal.{Refusal}}

@@ -11,7 +11,7 @@ use Rattle.sect_emit.specs.{Compiled.{CompiledView, program_of}, State.{State, s
 use Rattle.sect_world.specs.{Runs.{order_of}, Worlds.{WorldView, Does, threads_of, outcome_at}}
 use Rattle.sect_draw.specs.{Waits.{waiting_after}, Table.{table_text}}
 use Rattle.sect_draw.specs.Chart.{TurnView, AreTurns, IsChart, heading, turn_row, turn_rows, chart_text}
-use Rattle.sect_draw.specs.steps.{Tables.{texts, rows_of, HaveCells}, Turning.{IsCharted}}
+use Rattle.sect_draw.specs.steps.{CellTexts.{texts, rows_of, HaveCells}, Turning.{IsCharted}}
 use Rattle.sect_draw.proofs.Turns.{turns_more, rows_more}
 
 -- what the turns of these threads have made of the first world, with their rows below the heading

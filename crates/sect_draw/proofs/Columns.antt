@@ -5,7 +5,7 @@ use Rattle.std.specs.{Prelude.{String}, String.{string_bytes}, declared.alloc.Gl
 use Rattle.sect_lemmas.proofs.{Elements.{drop_next}, Places.{at_of}}
 use Rattle.sect_types.specs.Statements.{TextView}
 use Rattle.sect_draw.specs.Chart.{by_thread}
-use Rattle.sect_draw.specs.steps.Tables.{texts}
+use Rattle.sect_draw.specs.steps.CellTexts.{texts}
 
 -- one cell more
 pub cell_more : (cell : ℕ → List ℕ) (threads : List TextView) (u : ℕ) (cells more : List (String Global))

@@ -6,7 +6,7 @@ use Rattle.std.specs.{String.{string_bytes}, declared.alloc.Global.{Global}}
 use Rattle.sect_lemmas.proofs.Elements.{drop_next}
 use Rattle.sect_emit.specs.Explaining.{column}
 use Rattle.sect_draw.specs.Table.{widest, cells_text}
-use Rattle.sect_draw.specs.steps.Tables.{texts}
+use Rattle.sect_draw.specs.steps.CellTexts.{texts}
 
 abbrev pub are_empty : List (String Global) → Bool
 are_empty cells = list_all (λ (c : String Global). length (string_bytes c) == 0) cells

@@ -1,4 +1,4 @@
 -- What the contracts of private functions speak of.
+pub mod CellTexts
 pub mod Drawings
-pub mod Tables
 pub mod Turning

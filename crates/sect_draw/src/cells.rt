@@ -6,7 +6,8 @@ ghost use Rattle.sect_emit.specs.Compiled.{program_of};
 ghost use Rattle.sect_world.specs.declared.event.Deed.TheVariants.{Enter};
 ghost use Rattle.sect_draw.specs.Chart.{own_deed, prints_text, lets_text, ended_text, moved_text, own_text};
 ghost use Rattle.sect_draw.specs.Chart.{let_in_text, cell_text, place_text, turn_row as row_of};
-ghost use Rattle.sect_draw.specs.steps.{Tables.{texts}, Turning.{shown, program_in, AreOfThreads, HasEntered, IsTold}};
+ghost use Rattle.sect_draw.specs.steps.CellTexts.{texts};
+ghost use Rattle.sect_draw.specs.steps.Turning.{shown, program_in, AreOfThreads, HasEntered, IsTold};
 
 use crate::waits::put_wait;
 use crate::words::put_deed;

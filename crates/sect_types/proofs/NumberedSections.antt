@@ -7,7 +7,7 @@ use Rattle.sect_types.specs.Statements.{TextView, Stop, Do, Choose, Loop, Sectio
 use Rattle.sect_types.specs.Statements.{section_bodies}
 use Rattle.sect_types.specs.Sections.{SectionView, sections_from, sections_of, AreNumbered, AllNumbered, found_in}
 use Rattle.sect_types.specs.{Sections.{section_from, section_shown}, declared.counting.section.Section.{Section}}
-use Rattle.sect_types.specs.steps.Found.{section_in}
+use Rattle.sect_types.specs.steps.FoundSections.{section_in}
 
 -- what is found in the first list, and else in the second, is found in both together
 append_at : {A : Type 0} (xs ys : List A) (h : ℕ → Option A) (m j : ℕ)

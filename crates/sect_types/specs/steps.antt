@@ -14,7 +14,7 @@ pub mod FreshTypes
 pub mod Standing
 pub mod Threads
 pub mod Shown
-pub mod Found
+pub mod FoundSections
 pub mod Listing
 pub mod Counted
 pub mod Expansion

@@ -2,7 +2,7 @@
 
 ghost use Rattle.sect_types.specs.{Limits.{most_threads}, Sections.{section_from}};
 ghost use Rattle.std.specs.Prelude.{◌≡◌, ◌≤◌, length};
-ghost use Rattle.sect_types.specs.steps.Found.{section_in};
+ghost use Rattle.sect_types.specs.steps.FoundSections.{section_in};
 
 use crate::expansion::text::Text;
 

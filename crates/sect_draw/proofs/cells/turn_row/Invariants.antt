@@ -1,6 +1,6 @@
 use Rattle.std.proofs.Common.{◌≡◌, ◌+◌, ◌++◌, ◌∷◌, drop, vec_len}
 use Rattle.sect_draw.specs.Chart.{by_thread, cell_text, place_text}
-use Rattle.sect_draw.specs.steps.{Tables.{texts}, Turning.{shown, program_in}}
+use Rattle.sect_draw.specs.steps.{CellTexts.{texts}, Turning.{shown, program_in}}
 use Rattle.sect_draw.proofs.cells.turn_row.Given as goal
 
 abbrev pub invariant-loop-thread : goal.invariant-loop-thread

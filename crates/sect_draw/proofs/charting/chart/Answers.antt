@@ -7,7 +7,7 @@ use Rattle.sect_emit.specs.Compiled.{program_of}
 use Rattle.sect_world.specs.Worlds.{IsRefused, WorldView}
 use Rattle.sect_world.proofs.shared.Unrun.{unrun}
 use Rattle.sect_draw.specs.{Table.{table_text}, Chart.{heading, turn_row}}
-use Rattle.sect_draw.specs.steps.Tables.{rows_of}
+use Rattle.sect_draw.specs.steps.CellTexts.{rows_of}
 use Rattle.sect_draw.proofs.Charted.{SoFar, none_so_far, so_far_more, all_charted}
 use Rattle.sect_draw.proofs.charting.chart.Goals as goal
 

@@ -1,7 +1,7 @@
 use Rattle.std.proofs.Common.{◌≡◌, ◌+◌, ◌++◌, drop, vec_len}
 use Rattle.sect_emit.specs.{Compiled.{program_of}, Labels.{thread_name}}
 use Rattle.sect_draw.specs.Chart.{by_thread, heading}
-use Rattle.sect_draw.specs.steps.Tables.{texts}
+use Rattle.sect_draw.specs.steps.CellTexts.{texts}
 use Rattle.sect_draw.proofs.charting.heading.Given as goal
 
 abbrev pub invariant-loop-thread : goal.invariant-loop-thread

@@ -1,7 +1,7 @@
 use Rattle.std.proofs.Common.{◌≡◌, ◌+◌, ◌++◌, ◌-◌, ◌<◌, length, drop, sym, ap, ◌∙◌, arith}
 use Rattle.std.specs.String.{string_bytes}
 use Rattle.sect_draw.specs.Table.{widest, cells_text}
-use Rattle.sect_draw.specs.steps.Tables.{texts}
+use Rattle.sect_draw.specs.steps.CellTexts.{texts}
 use Rattle.sect_draw.proofs.RowCells.{are_empty, rest_is, last_cell, next_cell, put_cell}
 use Rattle.sect_draw.proofs.tables.put_row.Goals as goal
 

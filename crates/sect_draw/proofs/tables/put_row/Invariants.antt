@@ -1,7 +1,7 @@
 use Rattle.std.proofs.Common.{◌≡◌, ◌++◌, List, ℕ, drop}
 use Rattle.std.specs.String.{string_bytes}
 use Rattle.sect_draw.specs.Table.{cells_text}
-use Rattle.sect_draw.specs.steps.Tables.{texts, HaveWidths}
+use Rattle.sect_draw.specs.steps.CellTexts.{texts, HaveWidths}
 use Rattle.sect_draw.proofs.tables.put_row.Given as goal
 
 abbrev pub invariant-loop-column : goal.invariant-loop-column

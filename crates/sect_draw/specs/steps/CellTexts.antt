@@ -1,4 +1,4 @@
--- Rows of texts. `table` cites it.
+-- The texts of cells, row by row. `table` cites it.
 use Rattle.std.specs.{Prelude.{◌≡◌, ◌<◌, ℕ, List, String, Vec, length, map, slice_index_or}, String.{string_bytes}}
 use Rattle.std.specs.declared.alloc.Global.{Global}
 use Rattle.sect_lemmas.specs.Lists.{Has}

@@ -203,6 +203,7 @@ fn sign(first: u8, others: &[u8]) -> Option<(Token, usize)>
 }
 
 /// The word at the front, and how many bytes it has.
+#[inline(never)]
 #[tactic(auto, using(crate::proofs::Lexemes::names_pass))]
 fn word(bytes: &[u8]) -> Option<(Token, usize)>
     requires { begins_name bytes.now ≡ true }
@@ -215,6 +216,8 @@ fn word(bytes: &[u8]) -> Option<(Token, usize)>
 }
 
 /// The token at the front, and how many bytes it has.
+// a sign is put where it is used
+#[inline(always)]
 pub fn lexeme(bytes: &[u8]) -> Option<(Token, usize)>
     ensures { result ≡ lexeme_of bytes.now }
 {

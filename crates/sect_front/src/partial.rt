@@ -182,6 +182,13 @@ fn assign_goes_on(assign: &mut PartialAssign, token: &Token) -> bool
             *assign = PartialAssign::AfterSecond(v, o, w);
             true
         }
+        PartialAssign::AfterNew => {
+            let Token::Name(r) = token else {
+                return false;
+            };
+            *assign = PartialAssign::AfterRecord(*r);
+            true
+        }
         PartialAssign::AfterDot(y) => {
             let y = *y;
             let Token::Name(f) = token else {
@@ -315,7 +322,27 @@ fn branch_goes_on(head: &mut PartialBranch, token: &Token) -> bool
             *head = PartialBranch::AfterComparison(left, *comparison);
             true
         }
-        _ => false,
+        PartialBranch::AfterComparison(left, comparison) => {
+            let (left, comparison) = (*left, *comparison);
+            let Some(right) = operand(token) else {
+                return false;
+            };
+            *head = PartialBranch::AfterRight(Test {
+                left,
+                comparison,
+                right,
+            });
+            true
+        }
+        PartialBranch::AfterRight(test) => {
+            let test = *test;
+            let Token::CloseParen = token else {
+                return false;
+            };
+            *head = PartialBranch::AfterClose(test);
+            true
+        }
+        PartialBranch::AfterClose(_) => false,
     }
 }
 

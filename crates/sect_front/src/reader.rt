@@ -8,7 +8,9 @@ use crate::items::Items;
 use crate::name::Name;
 use crate::partial::PartialHead;
 use crate::token::Token;
-use crate::tree::{Block, Declarations, GlobalObject, Kind, Procedure, Record, Thread, Tree};
+use crate::tree::{
+    Block, Declaration, Declarations, GlobalObject, Kind, Procedure, Record, Thread, Tree,
+};
 use crate::within::{StepError, Within};
 use std::alloc::{AllocError, Global};
 use std::marker::Model;
@@ -84,12 +86,39 @@ impl Owner {
     }
 }
 
-/// What has been read of the locals of a procedure or a thread.
-#[derive(Drop)]
-pub enum BodyStage {
-    Locals(Owner, Declarations),
-    AfterKind(Owner, Declarations, Kind),
-    AfterLocal(Owner, Declarations, Kind, Name),
+/// What has been read of a local.
+#[derive(Clone, Copy)]
+pub enum PartialLocal {
+    Start,
+    AfterKind(Kind),
+    AfterName(Kind, Name),
+}
+
+impl PartialLocal {
+    ghost use Rattle.std.specs.Prelude.{List};
+    ghost use Rattle.sect_front.specs.{TreeView.{TreeView}, steps.Read.{body_step, at_body}};
+
+    /// Has a local begin or go on by a token in its place. Where the token leads to something else, nothing changes.
+    fn goes_on(&mut self, token: &Token) -> bool
+        ensures goes { (source : TreeView) (owner : Owner) (locals : List Declaration) → result ≡ true
+            → body_step source owner locals self.old token.now ≡ at_body source owner locals self.new }
+        ensures stays { result ≡ false → self.new ≡ self.old }
+    {
+        let next = match self {
+            PartialLocal::Start => match token {
+                Token::Int => PartialLocal::AfterKind(Kind::Int),
+                Token::Name(of) => PartialLocal::AfterKind(Kind::Record(*of)),
+                _ => return false,
+            },
+            PartialLocal::AfterKind(kind) => match token {
+                Token::Name(name) => PartialLocal::AfterName(*kind, *name),
+                _ => return false,
+            },
+            PartialLocal::AfterName(_, _) => return false,
+        };
+        *self = next;
+        true
+    }
 }
 
 /// Where the next token stands, outside of statements.
@@ -100,7 +129,48 @@ pub enum Outside {
     Global(GlobalStage),
     Procedure(ProcedureStage),
     Thread(ThreadStage),
-    Body(BodyStage),
+    /// Among the locals of a procedure or a thread.
+    Body(Owner, Declarations, PartialLocal),
+}
+
+impl Outside {
+    ghost use Rattle.std.specs.Prelude.{Some};
+    ghost use Rattle.sect_front.specs.TreeView.{TreeView};
+    ghost use Rattle.sect_front.specs.steps.{Read.{read_outside}, ReaderView.{reading}};
+
+    /// Takes a token of a local so that nothing is moved. Where the token leads to something else, nothing changes.
+    fn takes_in_place(&mut self, token: &Token) -> bool
+        ensures goes { (source : TreeView) → result ≡ true
+            → read_outside source self.old token.now ≡ Some (reading source self.new) }
+        ensures stays { result ≡ false → self.new ≡ self.old }
+    {
+        match self {
+            Outside::Body(_, _, local) => local.goes_on(token),
+            _ => false,
+        }
+    }
+
+    /// Takes a `;` that ends a local. Where it ends none, and where another token stands, nothing changes.
+    fn ends_local(&mut self, token: &Token) -> Result<bool, AllocError>
+        ensures ends { IfOk result (λ ends. (source : TreeView) → ends ≡ true
+            → read_outside source self.old token.now ≡ Some (reading source self.new)) }
+        ensures stays { IfOk result (λ ends. ends ≡ false → self.new ≡ self.old) }
+    {
+        let Token::Semicolon = token else {
+            return Ok(false);
+        };
+        match self {
+            Outside::Body(_, locals, local) => {
+                let PartialLocal::AfterName(kind, name) = local else {
+                    return Ok(false);
+                };
+                locals.push(*kind, *name)?;
+                *local = PartialLocal::Start;
+                Ok(true)
+            }
+            _ => Ok(false),
+        }
+    }
 }
 
 /// Where in a text the next token stands.
@@ -216,25 +286,25 @@ impl Reader {
         self.take(alloc, token)
     }
 
-    /// Takes a token of a statement so that nothing is moved. Where the token leads to something else, nothing changes.
+    /// Takes a token of a local or a statement so that nothing is moved. Where the token leads to something else, nothing changes.
     fn takes_in_place(&mut self, token: &Token) -> bool
         ensures goes { result ≡ true → read_one self.old token.now ≡ Some self.new }
         ensures stays { result ≡ false → self.new ≡ self.old }
     {
         match &mut self.stage {
-            Stage::Outside(_) => false,
+            Stage::Outside(outside) => outside.takes_in_place(token),
             Stage::Inside(_, _, within) => within.takes_in_place(token),
         }
     }
 
-    /// Takes a `;` that ends a statement without a block. Where it ends none, and where another token stands, nothing
+    /// Takes a `;` that ends a local or a statement without a block. Where it ends none, and where another token stands, nothing
     /// changes.
     fn ends_statement(&mut self, token: &Token) -> Result<bool, AllocError>
         ensures ends { IfOk result (λ ends. ends ≡ true → read_one self.old token.now ≡ Some self.new) }
         ensures stays { IfOk result (λ ends. ends ≡ false → self.new ≡ self.old) }
     {
         match &mut self.stage {
-            Stage::Outside(_) => Ok(false),
+            Stage::Outside(outside) => outside.ends_local(token),
             Stage::Inside(_, _, within) => within.ends_statement(token),
         }
     }
@@ -275,7 +345,7 @@ impl Reader {
             Outside::Global(global) => self.global(global, token),
             Outside::Procedure(procedure) => self.procedure(alloc, procedure, token),
             Outside::Thread(thread) => self.thread(alloc, thread, token),
-            Outside::Body(body) => self.body(alloc, body, token),
+            Outside::Body(owner, locals, local) => self.body(alloc, owner, locals, local, token),
         }
     }
 
@@ -520,8 +590,9 @@ impl Reader {
         match token {
             Token::OpenBrace => {
                 let owner = Owner::Procedure(name, parameters);
-                let body = BodyStage::Locals(owner, Declarations::new(alloc));
-                self.lead_to(Stage::Outside(Outside::Body(body)));
+                let locals = Declarations::new(alloc);
+                let body = Outside::Body(owner, locals, PartialLocal::Start);
+                self.lead_to(Stage::Outside(body));
                 Ok(())
             }
             _ => Err(StepError::Unexpected),
@@ -538,10 +609,11 @@ impl Reader {
                 _ => return Err(StepError::Unexpected),
             },
             ThreadStage::AfterName(name) => match token {
-                Token::OpenBrace => Outside::Body(BodyStage::Locals(
+                Token::OpenBrace => Outside::Body(
                     Owner::Thread(name),
                     Declarations::new(alloc),
-                )),
+                    PartialLocal::Start,
+                ),
                 _ => return Err(StepError::Unexpected),
             },
         };
@@ -550,28 +622,35 @@ impl Reader {
     }
 
     /// A token of a procedure or a thread from its `{` on.
-    fn body(&mut self, alloc: Global, stage: BodyStage, token: Token) -> Result<(), StepError>
-        ensures { Reads result self.new (body_step self.old.source stage token) }
+    fn body(
+        &mut self,
+        alloc: Global,
+        owner: Owner,
+        mut locals: Declarations,
+        local: PartialLocal,
+        token: Token,
+    ) -> Result<(), StepError>
+        ensures { Reads result self.new (body_step self.old.source owner locals local token) }
     {
-        let next = match stage {
-            BodyStage::Locals(owner, locals) => match token {
-                Token::Int => BodyStage::AfterKind(owner, locals, Kind::Int),
-                Token::Name(of) => BodyStage::AfterKind(owner, locals, Kind::Record(of)),
+        let next = match local {
+            PartialLocal::Start => match token {
+                Token::Int => PartialLocal::AfterKind(Kind::Int),
+                Token::Name(of) => PartialLocal::AfterKind(Kind::Record(of)),
                 _ => return self.inside(alloc, owner, locals, Within::new(alloc), token),
             },
-            BodyStage::AfterKind(owner, locals, kind) => match token {
-                Token::Name(local) => BodyStage::AfterLocal(owner, locals, kind, local),
+            PartialLocal::AfterKind(kind) => match token {
+                Token::Name(name) => PartialLocal::AfterName(kind, name),
                 _ => return self.after_kind(alloc, owner, locals, kind, token),
             },
-            BodyStage::AfterLocal(owner, mut locals, kind, local) => match token {
+            PartialLocal::AfterName(kind, name) => match token {
                 Token::Semicolon => {
-                    locals.push(kind, local)?;
-                    BodyStage::Locals(owner, locals)
+                    locals.push(kind, name)?;
+                    PartialLocal::Start
                 }
                 _ => return Err(StepError::Unexpected),
             },
         };
-        self.lead_to(Stage::Outside(Outside::Body(next)));
+        self.lead_to(Stage::Outside(Outside::Body(owner, locals, next)));
         Ok(())
     }
 

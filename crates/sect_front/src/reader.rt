@@ -286,7 +286,8 @@ impl Reader {
         self.take(alloc, token)
     }
 
-    /// Takes a token of a local or a statement so that nothing is moved. Where the token leads to something else, nothing changes.
+    /// Takes a token of a local or a statement so that nothing is moved. Where the token leads to something else,
+    /// nothing changes.
     fn takes_in_place(&mut self, token: &Token) -> bool
         ensures goes { result ≡ true → read_one self.old token.now ≡ Some self.new }
         ensures stays { result ≡ false → self.new ≡ self.old }
@@ -297,8 +298,8 @@ impl Reader {
         }
     }
 
-    /// Takes a `;` that ends a local or a statement without a block. Where it ends none, and where another token stands, nothing
-    /// changes.
+    /// Takes a `;` that ends a local or a statement without a block. Where it ends none, and where another token
+    /// stands, nothing changes.
     fn ends_statement(&mut self, token: &Token) -> Result<bool, AllocError>
         ensures ends { IfOk result (λ ends. ends ≡ true → read_one self.old token.now ≡ Some self.new) }
         ensures stays { IfOk result (λ ends. ends ≡ false → self.new ≡ self.old) }

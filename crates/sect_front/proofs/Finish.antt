@@ -13,13 +13,13 @@ use Rattle.sect_front.specs.{declared.partial.PartialCall.{PartialCall}, declare
 use Rattle.sect_front.specs.{declared.within.Partial.{Partial}, declared.reader.RecordStage.{RecordStage}}
 use Rattle.sect_front.specs.{declared.reader.GlobalStage.{GlobalStage}, declared.reader.ProcedureStage.{ProcedureStage}}
 use Rattle.sect_front.specs.{declared.reader.ThreadStage.{ThreadStage}, declared.reader.Owner.{Owner}}
-use Rattle.sect_front.specs.{declared.reader.PartialLocal.{PartialLocal}, declared.reader.Outside.{Outside}}
+use Rattle.sect_front.specs.{declared.reader.PartialDeclaration.{PartialDeclaration}, declared.reader.Outside.{Outside}}
 use Rattle.sect_front.specs.declared.reader.Stage.{Stage}
 use Rattle.sect_front.specs.steps.ReaderView.{ReaderView, reading, empty}
 use Rattle.sect_front.specs.steps.Read.{after, with_record, with_global, with_procedure, with_thread}
 use Rattle.sect_front.proofs.Keeps.{line_tokens, call_stage_tokens, place_tokens, frames_tokens, outside_tokens}
 use Rattle.sect_front.proofs.Keeps.{stage_tokens, part_outside, record_stage_tokens, global_stage_tokens}
-use Rattle.sect_front.proofs.Keeps.{procedure_stage_tokens, thread_stage_tokens, local_tokens, body_tokens_append}
+use Rattle.sect_front.proofs.Keeps.{procedure_stage_tokens, thread_stage_tokens, partial_tokens, body_tokens_append}
 use Rattle.sect_front.proofs.Keeps.{after_law, operands_append, declarations_append, parameters_append, hints_append}
 use Rattle.sect_front.proofs.Keeps.{parametered, behind, owner_tokens, opened, headed, one_record, one_global}
 use Rattle.sect_front.proofs.Keeps.{one_procedure, one_thread, Fits, part_with, part_in, IsOrdered, IsKept}
@@ -43,7 +43,7 @@ use Rattle.sect_front.specs.declared.reader.GlobalStage.TheVariants as in_global
 use Rattle.sect_front.specs.declared.reader.ProcedureStage.TheVariants as in_procedure
 use Rattle.sect_front.specs.declared.reader.ThreadStage.TheVariants as in_thread
 use Rattle.sect_front.specs.declared.reader.Owner.TheVariants as owner
-use Rattle.sect_front.specs.declared.reader.PartialLocal.TheVariants as local
+use Rattle.sect_front.specs.declared.reader.PartialDeclaration.TheVariants as partial
 use Rattle.sect_front.specs.declared.reader.Outside.TheVariants as outside
 use Rattle.sect_front.specs.declared.reader.Stage.TheVariants as stage
 
@@ -302,13 +302,15 @@ record_stage_end s (in_record.Head n hs) h =
 record_stage_end s (in_record.AfterProtectedBy n hs) h =
     record_end s n (hs ++ n ∷ []) [] (record_stage_tokens (in_record.AfterProtectedBy n hs))
     (token.Name n ∷ no_block []) h (ap (λ x. token.Record ∷ token.Name n ∷ x) (hints_append hs n (no_block [])))
-record_stage_end s (in_record.Fields n hs fs) h =
-    record_end s n hs fs (record_stage_tokens (in_record.Fields n hs fs)) (token.CloseBrace ∷ []) h refl
-record_stage_end s (in_record.AfterKind n hs fs k) h = let d : Declaration = record { kind = k; name = n } in
-    record_end s n hs (fs ++ d ∷ []) (record_stage_tokens (in_record.AfterKind n hs fs k))
+record_stage_end s (in_record.Fields n hs fs partial.Start) h =
+    record_end s n hs fs (record_stage_tokens (in_record.Fields n hs fs partial.Start)) (token.CloseBrace ∷ []) h refl
+record_stage_end s (in_record.Fields n hs fs (partial.AfterKind k)) h =
+    let d : Declaration = record { kind = k; name = n } in
+    record_end s n hs (fs ++ d ∷ []) (record_stage_tokens (in_record.Fields n hs fs (partial.AfterKind k)))
     (token.Name n ∷ token.Semicolon ∷ token.CloseBrace ∷ []) h (one_field n hs fs d)
-record_stage_end s (in_record.AfterField n hs fs k f) h = let d : Declaration = record { kind = k; name = f } in
-    record_end s n hs (fs ++ d ∷ []) (record_stage_tokens (in_record.AfterField n hs fs k f))
+record_stage_end s (in_record.Fields n hs fs (partial.AfterName k f)) h =
+    let d : Declaration = record { kind = k; name = f } in
+    record_end s n hs (fs ++ d ∷ []) (record_stage_tokens (in_record.Fields n hs fs (partial.AfterName k f)))
     (token.Semicolon ∷ token.CloseBrace ∷ []) h (one_field n hs fs d)
 
 global_end : (s : TreeView) (r g : List ℕ) (kept : List Token → List Token) (rest : List Token) → Fits part.Globals s →
@@ -396,15 +398,15 @@ one_local : (o : Owner) (ls : List Declaration) (d : Declaration) → opened o (
     opened o ls (kind_token d.kind ∷ token.Name d.name ∷ token.Semicolon ∷ token.CloseBrace ∷ [])
 one_local o ls d = ap (owner_tokens o) (declarations_append ls d (token.CloseBrace ∷ []))
 
-body_end : (s : TreeView) (o : Owner) (ls : List Declaration) (l : PartialLocal) → Fits (part_with o) s →
-    SourceEnd (λ w. source_tokens s (opened o ls (local_tokens l w)))
-body_end s o ls local.Start h = owner_end s o ls End (λ w. opened o ls (local_tokens local.Start w))
+body_end : (s : TreeView) (o : Owner) (ls : List Declaration) (l : PartialDeclaration) → Fits (part_with o) s →
+    SourceEnd (λ w. source_tokens s (opened o ls (partial_tokens l w)))
+body_end s o ls partial.Start h = owner_end s o ls End (λ w. opened o ls (partial_tokens partial.Start w))
     (token.CloseBrace ∷ []) h refl
-body_end s o ls (local.AfterKind k) h = let d : Declaration = record { kind = k; name = 120 ∷ [] } in
-    owner_end s o (ls ++ d ∷ []) End (λ w. opened o ls (local_tokens (local.AfterKind k) w))
+body_end s o ls (partial.AfterKind k) h = let d : Declaration = record { kind = k; name = 120 ∷ [] } in
+    owner_end s o (ls ++ d ∷ []) End (λ w. opened o ls (partial_tokens (partial.AfterKind k) w))
     (token.Name (120 ∷ []) ∷ token.Semicolon ∷ token.CloseBrace ∷ []) h (one_local o ls d)
-body_end s o ls (local.AfterName k x) h = let d : Declaration = record { kind = k; name = x } in
-    owner_end s o (ls ++ d ∷ []) End (λ w. opened o ls (local_tokens (local.AfterName k x) w))
+body_end s o ls (partial.AfterName k x) h = let d : Declaration = record { kind = k; name = x } in
+    owner_end s o (ls ++ d ∷ []) End (λ w. opened o ls (partial_tokens (partial.AfterName k x) w))
     (token.Semicolon ∷ token.CloseBrace ∷ []) h (one_local o ls d)
 
 outside_end : (s : TreeView) (g : Outside) → Fits (part_outside g) s

@@ -33,7 +33,7 @@ use Rattle.sect_front.specs.declared.partial.PartialBranch.TheVariants as head
 use Rattle.sect_front.specs.declared.partial.PartialCall.TheVariants as call
 use Rattle.sect_front.specs.declared.within.Partial.TheVariants as place
 use Rattle.sect_front.specs.declared.reader.Owner.TheVariants as owner
-use Rattle.sect_front.specs.declared.reader.PartialLocal.TheVariants as local
+use Rattle.sect_front.specs.declared.reader.PartialDeclaration.TheVariants as partial
 use Rattle.sect_front.specs.declared.reader.Part.TheVariants as part
 use Rattle.sect_front.specs.declared.reader.RecordStage.TheVariants as in_record
 use Rattle.sect_front.specs.declared.reader.GlobalStage.TheVariants as in_global
@@ -55,7 +55,7 @@ goes_on_taken s o ls Stuck = refl
 
 -- where a local may stand, all but `int` is taken as where a statement may
 pub local_or_statement : (s : TreeView) (o : Owner) (ls : List Declaration) (t : Token) → t ≢ token.Int
-    → is_taken (start_step [] End t) ≡ is_some (body_step s o ls local.Start t)
+    → is_taken (start_step [] End t) ≡ is_some (body_step s o ls partial.Start t)
 local_or_statement s o ls token.Int other = absurd (other refl)
 local_or_statement s o ls (token.Name n) other = refl
 local_or_statement s o ls token.CloseBrace other = goes_on_taken s o ls (step_of fresh token.CloseBrace)
@@ -135,9 +135,9 @@ outside_alike s (outside.Between part.Threads) = (λ n m. refl, λ i j. refl)
 outside_alike s (outside.Record in_record.AfterWord) = (λ n m. refl, λ i j. refl)
 outside_alike s (outside.Record (in_record.Head n hs)) = (λ n m. refl, λ i j. refl)
 outside_alike s (outside.Record (in_record.AfterProtectedBy n hs)) = (λ n m. refl, λ i j. refl)
-outside_alike s (outside.Record (in_record.Fields n hs fs)) = (λ n m. refl, λ i j. refl)
-outside_alike s (outside.Record (in_record.AfterKind n hs fs k)) = (λ n m. refl, λ i j. refl)
-outside_alike s (outside.Record (in_record.AfterField n hs fs k f)) = (λ n m. refl, λ i j. refl)
+outside_alike s (outside.Record (in_record.Fields n hs fs partial.Start)) = (λ n m. refl, λ i j. refl)
+outside_alike s (outside.Record (in_record.Fields n hs fs (partial.AfterKind k))) = (λ n m. refl, λ i j. refl)
+outside_alike s (outside.Record (in_record.Fields n hs fs (partial.AfterName k f))) = (λ n m. refl, λ i j. refl)
 outside_alike s (outside.Global in_global.AfterWord) = (λ n m. refl, λ i j. refl)
 outside_alike s (outside.Global (in_global.AfterRecord r)) = (λ n m. refl, λ i j. refl)
 outside_alike s (outside.Global (in_global.AfterName r g)) = (λ n m. refl, λ i j. refl)
@@ -150,10 +150,10 @@ outside_alike s (outside.Procedure (in_procedure.AfterComma n ps)) = (λ n m. re
 outside_alike s (outside.Procedure (in_procedure.AfterClose n ps)) = (λ n m. refl, λ i j. refl)
 outside_alike s (outside.Thread in_thread.AfterWord) = (λ n m. refl, λ i j. refl)
 outside_alike s (outside.Thread (in_thread.AfterName n)) = (λ n m. refl, λ i j. refl)
-outside_alike s (outside.Body o ls local.Start) = (λ n m. refl, λ i j. refl)
-outside_alike s (outside.Body o ls (local.AfterKind kind.Int)) = (λ n m. refl, λ i j. refl)
-outside_alike s (outside.Body o ls (local.AfterKind (kind.Record r))) = (λ n m. refl, λ i j. refl)
-outside_alike s (outside.Body o ls (local.AfterName k x)) = (λ n m. refl, λ i j. refl)
+outside_alike s (outside.Body o ls partial.Start) = (λ n m. refl, λ i j. refl)
+outside_alike s (outside.Body o ls (partial.AfterKind kind.Int)) = (λ n m. refl, λ i j. refl)
+outside_alike s (outside.Body o ls (partial.AfterKind (kind.Record r))) = (λ n m. refl, λ i j. refl)
+outside_alike s (outside.Body o ls (partial.AfterName k x)) = (λ n m. refl, λ i j. refl)
 
 stage_alike : (s : TreeView) (g : Stage) → TakesAlike (read_at s g) is_some
 stage_alike s (stage.Outside g) = outside_alike s g

@@ -20,7 +20,7 @@ use Rattle.sect_front.specs.{declared.within.OpenBlock.{OpenBlock}, declared.wit
 use Rattle.sect_front.specs.{declared.reader.Part.{Part}, declared.reader.RecordStage.{RecordStage}}
 use Rattle.sect_front.specs.{declared.reader.GlobalStage.{GlobalStage}, declared.reader.ProcedureStage.{ProcedureStage}}
 use Rattle.sect_front.specs.{declared.reader.ThreadStage.{ThreadStage}, declared.reader.Owner.{Owner}}
-use Rattle.sect_front.specs.{declared.reader.PartialLocal.{PartialLocal}, declared.reader.Outside.{Outside}}
+use Rattle.sect_front.specs.{declared.reader.PartialDeclaration.{PartialDeclaration}, declared.reader.Outside.{Outside}}
 use Rattle.sect_front.specs.declared.reader.Stage.{Stage}
 use Rattle.sect_front.specs.steps.Advance.{advance_of, assign_step, store_step, branch_step, operand_of, operator_of}
 use Rattle.sect_front.specs.steps.Advance.{comparison_of, goes_to, first_step, ends_with, opens}
@@ -50,7 +50,7 @@ use Rattle.sect_front.specs.declared.reader.GlobalStage.TheVariants as in_global
 use Rattle.sect_front.specs.declared.reader.ProcedureStage.TheVariants as in_procedure
 use Rattle.sect_front.specs.declared.reader.ThreadStage.TheVariants as in_thread
 use Rattle.sect_front.specs.declared.reader.Owner.TheVariants as owner
-use Rattle.sect_front.specs.declared.reader.PartialLocal.TheVariants as local
+use Rattle.sect_front.specs.declared.reader.PartialDeclaration.TheVariants as partial
 use Rattle.sect_front.specs.declared.reader.Outside.TheVariants as outside
 use Rattle.sect_front.specs.declared.reader.Stage.TheVariants as stage
 
@@ -369,13 +369,17 @@ owner_tokens (owner.Thread n) w = token.Thread ∷ token.Name n ∷ token.OpenBr
 abbrev pub opened : Owner → List Declaration → List Token → List Token
 opened o ls w = owner_tokens o (declarations_tokens ls w)
 
+-- a field or a local as far as it has been read
+abbrev pub partial_tokens : PartialDeclaration → List Token → List Token
+partial_tokens partial.Start w = w
+partial_tokens (partial.AfterKind k) w = kind_token k ∷ w
+partial_tokens (partial.AfterName k x) w = kind_token k ∷ token.Name x ∷ w
+
 abbrev pub record_stage_tokens : RecordStage → List Token → List Token
 record_stage_tokens in_record.AfterWord w = token.Record ∷ w
 record_stage_tokens (in_record.Head n hs) w = headed n hs w
 record_stage_tokens (in_record.AfterProtectedBy n hs) w = headed n hs (token.ProtectedBy ∷ w)
-record_stage_tokens (in_record.Fields n hs fs) w = fielded n hs fs w
-record_stage_tokens (in_record.AfterKind n hs fs k) w = fielded n hs fs (kind_token k ∷ w)
-record_stage_tokens (in_record.AfterField n hs fs k f) w = fielded n hs fs (kind_token k ∷ token.Name f ∷ w)
+record_stage_tokens (in_record.Fields n hs fs d) w = fielded n hs fs (partial_tokens d w)
 
 abbrev pub global_stage_tokens : GlobalStage → List Token → List Token
 global_stage_tokens in_global.AfterWord w = token.Global ∷ w
@@ -396,18 +400,13 @@ abbrev pub thread_stage_tokens : ThreadStage → List Token → List Token
 thread_stage_tokens in_thread.AfterWord w = token.Thread ∷ w
 thread_stage_tokens (in_thread.AfterName n) w = token.Thread ∷ token.Name n ∷ w
 
-abbrev pub local_tokens : PartialLocal → List Token → List Token
-local_tokens local.Start w = w
-local_tokens (local.AfterKind k) w = kind_token k ∷ w
-local_tokens (local.AfterName k x) w = kind_token k ∷ token.Name x ∷ w
-
 abbrev pub outside_tokens : Outside → List Token → List Token
 outside_tokens (outside.Between p) w = w
 outside_tokens (outside.Record r) w = record_stage_tokens r w
 outside_tokens (outside.Global g) w = global_stage_tokens g w
 outside_tokens (outside.Procedure p) w = procedure_stage_tokens p w
 outside_tokens (outside.Thread t) w = thread_stage_tokens t w
-outside_tokens (outside.Body o ls l) w = opened o ls (local_tokens l w)
+outside_tokens (outside.Body o ls l) w = opened o ls (partial_tokens l w)
 
 abbrev pub stage_tokens : Stage → List Token → List Token
 stage_tokens (stage.Outside g) w = outside_tokens g w
@@ -526,12 +525,12 @@ record_law s (in_record.Head n hs) token.ProtectedBy w h = record { is = refl; o
 record_law s (in_record.Head n hs) token.OpenBrace w h = record { is = refl; ordered = h }
 record_law s (in_record.AfterProtectedBy n hs) (token.Name g) w h =
     record { is = ap (λ x. source_tokens s (token.Record ∷ token.Name n ∷ x)) (sym (hints_append hs g w)); ordered = h }
-record_law s (in_record.Fields n hs fs) token.Int w h = record { is = refl; ordered = h }
-record_law s (in_record.Fields n hs fs) (token.Name r) w h = record { is = refl; ordered = h }
-record_law s (in_record.Fields n hs fs) token.CloseBrace w h =
+record_law s (in_record.Fields n hs fs partial.Start) token.Int w h = record { is = refl; ordered = h }
+record_law s (in_record.Fields n hs fs partial.Start) (token.Name r) w h = record { is = refl; ordered = h }
+record_law s (in_record.Fields n hs fs partial.Start) token.CloseBrace w h =
     record { is = one_record s (record { name = n; hints = hs; fields = fs }) w h; ordered = h }
-record_law s (in_record.AfterKind n hs fs k) (token.Name f) w h = record { is = refl; ordered = h }
-record_law s (in_record.AfterField n hs fs k f) token.Semicolon w h =
+record_law s (in_record.Fields n hs fs (partial.AfterKind k)) (token.Name f) w h = record { is = refl; ordered = h }
+record_law s (in_record.Fields n hs fs (partial.AfterName k f)) token.Semicolon w h =
     record {
       is = ap (λ x. source_tokens s (headed n hs (token.OpenBrace ∷ x)))
           (sym (declarations_append fs (record { kind = k; name = f }) w));
@@ -610,16 +609,16 @@ after_kind_law s o ls kind.Int t w h = tt
 after_kind_law s o ls (kind.Record x) t w h = goes_law s o ls (step_of (begun x) t) (token.Name x ∷ t ∷ w) w h
     (stand_law [] End (place.Head (Some (line.AfterName x))) t w)
 
-body_law : (s : TreeView) (o : Owner) (ls : List Declaration) (l : PartialLocal) (t : Token) (w : List Token) →
+body_law : (s : TreeView) (o : Owner) (ls : List Declaration) (l : PartialDeclaration) (t : Token) (w : List Token) →
     Fits (part_with o) s →
-    IfSome (body_step s o ls l t) (IsKept (source_tokens s (opened o ls (local_tokens l (t ∷ w)))) w)
-body_law s o ls local.Start token.Int w h = record { is = refl; ordered = h }
-body_law s o ls local.Start (token.Name x) w h = record { is = refl; ordered = h }
-body_law s o ls local.Start t w h = goes_law s o ls (step_of fresh t) (t ∷ w) w h
+    IfSome (body_step s o ls l t) (IsKept (source_tokens s (opened o ls (partial_tokens l (t ∷ w)))) w)
+body_law s o ls partial.Start token.Int w h = record { is = refl; ordered = h }
+body_law s o ls partial.Start (token.Name x) w h = record { is = refl; ordered = h }
+body_law s o ls partial.Start t w h = goes_law s o ls (step_of fresh t) (t ∷ w) w h
     (stand_law [] End (place.Head None) t w)
-body_law s o ls (local.AfterKind k) (token.Name x) w h = record { is = refl; ordered = h }
-body_law s o ls (local.AfterKind k) t w h = after_kind_law s o ls k t w h
-body_law s o ls (local.AfterName k x) token.Semicolon w h =
+body_law s o ls (partial.AfterKind k) (token.Name x) w h = record { is = refl; ordered = h }
+body_law s o ls (partial.AfterKind k) t w h = after_kind_law s o ls k t w h
+body_law s o ls (partial.AfterName k x) token.Semicolon w h =
     record {
       is = ap (λ y. source_tokens s (owner_tokens o y))
           (sym (declarations_append ls (record { kind = k; name = x }) w));

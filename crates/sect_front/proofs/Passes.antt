@@ -31,7 +31,7 @@ use Rattle.sect_front.specs.declared.reader.RecordStage.TheVariants as in_record
 use Rattle.sect_front.specs.declared.reader.ProcedureStage.TheVariants as in_procedure
 use Rattle.sect_front.specs.declared.reader.ThreadStage.TheVariants as in_thread
 use Rattle.sect_front.specs.declared.reader.Owner.TheVariants as owner
-use Rattle.sect_front.specs.declared.reader.PartialLocal.TheVariants as local
+use Rattle.sect_front.specs.declared.reader.PartialDeclaration.TheVariants as partial
 use Rattle.sect_front.specs.declared.reader.Outside.TheVariants as outside
 
 operand_back : (v : Operand) → operand_of (operand_token v) ≡ Some v
@@ -221,10 +221,10 @@ abbrev in_head : TreeView → List ℕ → List (List ℕ) → ReaderView
 in_head s n hs = reading s (outside.Record (in_record.Head n hs))
 
 abbrev in_fields : TreeView → List ℕ → List (List ℕ) → List Declaration → ReaderView
-in_fields s n hs fs = reading s (outside.Record (in_record.Fields n hs fs))
+in_fields s n hs fs = reading s (outside.Record (in_record.Fields n hs fs partial.Start))
 
 abbrev in_locals : TreeView → Owner → List Declaration → ReaderView
-in_locals s o ls = reading s (outside.Body o ls local.Start)
+in_locals s o ls = reading s (outside.Body o ls partial.Start)
 
 -- the first statement after the locals starts as any other
 enter : (s : TreeView) (o : Owner) (ls : List Declaration) (b : BlockView) (w : List Token) →

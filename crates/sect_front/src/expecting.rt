@@ -11,7 +11,7 @@ ghost use Rattle.sect_front.specs.steps.{Read.{body_step, read_outside, read_one
 
 use crate::partial::{PartialCall, advance};
 use crate::reader::{
-    GlobalStage, Outside, Part, PartialLocal, ProcedureStage, Reader, RecordStage, Stage,
+    GlobalStage, Outside, Part, PartialDeclaration, ProcedureStage, Reader, RecordStage, Stage,
     ThreadStage,
 };
 use crate::token::Token;
@@ -104,11 +104,13 @@ fn record_takes(stage: &RecordStage, token: &Token) -> bool
         RecordStage::AfterWord => matches!(token, Token::Name(_)),
         RecordStage::Head(_, _) => matches!(token, Token::ProtectedBy | Token::OpenBrace),
         RecordStage::AfterProtectedBy(_, _) => matches!(token, Token::Name(_)),
-        RecordStage::Fields(_, _, _) => {
-            matches!(token, Token::Int | Token::Name(_) | Token::CloseBrace)
-        }
-        RecordStage::AfterKind(_, _, _, _) => matches!(token, Token::Name(_)),
-        RecordStage::AfterField(_, _, _, _, _) => matches!(token, Token::Semicolon),
+        RecordStage::Fields(_, _, _, field) => match field {
+            PartialDeclaration::Start => {
+                matches!(token, Token::Int | Token::Name(_) | Token::CloseBrace)
+            }
+            PartialDeclaration::AfterKind(_) => matches!(token, Token::Name(_)),
+            PartialDeclaration::AfterName(_, _) => matches!(token, Token::Semicolon),
+        },
     }
 }
 
@@ -155,7 +157,7 @@ fn thread_takes(stage: &ThreadStage, token: &Token) -> bool
 /// Whether a token may follow what may be a local's type. No name there begins a statement.
 fn kind_takes(kind: &Kind, token: &Token) -> bool
     ensures { (source : TreeView) (owner : Owner) (locals : List Declaration)
-        → result ≡ is_some (body_step source owner locals (PartialLocal.AfterKind kind.now) token.now) }
+        → result ≡ is_some (body_step source owner locals (PartialDeclaration.AfterKind kind.now) token.now) }
 {
     match kind {
         Kind::Int => matches!(token, Token::Name(_)),
@@ -164,17 +166,17 @@ fn kind_takes(kind: &Kind, token: &Token) -> bool
 }
 
 /// Whether the locals, or what may be one, go on with a token.
-fn local_takes(local: &PartialLocal, token: &Token) -> bool
+fn local_takes(local: &PartialDeclaration, token: &Token) -> bool
     ensures { (source : TreeView) (owner : Owner) (locals : List Declaration)
         → result ≡ is_some (body_step source owner locals local.now token.now) }
 {
     match local {
-        PartialLocal::Start => match token {
+        PartialDeclaration::Start => match token {
             Token::Int => true,
             _ => starts_with(token),
         },
-        PartialLocal::AfterKind(kind) => kind_takes(kind, token),
-        PartialLocal::AfterName(_, _) => matches!(token, Token::Semicolon),
+        PartialDeclaration::AfterKind(kind) => kind_takes(kind, token),
+        PartialDeclaration::AfterName(_, _) => matches!(token, Token::Semicolon),
     }
 }
 

@@ -7,7 +7,7 @@ use Rattle.sect_front.specs.{declared.tree.Declaration.{Declaration}, declared.t
 use Rattle.sect_front.specs.{declared.within.StepError.{StepError}, declared.reader.Part.{Part}}
 use Rattle.sect_front.specs.{declared.reader.RecordStage.{RecordStage}, declared.reader.GlobalStage.{GlobalStage}}
 use Rattle.sect_front.specs.{declared.reader.ProcedureStage.{ProcedureStage}, declared.reader.ThreadStage.{ThreadStage}}
-use Rattle.sect_front.specs.{declared.reader.Owner.{Owner}, declared.reader.PartialLocal.{PartialLocal}}
+use Rattle.sect_front.specs.{declared.reader.Owner.{Owner}, declared.reader.PartialDeclaration.{PartialDeclaration}}
 use Rattle.sect_front.specs.{declared.reader.Outside.{Outside}, declared.reader.Stage.{Stage}}
 use Rattle.sect_front.specs.steps.{WithinView.{WithinView}, Step.{Next, Stays, Ends, Stuck, step_of}}
 use Rattle.sect_front.specs.steps.ReaderView.{ReaderView, reading, among}
@@ -22,7 +22,7 @@ use Rattle.sect_front.specs.declared.reader.GlobalStage.TheVariants as in_global
 use Rattle.sect_front.specs.declared.reader.ProcedureStage.TheVariants as in_procedure
 use Rattle.sect_front.specs.declared.reader.ThreadStage.TheVariants as in_thread
 use Rattle.sect_front.specs.declared.reader.Owner.TheVariants as owner
-use Rattle.sect_front.specs.declared.reader.PartialLocal.TheVariants as local
+use Rattle.sect_front.specs.declared.reader.PartialDeclaration.TheVariants as partial
 use Rattle.sect_front.specs.declared.reader.Outside.TheVariants as outside
 use Rattle.sect_front.specs.declared.reader.Stage.TheVariants as stage
 
@@ -64,14 +64,17 @@ end_record_step s n hs fs =
 abbrev pub record_step : TreeView → RecordStage → Token → Option ReaderView
 record_step s in_record.AfterWord (token.Name n) = at_record s (in_record.Head n [])
 record_step s (in_record.Head n hs) token.ProtectedBy = at_record s (in_record.AfterProtectedBy n hs)
-record_step s (in_record.Head n hs) token.OpenBrace = at_record s (in_record.Fields n hs [])
+record_step s (in_record.Head n hs) token.OpenBrace = at_record s (in_record.Fields n hs [] partial.Start)
 record_step s (in_record.AfterProtectedBy n hs) (token.Name h) = at_record s (in_record.Head n (hs ++ h ∷ []))
-record_step s (in_record.Fields n hs fs) token.Int = at_record s (in_record.AfterKind n hs fs kind.Int)
-record_step s (in_record.Fields n hs fs) (token.Name r) = at_record s (in_record.AfterKind n hs fs (kind.Record r))
-record_step s (in_record.Fields n hs fs) token.CloseBrace = end_record_step s n hs fs
-record_step s (in_record.AfterKind n hs fs k) (token.Name f) = at_record s (in_record.AfterField n hs fs k f)
-record_step s (in_record.AfterField n hs fs k f) token.Semicolon =
-    at_record s (in_record.Fields n hs (fs ++ record { kind = k; name = f } ∷ []))
+record_step s (in_record.Fields n hs fs partial.Start) token.Int =
+    at_record s (in_record.Fields n hs fs (partial.AfterKind kind.Int))
+record_step s (in_record.Fields n hs fs partial.Start) (token.Name r) =
+    at_record s (in_record.Fields n hs fs (partial.AfterKind (kind.Record r)))
+record_step s (in_record.Fields n hs fs partial.Start) token.CloseBrace = end_record_step s n hs fs
+record_step s (in_record.Fields n hs fs (partial.AfterKind k)) (token.Name f) =
+    at_record s (in_record.Fields n hs fs (partial.AfterName k f))
+record_step s (in_record.Fields n hs fs (partial.AfterName k f)) token.Semicolon =
+    at_record s (in_record.Fields n hs (fs ++ record { kind = k; name = f } ∷ []) partial.Start)
 record_step _ _ _ = None
 
 abbrev pub global_step : TreeView → GlobalStage → Token → Option ReaderView
@@ -86,7 +89,7 @@ abbrev pub at_procedure : TreeView → ProcedureStage → Option ReaderView
 at_procedure s p = Some (reading s (outside.Procedure p))
 
 -- among the locals of a body
-abbrev pub at_body : TreeView → Owner → List Declaration → PartialLocal → Option ReaderView
+abbrev pub at_body : TreeView → Owner → List Declaration → PartialDeclaration → Option ReaderView
 at_body s o ls l = Some (reading s (outside.Body o ls l))
 
 -- where a parameter has to stand
@@ -106,12 +109,12 @@ procedure_step s (in_procedure.AfterParameter n ps k x) token.Comma =
 procedure_step s (in_procedure.AfterParameter n ps k x) token.CloseParen =
     at_procedure s (in_procedure.AfterClose n (ps ++ record { kind = k; name = x } ∷ []))
 procedure_step s (in_procedure.AfterComma n ps) t = parameter_step s n ps t
-procedure_step s (in_procedure.AfterClose n ps) token.OpenBrace = at_body s (owner.Procedure n ps) [] local.Start
+procedure_step s (in_procedure.AfterClose n ps) token.OpenBrace = at_body s (owner.Procedure n ps) [] partial.Start
 procedure_step _ _ _ = None
 
 abbrev pub thread_step : TreeView → ThreadStage → Token → Option ReaderView
 thread_step s in_thread.AfterWord (token.Name n) = Some (reading s (outside.Thread (in_thread.AfterName n)))
-thread_step s (in_thread.AfterName n) token.OpenBrace = at_body s (owner.Thread n) [] local.Start
+thread_step s (in_thread.AfterName n) token.OpenBrace = at_body s (owner.Thread n) [] partial.Start
 thread_step _ _ _ = None
 
 -- no statement has been read
@@ -140,14 +143,14 @@ abbrev pub after_kind_step : TreeView → Owner → List Declaration → Kind �
 after_kind_step s o ls kind.Int t = None
 after_kind_step s o ls (kind.Record x) t = goes_on s o ls (step_of (begun x) t)
 
-abbrev pub body_step : TreeView → Owner → List Declaration → PartialLocal → Token → Option ReaderView
-body_step s o ls local.Start token.Int = at_body s o ls (local.AfterKind kind.Int)
-body_step s o ls local.Start (token.Name r) = at_body s o ls (local.AfterKind (kind.Record r))
-body_step s o ls local.Start t = goes_on s o ls (step_of fresh t)
-body_step s o ls (local.AfterKind k) (token.Name x) = at_body s o ls (local.AfterName k x)
-body_step s o ls (local.AfterKind k) t = after_kind_step s o ls k t
-body_step s o ls (local.AfterName k x) token.Semicolon =
-    at_body s o (ls ++ record { kind = k; name = x } ∷ []) local.Start
+abbrev pub body_step : TreeView → Owner → List Declaration → PartialDeclaration → Token → Option ReaderView
+body_step s o ls partial.Start token.Int = at_body s o ls (partial.AfterKind kind.Int)
+body_step s o ls partial.Start (token.Name r) = at_body s o ls (partial.AfterKind (kind.Record r))
+body_step s o ls partial.Start t = goes_on s o ls (step_of fresh t)
+body_step s o ls (partial.AfterKind k) (token.Name x) = at_body s o ls (partial.AfterName k x)
+body_step s o ls (partial.AfterKind k) t = after_kind_step s o ls k t
+body_step s o ls (partial.AfterName k x) token.Semicolon =
+    at_body s o (ls ++ record { kind = k; name = x } ∷ []) partial.Start
 body_step _ _ _ _ _ = None
 
 abbrev pub read_outside : TreeView → Outside → Token → Option ReaderView

@@ -1,6 +1,6 @@
 //! The part of a statement that has been read, up to its `;` or `{`.
 
-ghost use Rattle.std.specs.Prelude.{◌≡◌, IfSome, List, ℕ, Some, true, false};
+ghost use Rattle.std.specs.Prelude.{◌≡◌, List, ℕ, Some, true, false};
 ghost use Rattle.sect_front.specs.steps.Advance.{advance_of, assign_step, store_step, branch_step, operand_of};
 ghost use Rattle.sect_front.specs.steps.Advance.{operator_of, comparison_of, first_step, ends_with};
 
@@ -343,27 +343,6 @@ fn branch_goes_on(head: &mut PartialBranch, token: &Token) -> bool
             true
         }
         PartialBranch::AfterClose(_) => false,
-    }
-}
-
-/// The statement without a block that `;` ends here, if it ends one.
-pub fn ended(line: &PartialHead) -> Option<Primitive>
-    ensures { IfSome result (λ primitive. advance_of line.now Token.Semicolon ≡ Some (Move.Whole primitive)) }
-{
-    match line {
-        PartialHead::Assign(x, assign) => match assign {
-            PartialAssign::AfterFirstName(y) => Some(Primitive::Assign(*x, Operand::Name(*y))),
-            PartialAssign::AfterFirst(v) => Some(Primitive::Assign(*x, *v)),
-            PartialAssign::AfterSecond(v, o, w) => Some(Primitive::Compute(*x, *v, *o, *w)),
-            PartialAssign::AfterRecord(r) => Some(Primitive::New(*x, *r)),
-            PartialAssign::AfterField(y, f) => Some(Primitive::Load(*x, *y, *f)),
-            _ => None,
-        },
-        PartialHead::Store(y, store) => match store {
-            PartialStore::AfterValue(f, v) => Some(Primitive::Store(*y, *f, *v)),
-            _ => None,
-        },
-        _ => None,
     }
 }
 

@@ -392,7 +392,8 @@ impl Reader {
         }
     }
 
-    /// A token outside of statements.
+    /// A token outside of statements. Most of them are taken in place, and come here rarely.
+    #[inline(never)]
     fn outside(&mut self, alloc: Global, outside: Outside, token: Token) -> Result<(), StepError>
         ensures { Reads result self.new (read_outside self.old.source outside token) }
     {

@@ -7,10 +7,11 @@ use crate::expecting::{call_takes, then_takes};
 use crate::items::Items;
 use crate::name::Name;
 use crate::partial::{
-    Branch, Move, PartialBranch, PartialCall, PartialHead, advance, ended, goes_on, operand,
+    Branch, Move, PartialAssign, PartialBranch, PartialCall, PartialHead, PartialStore, advance,
+    goes_on, operand,
 };
 use crate::token::Token;
-use crate::tree::{Block, Locking, Operand, Statement, Test};
+use crate::tree::{Block, Locking, Operand, Primitive, Statement, Test};
 use std::alloc::{AllocError, AllocFailed, Global};
 use std::marker::Model;
 use std::mem;
@@ -97,9 +98,9 @@ impl Within {
     ghost use Rattle.std.specs.Prelude.{List, Some, None, IfOk, true, false};
     ghost use Rattle.sect_front.specs.Syntax.{BlockView};
     ghost use Rattle.sect_front.specs.steps.Step.{Steps, Stays, IsKept, LeadsTo, start_step, close_step, call_step};
-    ghost use Rattle.sect_front.specs.steps.Step.{argument_step, after_then, moved, stays, step_of};
+    ghost use Rattle.sect_front.specs.steps.Step.{argument_step, after_then, moved, moved_if, stays, step_of};
     ghost use Rattle.sect_front.specs.steps.Taking.{is_taken};
-    ghost use Rattle.sect_front.specs.steps.Advance.{operand_of};
+    ghost use Rattle.sect_front.specs.steps.Advance.{operand_of, advance_of, assign_step};
     ghost use Rattle.sect_front.specs.Trees.{append, statement_of};
 
     /// No statements.
@@ -221,11 +222,60 @@ impl Within {
         let Partial::Head(Some(line)) = &self.place else {
             return Ok(false);
         };
-        let Some(primitive) = ended(line) else {
+        if !Within::push_ended(&mut self.before, line)? {
             return Ok(false);
-        };
-        self.before.push(Statement::Primitive(primitive))?;
+        }
         self.lead_to_start();
+        Ok(true)
+    }
+
+    /// Adds the statement without a block that `;` ends here, if it ends one.
+    fn push_ended(before: &mut Block, line: &PartialHead) -> Result<bool, AllocError>
+        ensures ends { IfOk result (λ ends. (open_blocks : List OpenBlock) → ends ≡ true
+            → moved_if open_blocks before.old (advance_of line.now Token.Semicolon)
+            ≡ stays open_blocks before.new (Partial.Head None)) }
+        ensures stays { IfOk result (λ ends. ends ≡ false → before.new ≡ before.old) }
+    {
+        match line {
+            PartialHead::Assign(x, assign) => Within::push_assign(before, x, assign),
+            PartialHead::Store(y, store) => {
+                let PartialStore::AfterValue(f, v) = store else {
+                    return Ok(false);
+                };
+                before.push(Statement::Primitive(Primitive::Store(*y, *f, *v)))?;
+                Ok(true)
+            }
+            _ => Ok(false),
+        }
+    }
+
+    /// Adds the statement that `;` ends behind a name and `=`, if it ends one.
+    fn push_assign(before: &mut Block, x: &Name, assign: &PartialAssign) -> Result<bool, AllocError>
+        ensures ends { IfOk result (λ ends. (open_blocks : List OpenBlock) → ends ≡ true
+            → moved_if open_blocks before.old (assign_step x.now assign.now Token.Semicolon)
+            ≡ stays open_blocks before.new (Partial.Head None)) }
+        ensures stays { IfOk result (λ ends. ends ≡ false → before.new ≡ before.old) }
+    {
+        // each adds its own, so that no statement is moved from one place to another
+        match assign {
+            PartialAssign::AfterFirstName(y) => {
+                let value = Operand::Name(*y);
+                before.push(Statement::Primitive(Primitive::Assign(*x, value)))?;
+            }
+            PartialAssign::AfterFirst(v) => {
+                before.push(Statement::Primitive(Primitive::Assign(*x, *v)))?;
+            }
+            PartialAssign::AfterSecond(v, o, w) => {
+                before.push(Statement::Primitive(Primitive::Compute(*x, *v, *o, *w)))?;
+            }
+            PartialAssign::AfterRecord(r) => {
+                before.push(Statement::Primitive(Primitive::New(*x, *r)))?;
+            }
+            PartialAssign::AfterField(y, f) => {
+                before.push(Statement::Primitive(Primitive::Load(*x, *y, *f)))?;
+            }
+            _ => return Ok(false),
+        }
         Ok(true)
     }
 

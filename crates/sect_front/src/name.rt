@@ -87,8 +87,6 @@ impl PartialEq for Name {
 
     ghost laws = { Prim.search (comparing, rules) };
 
-    // names are looked for among few others, where a call costs as much as what it does
-    #[inline(always)]
     fn eq(&self, other: &Name) -> bool {
         self.len == other.len && are_equal(&self.bytes, &other.bytes)
     }

@@ -101,7 +101,8 @@ module _ (s : TreeView) (o : Owner) (ls : List Declaration) where
   compute_passes fs b x (operand.Name n) operator.Multiply u w = simp operand_back
 
   primitive_passes : (fs : List OpenBlock) (b : BlockView) (p : leaf.Primitive) (w : List Token)
-      → after (at fs b (place.Head None)) (primitive_tokens p w) ≡ after (at fs (append b (Primitive p)) (place.Head None)) w
+      → after (at fs b (place.Head None)) (primitive_tokens p w) ≡
+      after (at fs (append b (Primitive p)) (place.Head None)) w
   primitive_passes fs b (primitive.Assign x v) w = assign_passes fs b x v w
   primitive_passes fs b (primitive.Compute x v o u) w = compute_passes fs b x v o u w
   primitive_passes fs b (primitive.New x r) w = refl
@@ -204,7 +205,8 @@ module _ (s : TreeView) (o : Owner) (ls : List Declaration) where
     form_passes (Call f vs) fs b w = call_passes fs b f vs w
 
     body_passes : (c : BlockView) (fs : List OpenBlock) (b : BlockView) (w : List Token) →
-        after (at fs b (place.Head None)) (block_tokens c (token.CloseBrace ∷ w)) ≡ after (at fs (join b c) (place.Head None))
+        after (at fs b (place.Head None)) (block_tokens c (token.CloseBrace ∷ w)) ≡
+        after (at fs (join b c) (place.Head None))
         (token.CloseBrace ∷ w)
     body_passes End fs b w = refl
     body_passes (Then s c) fs b w = form_passes s fs b _ ∙ (settled fs b s c w ∙ body_passes c fs (append b s) w)

@@ -324,15 +324,7 @@ fn branch_goes_on(head: &mut PartialBranch, token: &Token) -> bool
         }
         PartialBranch::AfterComparison(left, comparison) => {
             let (left, comparison) = (*left, *comparison);
-            let Some(right) = operand(token) else {
-                return false;
-            };
-            *head = PartialBranch::AfterRight(Test {
-                left,
-                comparison,
-                right,
-            });
-            true
+            comparison_goes_on(head, left, comparison, token)
         }
         PartialBranch::AfterRight(test) => {
             let test = *test;
@@ -344,6 +336,29 @@ fn branch_goes_on(head: &mut PartialBranch, token: &Token) -> bool
         }
         PartialBranch::AfterClose(_) => false,
     }
+}
+
+/// Puts what a token after a comparison leads to in the place of a test, if it leads to something.
+fn comparison_goes_on(
+    head: &mut PartialBranch,
+    left: Operand,
+    comparison: Comparison,
+    token: &Token,
+) -> bool
+    ensures goes { (branch : Branch) → result ≡ true
+        → branch_step branch (PartialBranch.AfterComparison left comparison) token.now
+        ≡ Some (Move.To (PartialHead.Branch branch head.new)) }
+    ensures stays { result ≡ false → head.new ≡ head.old }
+{
+    let Some(right) = operand(token) else {
+        return false;
+    };
+    *head = PartialBranch::AfterRight(Test {
+        left,
+        comparison,
+        right,
+    });
+    true
 }
 
 /// The statement after one more token, unless none goes on so.

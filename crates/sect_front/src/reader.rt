@@ -116,18 +116,13 @@ impl GlobalStage {
         let Token::Name(name) = token else {
             return false;
         };
-        match self {
-            GlobalStage::AfterWord => {
-                *self = GlobalStage::AfterRecord(*name);
-                true
-            }
-            GlobalStage::AfterRecord(of) => {
-                let of = *of;
-                *self = GlobalStage::AfterName(of, *name);
-                true
-            }
-            GlobalStage::AfterName(_, _) => false,
-        }
+        let next = match self {
+            GlobalStage::AfterWord => GlobalStage::AfterRecord(*name),
+            GlobalStage::AfterRecord(of) => GlobalStage::AfterName(*of, *name),
+            GlobalStage::AfterName(_, _) => return false,
+        };
+        *self = next;
+        true
     }
 }
 

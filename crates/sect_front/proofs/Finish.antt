@@ -1,5 +1,5 @@
 -- Whatever has been read can be finished.
-use Rattle.std.proofs.Common.{◌≡◌, ℕ, List, [], ◌∷◌, ◌++◌, Some, refl, sym, ◌∙◌, ap, subst, IfSome}
+use Rattle.std.proofs.Common.{◌≡◌, ℕ, List, [], ◌∷◌, ◌++◌, Some, None, refl, sym, ◌∙◌, ap, subst, IfSome}
 use Rattle.sect_front.specs.Syntax.{StatementView, BlockView, Primitive, If, IfElse, While, Atomic, Call, End}
 use Rattle.sect_front.specs.{TreeView.{TreeView}, Trees.{append}, Grammar.{kind_token}}
 use Rattle.sect_front.specs.Tokens.{locking_tokens, test_tokens, statement_tokens, block_tokens, declarations_tokens}
@@ -13,16 +13,16 @@ use Rattle.sect_front.specs.{declared.partial.PartialCall.{PartialCall}, declare
 use Rattle.sect_front.specs.{declared.within.Partial.{Partial}, declared.reader.RecordStage.{RecordStage}}
 use Rattle.sect_front.specs.{declared.reader.GlobalStage.{GlobalStage}, declared.reader.ProcedureStage.{ProcedureStage}}
 use Rattle.sect_front.specs.{declared.reader.ThreadStage.{ThreadStage}, declared.reader.Owner.{Owner}}
-use Rattle.sect_front.specs.{declared.reader.BodyStage.{BodyStage}, declared.reader.Outside.{Outside}}
+use Rattle.sect_front.specs.{declared.reader.PartialDeclaration.{PartialDeclaration}, declared.reader.Outside.{Outside}}
 use Rattle.sect_front.specs.declared.reader.Stage.{Stage}
 use Rattle.sect_front.specs.steps.ReaderView.{ReaderView, reading, empty}
 use Rattle.sect_front.specs.steps.Read.{after, with_record, with_global, with_procedure, with_thread}
 use Rattle.sect_front.proofs.Keeps.{line_tokens, call_stage_tokens, place_tokens, frames_tokens, outside_tokens}
 use Rattle.sect_front.proofs.Keeps.{stage_tokens, part_outside, record_stage_tokens, global_stage_tokens}
-use Rattle.sect_front.proofs.Keeps.{procedure_stage_tokens, thread_stage_tokens, body_stage_tokens, body_tokens_append}
+use Rattle.sect_front.proofs.Keeps.{procedure_stage_tokens, thread_stage_tokens, partial_tokens, body_tokens_append}
 use Rattle.sect_front.proofs.Keeps.{after_law, operands_append, declarations_append, parameters_append, hints_append}
 use Rattle.sect_front.proofs.Keeps.{parametered, behind, owner_tokens, opened, headed, one_record, one_global}
-use Rattle.sect_front.proofs.Keeps.{one_procedure, one_thread, Fits, part_with, owner_in, part_in, IsOrdered, IsKept}
+use Rattle.sect_front.proofs.Keeps.{one_procedure, one_thread, Fits, part_with, part_in, IsOrdered, IsKept}
 use Rattle.sect_front.specs.declared.tree.Locking.TheVariants as locking
 use Rattle.sect_front.specs.declared.token.Token.TheVariants as token
 use Rattle.sect_front.specs.declared.tree.Operand.TheVariants as operand
@@ -43,7 +43,7 @@ use Rattle.sect_front.specs.declared.reader.GlobalStage.TheVariants as in_global
 use Rattle.sect_front.specs.declared.reader.ProcedureStage.TheVariants as in_procedure
 use Rattle.sect_front.specs.declared.reader.ThreadStage.TheVariants as in_thread
 use Rattle.sect_front.specs.declared.reader.Owner.TheVariants as owner
-use Rattle.sect_front.specs.declared.reader.BodyStage.TheVariants as in_body
+use Rattle.sect_front.specs.declared.reader.PartialDeclaration.TheVariants as partial
 use Rattle.sect_front.specs.declared.reader.Outside.TheVariants as outside
 use Rattle.sect_front.specs.declared.reader.Stage.TheVariants as stage
 
@@ -218,8 +218,8 @@ record BodyEnd (kept : List Token → List Token) : Type 0 where
   is : (w : List Token) → block_tokens body w ≡ kept (more w)
 
 place_end : (b : BlockView) (p : Partial) → BodyEnd (λ w. block_tokens b (place_tokens p w))
-place_end b place.Start = record { body = b; more = λ w. w; is = λ w. refl }
-place_end b (place.Inside l) = let e = line_end l in
+place_end b (place.Head None) = record { body = b; more = λ w. w; is = λ w. refl }
+place_end b (place.Head (Some l)) = let e = line_end l in
     record {
       body = append b e.form;
       more = e.more;
@@ -302,13 +302,15 @@ record_stage_end s (in_record.Head n hs) h =
 record_stage_end s (in_record.AfterProtectedBy n hs) h =
     record_end s n (hs ++ n ∷ []) [] (record_stage_tokens (in_record.AfterProtectedBy n hs))
     (token.Name n ∷ no_block []) h (ap (λ x. token.Record ∷ token.Name n ∷ x) (hints_append hs n (no_block [])))
-record_stage_end s (in_record.Fields n hs fs) h =
-    record_end s n hs fs (record_stage_tokens (in_record.Fields n hs fs)) (token.CloseBrace ∷ []) h refl
-record_stage_end s (in_record.AfterKind n hs fs k) h = let d : Declaration = record { kind = k; name = n } in
-    record_end s n hs (fs ++ d ∷ []) (record_stage_tokens (in_record.AfterKind n hs fs k))
+record_stage_end s (in_record.Fields n hs fs partial.Start) h =
+    record_end s n hs fs (record_stage_tokens (in_record.Fields n hs fs partial.Start)) (token.CloseBrace ∷ []) h refl
+record_stage_end s (in_record.Fields n hs fs (partial.AfterKind k)) h =
+    let d : Declaration = record { kind = k; name = n } in
+    record_end s n hs (fs ++ d ∷ []) (record_stage_tokens (in_record.Fields n hs fs (partial.AfterKind k)))
     (token.Name n ∷ token.Semicolon ∷ token.CloseBrace ∷ []) h (one_field n hs fs d)
-record_stage_end s (in_record.AfterField n hs fs k f) h = let d : Declaration = record { kind = k; name = f } in
-    record_end s n hs (fs ++ d ∷ []) (record_stage_tokens (in_record.AfterField n hs fs k f))
+record_stage_end s (in_record.Fields n hs fs (partial.AfterName k f)) h =
+    let d : Declaration = record { kind = k; name = f } in
+    record_end s n hs (fs ++ d ∷ []) (record_stage_tokens (in_record.Fields n hs fs (partial.AfterName k f)))
     (token.Semicolon ∷ token.CloseBrace ∷ []) h (one_field n hs fs d)
 
 global_end : (s : TreeView) (r g : List ℕ) (kept : List Token → List Token) (rest : List Token) → Fits part.Globals s →
@@ -396,15 +398,15 @@ one_local : (o : Owner) (ls : List Declaration) (d : Declaration) → opened o (
     opened o ls (kind_token d.kind ∷ token.Name d.name ∷ token.Semicolon ∷ token.CloseBrace ∷ [])
 one_local o ls d = ap (owner_tokens o) (declarations_append ls d (token.CloseBrace ∷ []))
 
-body_stage_end : (s : TreeView) (b : BodyStage) → Fits (part_with (owner_in b)) s →
-    SourceEnd (λ w. source_tokens s (body_stage_tokens b w))
-body_stage_end s (in_body.Locals o ls) h = owner_end s o ls End (body_stage_tokens (in_body.Locals o ls))
+body_end : (s : TreeView) (o : Owner) (ls : List Declaration) (l : PartialDeclaration) → Fits (part_with o) s →
+    SourceEnd (λ w. source_tokens s (opened o ls (partial_tokens l w)))
+body_end s o ls partial.Start h = owner_end s o ls End (λ w. opened o ls (partial_tokens partial.Start w))
     (token.CloseBrace ∷ []) h refl
-body_stage_end s (in_body.AfterKind o ls k) h = let d : Declaration = record { kind = k; name = 120 ∷ [] } in
-    owner_end s o (ls ++ d ∷ []) End (body_stage_tokens (in_body.AfterKind o ls k))
+body_end s o ls (partial.AfterKind k) h = let d : Declaration = record { kind = k; name = 120 ∷ [] } in
+    owner_end s o (ls ++ d ∷ []) End (λ w. opened o ls (partial_tokens (partial.AfterKind k) w))
     (token.Name (120 ∷ []) ∷ token.Semicolon ∷ token.CloseBrace ∷ []) h (one_local o ls d)
-body_stage_end s (in_body.AfterLocal o ls k x) h = let d : Declaration = record { kind = k; name = x } in
-    owner_end s o (ls ++ d ∷ []) End (body_stage_tokens (in_body.AfterLocal o ls k x))
+body_end s o ls (partial.AfterName k x) h = let d : Declaration = record { kind = k; name = x } in
+    owner_end s o (ls ++ d ∷ []) End (λ w. opened o ls (partial_tokens (partial.AfterName k x) w))
     (token.Semicolon ∷ token.CloseBrace ∷ []) h (one_local o ls d)
 
 outside_end : (s : TreeView) (g : Outside) → Fits (part_outside g) s
@@ -414,7 +416,7 @@ outside_end s (outside.Record r) h = record_stage_end s r h
 outside_end s (outside.Global g) h = global_stage_end s g h
 outside_end s (outside.Procedure p) h = procedure_stage_end s p h
 outside_end s (outside.Thread t) h = thread_stage_end s t
-outside_end s (outside.Body b) h = body_stage_end s b h
+outside_end s (outside.Body o ls l) h = body_end s o ls l h
 
 source_end : (s : TreeView) (g : Stage) → Fits (part_in g) s → SourceEnd (λ w. source_tokens s (stage_tokens g w))
 source_end s (stage.Outside g) h = outside_end s g h

@@ -33,7 +33,7 @@ use Rattle.sect_front.specs.declared.partial.PartialBranch.TheVariants as head
 use Rattle.sect_front.specs.declared.partial.PartialCall.TheVariants as call
 use Rattle.sect_front.specs.declared.within.Partial.TheVariants as place
 use Rattle.sect_front.specs.declared.reader.Owner.TheVariants as owner
-use Rattle.sect_front.specs.declared.reader.BodyStage.TheVariants as in_body
+use Rattle.sect_front.specs.declared.reader.PartialDeclaration.TheVariants as partial
 use Rattle.sect_front.specs.declared.reader.Part.TheVariants as part
 use Rattle.sect_front.specs.declared.reader.RecordStage.TheVariants as in_record
 use Rattle.sect_front.specs.declared.reader.GlobalStage.TheVariants as in_global
@@ -55,7 +55,7 @@ goes_on_taken s o ls Stuck = refl
 
 -- where a local may stand, all but `int` is taken as where a statement may
 pub local_or_statement : (s : TreeView) (o : Owner) (ls : List Declaration) (t : Token) → t ≢ token.Int
-    → is_taken (start_step [] End t) ≡ is_some (body_step s (in_body.Locals o ls) t)
+    → is_taken (start_step [] End t) ≡ is_some (body_step s o ls partial.Start t)
 local_or_statement s o ls token.Int other = absurd (other refl)
 local_or_statement s o ls (token.Name n) other = refl
 local_or_statement s o ls token.CloseBrace other = goes_on_taken s o ls (step_of fresh token.CloseBrace)
@@ -116,8 +116,8 @@ call_alike fs b (call.AfterComma f vs) = (λ n m. refl, λ i j. refl)
 call_alike fs b (call.AfterClose f vs) = (λ n m. refl, λ i j. refl)
 
 step_alike : (fs : List OpenBlock) (b : BlockView) (p : Partial) → TakesAlike (step_at fs b p) is_taken
-step_alike fs b place.Start = (λ n m. refl, λ i j. refl)
-step_alike fs b (place.Inside l) = (
+step_alike fs b (place.Head None) = (λ n m. refl, λ i j. refl)
+step_alike fs b (place.Head (Some l)) = (
   λ n m. moves fs b (advance_of l (token.Name n)) ∙ (head_alike l).0 n m
       ∙ sym (moves fs b (advance_of l (token.Name m))),
   λ i j. moves fs b (advance_of l (token.Number i)) ∙ (head_alike l).1 i j
@@ -135,9 +135,9 @@ outside_alike s (outside.Between part.Threads) = (λ n m. refl, λ i j. refl)
 outside_alike s (outside.Record in_record.AfterWord) = (λ n m. refl, λ i j. refl)
 outside_alike s (outside.Record (in_record.Head n hs)) = (λ n m. refl, λ i j. refl)
 outside_alike s (outside.Record (in_record.AfterProtectedBy n hs)) = (λ n m. refl, λ i j. refl)
-outside_alike s (outside.Record (in_record.Fields n hs fs)) = (λ n m. refl, λ i j. refl)
-outside_alike s (outside.Record (in_record.AfterKind n hs fs k)) = (λ n m. refl, λ i j. refl)
-outside_alike s (outside.Record (in_record.AfterField n hs fs k f)) = (λ n m. refl, λ i j. refl)
+outside_alike s (outside.Record (in_record.Fields n hs fs partial.Start)) = (λ n m. refl, λ i j. refl)
+outside_alike s (outside.Record (in_record.Fields n hs fs (partial.AfterKind k))) = (λ n m. refl, λ i j. refl)
+outside_alike s (outside.Record (in_record.Fields n hs fs (partial.AfterName k f))) = (λ n m. refl, λ i j. refl)
 outside_alike s (outside.Global in_global.AfterWord) = (λ n m. refl, λ i j. refl)
 outside_alike s (outside.Global (in_global.AfterRecord r)) = (λ n m. refl, λ i j. refl)
 outside_alike s (outside.Global (in_global.AfterName r g)) = (λ n m. refl, λ i j. refl)
@@ -150,10 +150,10 @@ outside_alike s (outside.Procedure (in_procedure.AfterComma n ps)) = (λ n m. re
 outside_alike s (outside.Procedure (in_procedure.AfterClose n ps)) = (λ n m. refl, λ i j. refl)
 outside_alike s (outside.Thread in_thread.AfterWord) = (λ n m. refl, λ i j. refl)
 outside_alike s (outside.Thread (in_thread.AfterName n)) = (λ n m. refl, λ i j. refl)
-outside_alike s (outside.Body (in_body.Locals o ls)) = (λ n m. refl, λ i j. refl)
-outside_alike s (outside.Body (in_body.AfterKind o ls kind.Int)) = (λ n m. refl, λ i j. refl)
-outside_alike s (outside.Body (in_body.AfterKind o ls (kind.Record r))) = (λ n m. refl, λ i j. refl)
-outside_alike s (outside.Body (in_body.AfterLocal o ls k x)) = (λ n m. refl, λ i j. refl)
+outside_alike s (outside.Body o ls partial.Start) = (λ n m. refl, λ i j. refl)
+outside_alike s (outside.Body o ls (partial.AfterKind kind.Int)) = (λ n m. refl, λ i j. refl)
+outside_alike s (outside.Body o ls (partial.AfterKind (kind.Record r))) = (λ n m. refl, λ i j. refl)
+outside_alike s (outside.Body o ls (partial.AfterName k x)) = (λ n m. refl, λ i j. refl)
 
 stage_alike : (s : TreeView) (g : Stage) → TakesAlike (read_at s g) is_some
 stage_alike s (stage.Outside g) = outside_alike s g

@@ -20,7 +20,7 @@ use Rattle.sect_front.specs.{declared.within.OpenBlock.{OpenBlock}, declared.wit
 use Rattle.sect_front.specs.{declared.reader.Part.{Part}, declared.reader.RecordStage.{RecordStage}}
 use Rattle.sect_front.specs.{declared.reader.GlobalStage.{GlobalStage}, declared.reader.ProcedureStage.{ProcedureStage}}
 use Rattle.sect_front.specs.{declared.reader.ThreadStage.{ThreadStage}, declared.reader.Owner.{Owner}}
-use Rattle.sect_front.specs.{declared.reader.BodyStage.{BodyStage}, declared.reader.Outside.{Outside}}
+use Rattle.sect_front.specs.{declared.reader.PartialDeclaration.{PartialDeclaration}, declared.reader.Outside.{Outside}}
 use Rattle.sect_front.specs.declared.reader.Stage.{Stage}
 use Rattle.sect_front.specs.steps.Advance.{advance_of, assign_step, store_step, branch_step, operand_of, operator_of}
 use Rattle.sect_front.specs.steps.Advance.{comparison_of, goes_to, first_step, ends_with, opens}
@@ -50,7 +50,7 @@ use Rattle.sect_front.specs.declared.reader.GlobalStage.TheVariants as in_global
 use Rattle.sect_front.specs.declared.reader.ProcedureStage.TheVariants as in_procedure
 use Rattle.sect_front.specs.declared.reader.ThreadStage.TheVariants as in_thread
 use Rattle.sect_front.specs.declared.reader.Owner.TheVariants as owner
-use Rattle.sect_front.specs.declared.reader.BodyStage.TheVariants as in_body
+use Rattle.sect_front.specs.declared.reader.PartialDeclaration.TheVariants as partial
 use Rattle.sect_front.specs.declared.reader.Outside.TheVariants as outside
 use Rattle.sect_front.specs.declared.reader.Stage.TheVariants as stage
 
@@ -245,8 +245,8 @@ operands_append [] v w = refl
 operands_append (u ∷ vs) v w = ap (λ x. operand_token u ∷ x) (more_operands_append vs v w)
 
 abbrev pub place_tokens : Partial → List Token → List Token
-place_tokens place.Start w = w
-place_tokens (place.Inside l) w = line_tokens l w
+place_tokens (place.Head None) w = w
+place_tokens (place.Head (Some l)) w = line_tokens l w
 place_tokens (place.InCall c) w = call_stage_tokens c w
 place_tokens (place.AfterThen t a) w = statement_tokens (If t a) w
 place_tokens (place.AfterElse t a) w = statement_tokens (If t a) (token.Else ∷ w)
@@ -339,8 +339,8 @@ call_law fs b _ _ w = tt
 
 pub stand_law : (fs : List OpenBlock) (b : BlockView) (p : Partial) (t : Token) (w : List Token)
     → Keeps (stand_tokens fs b p (t ∷ w)) (step_at fs b p t) w
-stand_law fs b place.Start t w = start_law fs b t w
-stand_law fs b (place.Inside l) t w = moved_if_law fs b (advance_of l t) (line_tokens l (t ∷ w)) w (line_law l t w)
+stand_law fs b (place.Head None) t w = start_law fs b t w
+stand_law fs b (place.Head (Some l)) t w = moved_if_law fs b (advance_of l t) (line_tokens l (t ∷ w)) w (line_law l t w)
 stand_law fs b (place.InCall c) t w = call_law fs b c t w
 stand_law fs b (place.AfterThen v a) token.Else w = refl
 stand_law fs b (place.AfterElse v a) token.OpenBrace w = refl
@@ -369,13 +369,17 @@ owner_tokens (owner.Thread n) w = token.Thread ∷ token.Name n ∷ token.OpenBr
 abbrev pub opened : Owner → List Declaration → List Token → List Token
 opened o ls w = owner_tokens o (declarations_tokens ls w)
 
+-- a field or a local as far as it has been read
+abbrev pub partial_tokens : PartialDeclaration → List Token → List Token
+partial_tokens partial.Start w = w
+partial_tokens (partial.AfterKind k) w = kind_token k ∷ w
+partial_tokens (partial.AfterName k x) w = kind_token k ∷ token.Name x ∷ w
+
 abbrev pub record_stage_tokens : RecordStage → List Token → List Token
 record_stage_tokens in_record.AfterWord w = token.Record ∷ w
 record_stage_tokens (in_record.Head n hs) w = headed n hs w
 record_stage_tokens (in_record.AfterProtectedBy n hs) w = headed n hs (token.ProtectedBy ∷ w)
-record_stage_tokens (in_record.Fields n hs fs) w = fielded n hs fs w
-record_stage_tokens (in_record.AfterKind n hs fs k) w = fielded n hs fs (kind_token k ∷ w)
-record_stage_tokens (in_record.AfterField n hs fs k f) w = fielded n hs fs (kind_token k ∷ token.Name f ∷ w)
+record_stage_tokens (in_record.Fields n hs fs d) w = fielded n hs fs (partial_tokens d w)
 
 abbrev pub global_stage_tokens : GlobalStage → List Token → List Token
 global_stage_tokens in_global.AfterWord w = token.Global ∷ w
@@ -396,18 +400,13 @@ abbrev pub thread_stage_tokens : ThreadStage → List Token → List Token
 thread_stage_tokens in_thread.AfterWord w = token.Thread ∷ w
 thread_stage_tokens (in_thread.AfterName n) w = token.Thread ∷ token.Name n ∷ w
 
-abbrev pub body_stage_tokens : BodyStage → List Token → List Token
-body_stage_tokens (in_body.Locals o ls) w = opened o ls w
-body_stage_tokens (in_body.AfterKind o ls k) w = opened o ls (kind_token k ∷ w)
-body_stage_tokens (in_body.AfterLocal o ls k x) w = opened o ls (kind_token k ∷ token.Name x ∷ w)
-
 abbrev pub outside_tokens : Outside → List Token → List Token
 outside_tokens (outside.Between p) w = w
 outside_tokens (outside.Record r) w = record_stage_tokens r w
 outside_tokens (outside.Global g) w = global_stage_tokens g w
 outside_tokens (outside.Procedure p) w = procedure_stage_tokens p w
 outside_tokens (outside.Thread t) w = thread_stage_tokens t w
-outside_tokens (outside.Body b) w = body_stage_tokens b w
+outside_tokens (outside.Body o ls l) w = opened o ls (partial_tokens l w)
 
 abbrev pub stage_tokens : Stage → List Token → List Token
 stage_tokens (stage.Outside g) w = outside_tokens g w
@@ -427,18 +426,13 @@ abbrev pub part_with : Owner → Part
 part_with (owner.Procedure n ps) = part_of.Procedures
 part_with (owner.Thread n) = part_of.Threads
 
-abbrev pub owner_in : BodyStage → Owner
-owner_in (in_body.Locals o ls) = o
-owner_in (in_body.AfterKind o ls k) = o
-owner_in (in_body.AfterLocal o ls k x) = o
-
 abbrev pub part_outside : Outside → Part
 part_outside (outside.Between p) = p
 part_outside (outside.Record r) = part_of.Records
 part_outside (outside.Global g) = part_of.Globals
 part_outside (outside.Procedure p) = part_of.Procedures
 part_outside (outside.Thread t) = part_of.Threads
-part_outside (outside.Body b) = part_with (owner_in b)
+part_outside (outside.Body o ls l) = part_with o
 
 abbrev pub part_in : Stage → Part
 part_in (stage.Outside g) = part_outside g
@@ -531,12 +525,12 @@ record_law s (in_record.Head n hs) token.ProtectedBy w h = record { is = refl; o
 record_law s (in_record.Head n hs) token.OpenBrace w h = record { is = refl; ordered = h }
 record_law s (in_record.AfterProtectedBy n hs) (token.Name g) w h =
     record { is = ap (λ x. source_tokens s (token.Record ∷ token.Name n ∷ x)) (sym (hints_append hs g w)); ordered = h }
-record_law s (in_record.Fields n hs fs) token.Int w h = record { is = refl; ordered = h }
-record_law s (in_record.Fields n hs fs) (token.Name r) w h = record { is = refl; ordered = h }
-record_law s (in_record.Fields n hs fs) token.CloseBrace w h =
+record_law s (in_record.Fields n hs fs partial.Start) token.Int w h = record { is = refl; ordered = h }
+record_law s (in_record.Fields n hs fs partial.Start) (token.Name r) w h = record { is = refl; ordered = h }
+record_law s (in_record.Fields n hs fs partial.Start) token.CloseBrace w h =
     record { is = one_record s (record { name = n; hints = hs; fields = fs }) w h; ordered = h }
-record_law s (in_record.AfterKind n hs fs k) (token.Name f) w h = record { is = refl; ordered = h }
-record_law s (in_record.AfterField n hs fs k f) token.Semicolon w h =
+record_law s (in_record.Fields n hs fs (partial.AfterKind k)) (token.Name f) w h = record { is = refl; ordered = h }
+record_law s (in_record.Fields n hs fs (partial.AfterName k f)) token.Semicolon w h =
     record {
       is = ap (λ x. source_tokens s (headed n hs (token.OpenBrace ∷ x)))
           (sym (declarations_append fs (record { kind = k; name = f }) w));
@@ -613,23 +607,24 @@ after_kind_law : (s : TreeView) (o : Owner) (ls : List Declaration) (k : Kind) (
     IfSome (after_kind_step s o ls k t) (IsKept (source_tokens s (opened o ls (kind_token k ∷ t ∷ w))) w)
 after_kind_law s o ls kind.Int t w h = tt
 after_kind_law s o ls (kind.Record x) t w h = goes_law s o ls (step_of (begun x) t) (token.Name x ∷ t ∷ w) w h
-    (stand_law [] End (place.Inside (line.AfterName x)) t w)
+    (stand_law [] End (place.Head (Some (line.AfterName x))) t w)
 
-body_law : (s : TreeView) (b : BodyStage) (t : Token) (w : List Token) → Fits (part_with (owner_in b)) s →
-    IfSome (body_step s b t) (IsKept (source_tokens s (body_stage_tokens b (t ∷ w))) w)
-body_law s (in_body.Locals o ls) token.Int w h = record { is = refl; ordered = h }
-body_law s (in_body.Locals o ls) (token.Name x) w h = record { is = refl; ordered = h }
-body_law s (in_body.Locals o ls) t w h = goes_law s o ls (step_of fresh t) (t ∷ w) w h
-    (stand_law [] End place.Start t w)
-body_law s (in_body.AfterKind o ls k) (token.Name x) w h = record { is = refl; ordered = h }
-body_law s (in_body.AfterKind o ls k) t w h = after_kind_law s o ls k t w h
-body_law s (in_body.AfterLocal o ls k x) token.Semicolon w h =
+body_law : (s : TreeView) (o : Owner) (ls : List Declaration) (l : PartialDeclaration) (t : Token) (w : List Token) →
+    Fits (part_with o) s →
+    IfSome (body_step s o ls l t) (IsKept (source_tokens s (opened o ls (partial_tokens l (t ∷ w)))) w)
+body_law s o ls partial.Start token.Int w h = record { is = refl; ordered = h }
+body_law s o ls partial.Start (token.Name x) w h = record { is = refl; ordered = h }
+body_law s o ls partial.Start t w h = goes_law s o ls (step_of fresh t) (t ∷ w) w h
+    (stand_law [] End (place.Head None) t w)
+body_law s o ls (partial.AfterKind k) (token.Name x) w h = record { is = refl; ordered = h }
+body_law s o ls (partial.AfterKind k) t w h = after_kind_law s o ls k t w h
+body_law s o ls (partial.AfterName k x) token.Semicolon w h =
     record {
       is = ap (λ y. source_tokens s (owner_tokens o y))
           (sym (declarations_append ls (record { kind = k; name = x }) w));
       ordered = h;
     }
-body_law _ _ _ w h = tt
+body_law _ _ _ _ _ w h = tt
 
 outside_law : (s : TreeView) (g : Outside) (t : Token) (w : List Token) → Fits (part_outside g) s
     → IfSome (read_outside s g t) (IsKept (source_tokens s (outside_tokens g (t ∷ w))) w)
@@ -638,7 +633,7 @@ outside_law s (outside.Record r) t w h = record_law s r t w h
 outside_law s (outside.Global g) t w h = global_law s g t w h
 outside_law s (outside.Procedure p) t w h = procedure_law s p t w h
 outside_law s (outside.Thread x) t w h = thread_law s x t w
-outside_law s (outside.Body b) t w h = body_law s b t w h
+outside_law s (outside.Body o ls l) t w h = body_law s o ls l t w h
 
 pub read_law : (s : TreeView) (g : Stage) (t : Token) (w : List Token) → Fits (part_in g) s
     → IfSome (read_at s g t) (IsKept (source_tokens s (stage_tokens g (t ∷ w))) w)

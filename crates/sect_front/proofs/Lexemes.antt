@@ -266,6 +266,13 @@ sign_only b (c ∷ []) t (suc (suc (suc n))) h f = absurd (omega (arith, f.withi
 sign_only b (c ∷ d ∷ cs) t (suc (suc (suc n))) h f =
     absurd (none_or_some t (sym (sign_spelled b (c ∷ d ∷ take n cs) h) ∙ f.spells))
 
+-- how many bytes are told of a token, where 0 tells that there is none
+pub told_count : (o : Option (Token × ℕ)) (t u : Token) (m n : ℕ) → (0 < m → o ≡ Some (pair u m)) → (m ≡ 0 → o ≡ None)
+    → o ≡ Some (pair t n) → m ≡ n
+told_count o t u zero n some none e = absurd (none_or_some (pair t n) (sym (none refl) ∙ e))
+told_count o t u (suc m) n some none e =
+    ap (λ z. z.1) (some_injective (pair u (suc m)) (pair t n) (sym (some (omega arith)) ∙ e))
+
 pub names_pass : (bytes : List ℕ) → list_all is_name_byte (take_while is_name_byte bytes) ≡ true
 names_pass [] = refl
 names_pass (b ∷ bs) = go (is_name_byte b) refl (names_pass bs)

@@ -1,5 +1,5 @@
 -- The tokens of each tree are taken, one after another, and lead to that tree.
-use Rattle.std.proofs.Common.{◌≡◌, ℕ, List, [], ◌∷◌, ◌++◌, Some, refl, sym, ◌∙◌, ap, append_assoc, append-nil}
+use Rattle.std.proofs.Common.{◌≡◌, ℕ, List, [], ◌∷◌, ◌++◌, Some, None, refl, sym, ◌∙◌, ap, append_assoc, append-nil}
 use Rattle.sect_front.specs.Syntax.{StatementView, BlockView, Primitive, If, IfElse, While, Atomic, Call, End, Then}
 use Rattle.sect_front.specs.{TreeView.{TreeView}, Trees.{append}, Grammar.{operand_token, comparison_token, kind_token}}
 use Rattle.sect_front.specs.Tokens.{primitive_tokens, test_tokens, more_operands, call_tokens, statement_tokens}
@@ -31,7 +31,7 @@ use Rattle.sect_front.specs.declared.reader.RecordStage.TheVariants as in_record
 use Rattle.sect_front.specs.declared.reader.ProcedureStage.TheVariants as in_procedure
 use Rattle.sect_front.specs.declared.reader.ThreadStage.TheVariants as in_thread
 use Rattle.sect_front.specs.declared.reader.Owner.TheVariants as owner
-use Rattle.sect_front.specs.declared.reader.BodyStage.TheVariants as in_body
+use Rattle.sect_front.specs.declared.reader.PartialDeclaration.TheVariants as partial
 use Rattle.sect_front.specs.declared.reader.Outside.TheVariants as outside
 
 operand_back : (v : Operand) → operand_of (operand_token v) ≡ Some v
@@ -73,23 +73,23 @@ module _ (s : TreeView) (o : Owner) (ls : List Declaration) where
 
   -- where a statement leads
   abbrev ended : List OpenBlock → BlockView → StatementView → ReaderView
-  ended fs b (Primitive p) = at fs (append b (Primitive p)) place.Start
+  ended fs b (Primitive p) = at fs (append b (Primitive p)) (place.Head None)
   ended fs b (If t a) = at fs b (place.AfterThen t a)
-  ended fs b (While t a) = at fs (append b (While t a)) place.Start
-  ended fs b (IfElse t a c) = at fs (append b (IfElse t a c)) place.Start
-  ended fs b (Atomic l a) = at fs (append b (Atomic l a)) place.Start
-  ended fs b (Call f vs) = at fs (append b (Call f vs)) place.Start
+  ended fs b (While t a) = at fs (append b (While t a)) (place.Head None)
+  ended fs b (IfElse t a c) = at fs (append b (IfElse t a c)) (place.Head None)
+  ended fs b (Atomic l a) = at fs (append b (Atomic l a)) (place.Head None)
+  ended fs b (Call f vs) = at fs (append b (Call f vs)) (place.Head None)
 
   assign_passes : (fs : List OpenBlock) (b : BlockView) (x : List ℕ) (v : Operand) (w : List Token)
-      → after (at fs b place.Start) (primitive_tokens (primitive.Assign x v) w) ≡ after
-      (at fs (append b (Primitive (primitive.Assign x v))) place.Start) w
+      → after (at fs b (place.Head None)) (primitive_tokens (primitive.Assign x v) w) ≡ after
+      (at fs (append b (Primitive (primitive.Assign x v))) (place.Head None)) w
   assign_passes fs b x (operand.Number n) w = refl
   assign_passes fs b x operand.Null w = refl
   assign_passes fs b x (operand.Name n) w = refl
 
   compute_passes : (fs : List OpenBlock) (b : BlockView) (x : List ℕ) (v : Operand) (o : Operator) (u : Operand)
-      (w : List Token) → after (at fs b place.Start) (primitive_tokens (primitive.Compute x v o u) w) ≡ after
-      (at fs (append b (Primitive (primitive.Compute x v o u))) place.Start) w
+      (w : List Token) → after (at fs b (place.Head None)) (primitive_tokens (primitive.Compute x v o u) w) ≡ after
+      (at fs (append b (Primitive (primitive.Compute x v o u))) (place.Head None)) w
   compute_passes fs b x (operand.Number n) operator.Add u w = simp operand_back
   compute_passes fs b x (operand.Number n) operator.Subtract u w = simp operand_back
   compute_passes fs b x (operand.Number n) operator.Multiply u w = simp operand_back
@@ -101,7 +101,8 @@ module _ (s : TreeView) (o : Owner) (ls : List Declaration) where
   compute_passes fs b x (operand.Name n) operator.Multiply u w = simp operand_back
 
   primitive_passes : (fs : List OpenBlock) (b : BlockView) (p : leaf.Primitive) (w : List Token)
-      → after (at fs b place.Start) (primitive_tokens p w) ≡ after (at fs (append b (Primitive p)) place.Start) w
+      → after (at fs b (place.Head None)) (primitive_tokens p w) ≡
+      after (at fs (append b (Primitive p)) (place.Head None)) w
   primitive_passes fs b (primitive.Assign x v) w = assign_passes fs b x v w
   primitive_passes fs b (primitive.Compute x v o u) w = compute_passes fs b x v o u w
   primitive_passes fs b (primitive.New x r) w = refl
@@ -110,13 +111,13 @@ module _ (s : TreeView) (o : Owner) (ls : List Declaration) where
   primitive_passes fs b (primitive.Print v) w = simp operand_back
 
   test_passes : (fs : List OpenBlock) (b : BlockView) (t : Test) (w : List Token) →
-      after (at fs b place.Start) (token.If ∷ test_tokens t (token.OpenBrace ∷ w)) ≡ after
-      (at (open_block.Then b t ∷ fs) End place.Start) w
+      after (at fs b (place.Head None)) (token.If ∷ test_tokens t (token.OpenBrace ∷ w)) ≡ after
+      (at (open_block.Then b t ∷ fs) End (place.Head None)) w
   test_passes fs b t w = simp (operand_back, comparison_back)
 
   while_passes : (fs : List OpenBlock) (b : BlockView) (t : Test) (w : List Token) →
-      after (at fs b place.Start) (token.While ∷ test_tokens t (token.OpenBrace ∷ w)) ≡ after
-      (at (open_block.While b t ∷ fs) End place.Start) w
+      after (at fs b (place.Head None)) (token.While ∷ test_tokens t (token.OpenBrace ∷ w)) ≡ after
+      (at (open_block.While b t ∷ fs) End (place.Head None)) w
   while_passes fs b t w = simp (operand_back, comparison_back)
 
   first_argument_passes : (fs : List OpenBlock) (b : BlockView) (f : List ℕ) (v : Operand) (w : List Token) →
@@ -138,15 +139,15 @@ module _ (s : TreeView) (o : Owner) (ls : List Declaration) where
       (w : List Token) →
       after (at fs b (place.InCall (call.AfterArgument f vs v)))
       (more_operands us (token.CloseParen ∷ token.Semicolon ∷ w)) ≡
-      after (at fs (append b (Call f (vs ++ v ∷ us))) place.Start) w
+      after (at fs (append b (Call f (vs ++ v ∷ us))) (place.Head None)) w
   arguments_pass fs b f [] vs v w = refl
   arguments_pass fs b f (u ∷ us) vs v w =
       argument_passes fs b f (vs ++ v ∷ []) u (more_operands us (token.CloseParen ∷ token.Semicolon ∷ w)) ∙
       (arguments_pass fs b f us (vs ++ v ∷ []) u w ∙
-      ap (λ x. after (at fs (append b (Call f x)) place.Start) w) (append_assoc vs (v ∷ []) (u ∷ us)))
+      ap (λ x. after (at fs (append b (Call f x)) (place.Head None)) w) (append_assoc vs (v ∷ []) (u ∷ us)))
 
   call_passes : (fs : List OpenBlock) (b : BlockView) (f : List ℕ) (vs : List Operand) (w : List Token) →
-      after (at fs b place.Start) (call_tokens f vs w) ≡ after (at fs (append b (Call f vs)) place.Start) w
+      after (at fs b (place.Head None)) (call_tokens f vs w) ≡ after (at fs (append b (Call f vs)) (place.Head None)) w
   call_passes fs b f [] w = refl
   call_passes fs b f (v ∷ vs) w =
       first_argument_passes fs b f v (more_operands vs (token.CloseParen ∷ token.Semicolon ∷ w)) ∙
@@ -154,7 +155,7 @@ module _ (s : TreeView) (o : Owner) (ls : List Declaration) where
 
   -- after a choice with no else-part the next statement starts as after any other
   settled_next : (fs : List OpenBlock) (b : BlockView) (t : Test) (a : BlockView) (s : StatementView) (w : List Token) →
-      after (at fs b (place.AfterThen t a)) (statement_tokens s w) ≡ after (at fs (append b (If t a)) place.Start)
+      after (at fs b (place.AfterThen t a)) (statement_tokens s w) ≡ after (at fs (append b (If t a)) (place.Head None))
       (statement_tokens s w)
   settled_next fs b t a (Primitive (primitive.Assign x v)) w = refl
   settled_next fs b t a (Primitive (primitive.Compute x v o u)) w = refl
@@ -169,7 +170,7 @@ module _ (s : TreeView) (o : Owner) (ls : List Declaration) where
   settled_next fs b t a (Call f vs) w = refl
 
   settled : (fs : List OpenBlock) (b : BlockView) (s : StatementView) (r : BlockView) (w : List Token) →
-      after (ended fs b s) (block_tokens r (token.CloseBrace ∷ w)) ≡ after (at fs (append b s) place.Start)
+      after (ended fs b s) (block_tokens r (token.CloseBrace ∷ w)) ≡ after (at fs (append b s) (place.Head None))
       (block_tokens r (token.CloseBrace ∷ w))
   settled fs b (Primitive p) r w = refl
   settled fs b (If t a) End w = refl
@@ -181,7 +182,7 @@ module _ (s : TreeView) (o : Owner) (ls : List Declaration) where
 
   mutual
     form_passes : (s : StatementView) (fs : List OpenBlock) (b : BlockView) (w : List Token)
-        → after (at fs b place.Start) (statement_tokens s w) ≡ after (ended fs b s) w
+        → after (at fs b (place.Head None)) (statement_tokens s w) ≡ after (ended fs b s) w
     form_passes (Primitive p) fs b w = primitive_passes fs b p w
     form_passes (If t a) fs b w =
         test_passes fs b t _ ∙ (body_passes a (open_block.Then b t ∷ fs) End w
@@ -191,20 +192,21 @@ module _ (s : TreeView) (o : Owner) (ls : List Declaration) where
         (ap (λ x. after (at fs b (place.AfterThen t x))
         (token.Else ∷ token.OpenBrace ∷ block_tokens c (token.CloseBrace ∷ w))) (join_end a) ∙
         (body_passes c (open_block.Else b t a ∷ fs) End w
-        ∙ ap (λ x. after (at fs (append b (IfElse t a x)) place.Start) w) (join_end c))))
+        ∙ ap (λ x. after (at fs (append b (IfElse t a x)) (place.Head None)) w) (join_end c))))
     form_passes (While t a) fs b w =
         while_passes fs b t _ ∙ (body_passes a (open_block.While b t ∷ fs) End w
-        ∙ ap (λ x. after (at fs (append b (While t x)) place.Start) w) (join_end a))
+        ∙ ap (λ x. after (at fs (append b (While t x)) (place.Head None)) w) (join_end a))
     form_passes (Atomic locking.Inferred a) fs b w =
         body_passes a (open_block.Atomic b locking.Inferred ∷ fs) End w
-        ∙ ap (λ x. after (at fs (append b (Atomic locking.Inferred x)) place.Start) w) (join_end a)
+        ∙ ap (λ x. after (at fs (append b (Atomic locking.Inferred x)) (place.Head None)) w) (join_end a)
     form_passes (Atomic locking.All a) fs b w =
         body_passes a (open_block.Atomic b locking.All ∷ fs) End w
-        ∙ ap (λ x. after (at fs (append b (Atomic locking.All x)) place.Start) w) (join_end a)
+        ∙ ap (λ x. after (at fs (append b (Atomic locking.All x)) (place.Head None)) w) (join_end a)
     form_passes (Call f vs) fs b w = call_passes fs b f vs w
 
     body_passes : (c : BlockView) (fs : List OpenBlock) (b : BlockView) (w : List Token) →
-        after (at fs b place.Start) (block_tokens c (token.CloseBrace ∷ w)) ≡ after (at fs (join b c) place.Start)
+        after (at fs b (place.Head None)) (block_tokens c (token.CloseBrace ∷ w)) ≡
+        after (at fs (join b c) (place.Head None))
         (token.CloseBrace ∷ w)
     body_passes End fs b w = refl
     body_passes (Then s c) fs b w = form_passes s fs b _ ∙ (settled fs b s c w ∙ body_passes c fs (append b s) w)
@@ -221,15 +223,15 @@ abbrev in_head : TreeView → List ℕ → List (List ℕ) → ReaderView
 in_head s n hs = reading s (outside.Record (in_record.Head n hs))
 
 abbrev in_fields : TreeView → List ℕ → List (List ℕ) → List Declaration → ReaderView
-in_fields s n hs fs = reading s (outside.Record (in_record.Fields n hs fs))
+in_fields s n hs fs = reading s (outside.Record (in_record.Fields n hs fs partial.Start))
 
 abbrev in_locals : TreeView → Owner → List Declaration → ReaderView
-in_locals s o ls = reading s (outside.Body (in_body.Locals o ls))
+in_locals s o ls = reading s (outside.Body o ls partial.Start)
 
 -- the first statement after the locals starts as any other
 enter : (s : TreeView) (o : Owner) (ls : List Declaration) (b : BlockView) (w : List Token) →
     after (in_locals s o ls) (block_tokens b (token.CloseBrace ∷ w)) ≡
-    after (at s o ls [] End place.Start) (block_tokens b (token.CloseBrace ∷ w))
+    after (at s o ls [] End (place.Head None)) (block_tokens b (token.CloseBrace ∷ w))
 enter s o ls End w = refl
 enter s o ls (Then (Primitive (primitive.Assign x v)) b) w = refl
 enter s o ls (Then (Primitive (primitive.Compute x v p u)) b) w = refl
@@ -352,10 +354,10 @@ parameters_pass s n (p ∷ ps) w =
 -- the locals and the statements of a procedure or a thread, up to its last brace
 inner_passes : (s : TreeView) (o : Owner) (ls : List Declaration) (b : BlockView) (w : List Token) →
     after (in_locals s o []) (declarations_tokens ls (block_tokens b (token.CloseBrace ∷ w))) ≡
-    after (at s o ls [] b place.Start) (token.CloseBrace ∷ w)
+    after (at s o ls [] b (place.Head None)) (token.CloseBrace ∷ w)
 inner_passes s o ls b w =
     locals_pass s o ls [] (block_tokens b (token.CloseBrace ∷ w)) ∙ (enter s o ls b w ∙ (body_passes s o ls b [] End w ∙
-    ap (λ x. after (at s o ls [] x place.Start) (token.CloseBrace ∷ w)) (join_end b)))
+    ap (λ x. after (at s o ls [] x (place.Head None)) (token.CloseBrace ∷ w)) (join_end b)))
 
 -- a procedure from its word on
 procedure_passes : (rs : List Record) (gs : List GlobalObject) (ps : List Procedure) (p : Procedure) (w : List Token) →

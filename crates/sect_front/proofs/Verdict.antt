@@ -120,7 +120,7 @@ finished_at s (stage.Outside (outside.Record r)) tree e = absurd (none_or_some t
 finished_at s (stage.Outside (outside.Global g)) tree e = absurd (none_or_some tree e)
 finished_at s (stage.Outside (outside.Procedure p)) tree e = absurd (none_or_some tree e)
 finished_at s (stage.Outside (outside.Thread t)) tree e = absurd (none_or_some tree e)
-finished_at s (stage.Outside (outside.Body b)) tree e = absurd (none_or_some tree e)
+finished_at s (stage.Outside (outside.Body o ls l)) tree e = absurd (none_or_some tree e)
 finished_at s (stage.Inside o ls x) tree e = absurd (none_or_some tree e)
 
 kept : (list : List Token) (r : ReaderView) → after start list ≡ Some r → list ≡ reading_tokens r []

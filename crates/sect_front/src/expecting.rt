@@ -11,7 +11,8 @@ ghost use Rattle.sect_front.specs.steps.{Read.{body_step, read_outside, read_one
 
 use crate::partial::{PartialCall, advance};
 use crate::reader::{
-    BodyStage, GlobalStage, Outside, Part, ProcedureStage, Reader, RecordStage, Stage, ThreadStage,
+    GlobalStage, Outside, Part, PartialDeclaration, ProcedureStage, Reader, RecordStage, Stage,
+    ThreadStage,
 };
 use crate::token::Token;
 use crate::token_kind::{TokenKind, all_kinds};
@@ -74,8 +75,8 @@ fn within_takes(within: &Within, token: &Token) -> bool
     ensures { result ≡ is_taken (step_of within.now token.now) }
 {
     match within.place() {
-        Partial::Start => starts_with(token),
-        Partial::Inside(line) => advance(line, token).is_some(),
+        Partial::Head(None) => starts_with(token),
+        Partial::Head(Some(line)) => advance(line, token).is_some(),
         Partial::InCall(call) => call_takes(call, token),
         Partial::AfterThen(_, _) => then_takes(token),
         Partial::AfterElse(_, _) => matches!(token, Token::OpenBrace),
@@ -103,11 +104,13 @@ fn record_takes(stage: &RecordStage, token: &Token) -> bool
         RecordStage::AfterWord => matches!(token, Token::Name(_)),
         RecordStage::Head(_, _) => matches!(token, Token::ProtectedBy | Token::OpenBrace),
         RecordStage::AfterProtectedBy(_, _) => matches!(token, Token::Name(_)),
-        RecordStage::Fields(_, _, _) => {
-            matches!(token, Token::Int | Token::Name(_) | Token::CloseBrace)
-        }
-        RecordStage::AfterKind(_, _, _, _) => matches!(token, Token::Name(_)),
-        RecordStage::AfterField(_, _, _, _, _) => matches!(token, Token::Semicolon),
+        RecordStage::Fields(_, _, _, field) => match field {
+            PartialDeclaration::Start => {
+                matches!(token, Token::Int | Token::Name(_) | Token::CloseBrace)
+            }
+            PartialDeclaration::AfterKind(_) => matches!(token, Token::Name(_)),
+            PartialDeclaration::AfterName(_, _) => matches!(token, Token::Semicolon),
+        },
     }
 }
 
@@ -154,7 +157,7 @@ fn thread_takes(stage: &ThreadStage, token: &Token) -> bool
 /// Whether a token may follow what may be a local's type. No name there begins a statement.
 fn kind_takes(kind: &Kind, token: &Token) -> bool
     ensures { (source : TreeView) (owner : Owner) (locals : List Declaration)
-        → result ≡ is_some (body_step source (BodyStage.AfterKind owner locals kind.now) token.now) }
+        → result ≡ is_some (body_step source owner locals (PartialDeclaration.AfterKind kind.now) token.now) }
 {
     match kind {
         Kind::Int => matches!(token, Token::Name(_)),
@@ -163,16 +166,17 @@ fn kind_takes(kind: &Kind, token: &Token) -> bool
 }
 
 /// Whether the locals, or what may be one, go on with a token.
-fn body_takes(stage: &BodyStage, token: &Token) -> bool
-    ensures { (source : TreeView) → result ≡ is_some (body_step source stage.now token.now) }
+fn local_takes(local: &PartialDeclaration, token: &Token) -> bool
+    ensures { (source : TreeView) (owner : Owner) (locals : List Declaration)
+        → result ≡ is_some (body_step source owner locals local.now token.now) }
 {
-    match stage {
-        BodyStage::Locals(_, _) => match token {
+    match local {
+        PartialDeclaration::Start => match token {
             Token::Int => true,
             _ => starts_with(token),
         },
-        BodyStage::AfterKind(_, _, kind) => kind_takes(kind, token),
-        BodyStage::AfterLocal(_, _, _, _) => matches!(token, Token::Semicolon),
+        PartialDeclaration::AfterKind(kind) => kind_takes(kind, token),
+        PartialDeclaration::AfterName(_, _) => matches!(token, Token::Semicolon),
     }
 }
 
@@ -186,7 +190,7 @@ pub fn outside_takes(outside: &Outside, token: &Token) -> bool
         Outside::Global(stage) => global_takes(stage, token),
         Outside::Procedure(stage) => procedure_takes(stage, token),
         Outside::Thread(stage) => thread_takes(stage, token),
-        Outside::Body(stage) => body_takes(stage, token),
+        Outside::Body(_, _, local) => local_takes(local, token),
     }
 }
 

@@ -1,6 +1,6 @@
 //! One token at the front of a text.
 
-ghost use Rattle.std.specs.Prelude.{◌≡◌, ◌<◌, ◌≤◌, ◌^◌, ℕ, Some, length, drop, take_while, true, false, IfSome};
+ghost use Rattle.std.specs.Prelude.{◌≡◌, ◌<◌, ◌≤◌, ◌^◌, ℕ, Some, None, length, drop, take_while, true, false, IfSome};
 ghost use Rattle.std.specs.List.{list_all};
 ghost use Rattle.sect_front.specs.Words.{is_name_byte as name_byte, begins, is_letter as letter_of};
 ghost use Rattle.sect_front.specs.Gaps.{is_blank as blank_of, begins_with as begins_so, after_gap as gap_of, skip};
@@ -125,105 +125,133 @@ fn number(word: &[u8]) -> Option<u64>
     decimal(word)
 }
 
-/// The keyword or the name that a word is.
-fn word_token(word: &[u8]) -> Token
+/// Puts the keyword or the name that a word is.
+fn word_token(word: &[u8], token: &mut Token)
     requires fits { length word.now ≤ most_name_bytes }
     requires all { list_all name_byte word.now ≡ true }
     requires letter { begins letter_of word.now ≡ true }
-    ensures { result ≡ word_of word.now }
+    ensures { token.new ≡ word_of word.now }
 {
     match keyword(word) {
-        Some(token) => token,
-        None => Token::Name(Name::new(word)),
+        Some(known) => *token = known,
+        None => *token = Token::Name(Name::new(word)),
     }
 }
 
-/// The token that a word is.
-fn word_spelled(word: &[u8]) -> Option<Token>
+/// Puts the token that a word is, and tells whether it is one.
+fn word_spelled(word: &[u8], token: &mut Token) -> bool
     requires all { list_all name_byte word.now ≡ true }
     requires some { 0 < length word.now }
-    ensures { result ≡ spelled word.now }
+    ensures some { result ≡ true → spelled word.now ≡ Some token.new }
+    ensures none { result ≡ false → spelled word.now ≡ None }
 {
     if is_letter(word[0]) {
         if word.len() > MOST_NAME_BYTES {
-            return None;
+            return false;
         }
-        Some(word_token(word))
-    } else {
-        Some(Token::Number(Literal::new(number(word)?)))
+        word_token(word, token);
+        return true;
+    }
+    match number(word) {
+        Some(value) => {
+            *token = Token::Number(Literal::new(value));
+            true
+        }
+        None => false,
     }
 }
 
-/// The sign that this byte is alone.
-fn single(byte: u8) -> Option<Token>
-    ensures { result ≡ single_sign byte }
+/// Puts the sign that this byte is alone, and tells whether it is one.
+fn single(byte: u8, token: &mut Token) -> bool
+    ensures some { result ≡ true → single_sign byte ≡ Some token.new }
+    ensures none { result ≡ false → single_sign byte ≡ None }
 {
     match byte {
-        b'{' => Some(Token::OpenBrace),
-        b'}' => Some(Token::CloseBrace),
-        b'(' => Some(Token::OpenParen),
-        b')' => Some(Token::CloseParen),
-        b';' => Some(Token::Semicolon),
-        b',' => Some(Token::Comma),
-        b'.' => Some(Token::Dot),
-        b'=' => Some(Token::Equal),
-        b'+' => Some(Token::Plus),
-        b'-' => Some(Token::Minus),
-        b'*' => Some(Token::Star),
-        b'<' => Some(Token::Comparison(Comparison::Less)),
-        _ => None,
+        b'{' => *token = Token::OpenBrace,
+        b'}' => *token = Token::CloseBrace,
+        b'(' => *token = Token::OpenParen,
+        b')' => *token = Token::CloseParen,
+        b';' => *token = Token::Semicolon,
+        b',' => *token = Token::Comma,
+        b'.' => *token = Token::Dot,
+        b'=' => *token = Token::Equal,
+        b'+' => *token = Token::Plus,
+        b'-' => *token = Token::Minus,
+        b'*' => *token = Token::Star,
+        b'<' => *token = Token::Comparison(Comparison::Less),
+        _ => return false,
     }
+    true
 }
 
-/// The sign that this byte and `=` are.
-fn double(byte: u8) -> Option<Token>
-    ensures { result ≡ double_sign byte }
+/// Puts the sign that this byte and `=` are, and tells whether they are one.
+fn double(byte: u8, token: &mut Token) -> bool
+    ensures some { result ≡ true → double_sign byte ≡ Some token.new }
+    ensures none { result ≡ false → double_sign byte ≡ None }
 {
     match byte {
-        b'=' => Some(Token::Comparison(Comparison::Equal)),
-        b'!' => Some(Token::Comparison(Comparison::NotEqual)),
-        b'<' => Some(Token::Comparison(Comparison::LessOrEqual)),
-        _ => None,
+        b'=' => *token = Token::Comparison(Comparison::Equal),
+        b'!' => *token = Token::Comparison(Comparison::NotEqual),
+        b'<' => *token = Token::Comparison(Comparison::LessOrEqual),
+        _ => return false,
     }
+    true
 }
 
-/// The sign at the front, and how many bytes it has: the longest first.
-fn sign(first: u8, others: &[u8]) -> Option<(Token, usize)>
-    ensures { result ≡ sign_at first others.now }
+/// Puts the sign at the front, and tells how many bytes it has: the longest first. Where none stands there, 0.
+fn sign(first: u8, others: &[u8], token: &mut Token) -> usize
+    ensures some { 0 < result → sign_at first others.now ≡ Some (token.new, result) }
+    ensures none { result ≡ 0 → sign_at first others.now ≡ None }
 {
-    let long = if begins_with(others, b'=') {
-        double(first)
-    } else {
-        None
-    };
-    match long {
-        Some(token) => Some((token, 2)),
-        None => Some((single(first)?, 1)),
+    if begins_with(others, b'=') && double(first, token) {
+        return 2;
     }
+    if single(first, token) { 1 } else { 0 }
 }
 
-/// The word at the front, and how many bytes it has.
+/// Puts the word at the front, and tells how many bytes it has. Where it is no token, 0.
 #[tactic(auto, using(crate::proofs::Lexemes::names_pass))]
-fn word(bytes: &[u8]) -> Option<(Token, usize)>
+fn word(bytes: &[u8], token: &mut Token) -> usize
     requires { begins_name bytes.now ≡ true }
-    ensures { result ≡ with_length (length (take_while name_byte bytes.now))
-        (spelled (take_while name_byte bytes.now)) }
+    ensures some { 0 < result → with_length (length (take_while name_byte bytes.now))
+        (spelled (take_while name_byte bytes.now)) ≡ Some (token.new, result) }
+    ensures none { result ≡ 0 → with_length (length (take_while name_byte bytes.now))
+        (spelled (take_while name_byte bytes.now)) ≡ None }
 {
     let length = word_length(bytes);
-    let token = word_spelled(&bytes[..length])?;
-    Some((token, length))
+    if word_spelled(&bytes[..length], token) {
+        length
+    } else {
+        0
+    }
+}
+
+/// Puts the token at the front, and tells how many bytes it has. Where none stands there, 0. A token is long, and isn't
+/// moved by this.
+pub fn put_lexeme(bytes: &[u8], token: &mut Token) -> usize
+    ensures some { 0 < result → lexeme_of bytes.now ≡ Some (token.new, result) }
+    ensures none { result ≡ 0 → lexeme_of bytes.now ≡ None }
+{
+    let Some((first, others)) = bytes.split_first() else {
+        return 0;
+    };
+    if is_name_byte(*first) {
+        word(bytes, token)
+    } else {
+        sign(*first, others, token)
+    }
 }
 
 /// The token at the front, and how many bytes it has.
 pub fn lexeme(bytes: &[u8]) -> Option<(Token, usize)>
     ensures { result ≡ lexeme_of bytes.now }
 {
-    let (first, others) = bytes.split_first()?;
-    if is_name_byte(*first) {
-        word(bytes)
-    } else {
-        sign(*first, others)
+    let mut token = Token::Class;
+    let length = put_lexeme(bytes, &mut token);
+    if length == 0 {
+        return None;
     }
+    Some((token, length))
 }
 
 /// The token that stands at the front of these bytes, and how many of them spell it.
@@ -246,10 +274,8 @@ pub fn first_length(bytes: &[u8]) -> usize
     if is_name_byte(*first) {
         return word_length(bytes);
     }
-    match sign(*first, others) {
-        Some((_, count)) => count,
-        None => 0,
-    }
+    let mut token = Token::Class;
+    sign(*first, others, &mut token)
 }
 
 /// What follows so many bytes and the gap behind them.

@@ -1,6 +1,6 @@
 //! The part of a statement that has been read, up to its `;` or `{`.
 
-ghost use Rattle.std.specs.Prelude.{◌≡◌, IfSome, List, ℕ, Some, true, false};
+ghost use Rattle.std.specs.Prelude.{◌≡◌, List, ℕ, Some, true, false};
 ghost use Rattle.sect_front.specs.steps.Advance.{advance_of, assign_step, store_step, branch_step, operand_of};
 ghost use Rattle.sect_front.specs.steps.Advance.{operator_of, comparison_of, first_step, ends_with};
 
@@ -182,6 +182,13 @@ fn assign_goes_on(assign: &mut PartialAssign, token: &Token) -> bool
             *assign = PartialAssign::AfterSecond(v, o, w);
             true
         }
+        PartialAssign::AfterNew => {
+            let Token::Name(r) = token else {
+                return false;
+            };
+            *assign = PartialAssign::AfterRecord(*r);
+            true
+        }
         PartialAssign::AfterDot(y) => {
             let y = *y;
             let Token::Name(f) = token else {
@@ -315,29 +322,43 @@ fn branch_goes_on(head: &mut PartialBranch, token: &Token) -> bool
             *head = PartialBranch::AfterComparison(left, *comparison);
             true
         }
-        _ => false,
+        PartialBranch::AfterComparison(left, comparison) => {
+            let (left, comparison) = (*left, *comparison);
+            comparison_goes_on(head, left, comparison, token)
+        }
+        PartialBranch::AfterRight(test) => {
+            let test = *test;
+            let Token::CloseParen = token else {
+                return false;
+            };
+            *head = PartialBranch::AfterClose(test);
+            true
+        }
+        PartialBranch::AfterClose(_) => false,
     }
 }
 
-/// The statement without a block that `;` ends here, if it ends one.
-pub fn ended(line: &PartialHead) -> Option<Primitive>
-    ensures { IfSome result (λ primitive. advance_of line.now Token.Semicolon ≡ Some (Move.Whole primitive)) }
+/// Puts what a token after a comparison leads to in the place of a test, if it leads to something.
+fn comparison_goes_on(
+    head: &mut PartialBranch,
+    left: Operand,
+    comparison: Comparison,
+    token: &Token,
+) -> bool
+    ensures goes { (branch : Branch) → result ≡ true
+        → branch_step branch (PartialBranch.AfterComparison left comparison) token.now
+        ≡ Some (Move.To (PartialHead.Branch branch head.new)) }
+    ensures stays { result ≡ false → head.new ≡ head.old }
 {
-    match line {
-        PartialHead::Assign(x, assign) => match assign {
-            PartialAssign::AfterFirstName(y) => Some(Primitive::Assign(*x, Operand::Name(*y))),
-            PartialAssign::AfterFirst(v) => Some(Primitive::Assign(*x, *v)),
-            PartialAssign::AfterSecond(v, o, w) => Some(Primitive::Compute(*x, *v, *o, *w)),
-            PartialAssign::AfterRecord(r) => Some(Primitive::New(*x, *r)),
-            PartialAssign::AfterField(y, f) => Some(Primitive::Load(*x, *y, *f)),
-            _ => None,
-        },
-        PartialHead::Store(y, store) => match store {
-            PartialStore::AfterValue(f, v) => Some(Primitive::Store(*y, *f, *v)),
-            _ => None,
-        },
-        _ => None,
-    }
+    let Some(right) = operand(token) else {
+        return false;
+    };
+    *head = PartialBranch::AfterRight(Test {
+        left,
+        comparison,
+        right,
+    });
+    true
 }
 
 /// The statement after one more token, unless none goes on so.

@@ -8,7 +8,9 @@ use crate::items::Items;
 use crate::name::Name;
 use crate::partial::PartialHead;
 use crate::token::Token;
-use crate::tree::{Block, Declarations, GlobalObject, Kind, Procedure, Record, Thread, Tree};
+use crate::tree::{
+    Block, Declaration, Declarations, GlobalObject, Kind, Procedure, Record, Thread, Tree,
+};
 use crate::within::{StepError, Within};
 use std::alloc::{AllocError, Global};
 use std::marker::Model;
@@ -23,15 +25,73 @@ pub enum Part {
     Threads,
 }
 
+/// What has been read of a field or a local.
+#[derive(Clone, Copy)]
+pub enum PartialDeclaration {
+    Start,
+    AfterKind(Kind),
+    AfterName(Kind, Name),
+}
+
+impl PartialDeclaration {
+    ghost use Rattle.std.specs.Prelude.{List, ℕ};
+    ghost use Rattle.sect_front.specs.{TreeView.{TreeView}, steps.Read.{body_step, at_body, record_step, at_record}};
+
+    /// Has a field or a local begin or go on by a token in its place. Where the token leads to something else, nothing
+    /// changes.
+    fn goes_on(&mut self, token: &Token) -> bool
+        ensures locals { (source : TreeView) (owner : Owner) (locals : List Declaration) → result ≡ true
+            → body_step source owner locals self.old token.now ≡ at_body source owner locals self.new }
+        ensures fields { (source : TreeView) (name : List ℕ) (hints : List (List ℕ)) (fields : List Declaration)
+            → result ≡ true → record_step source (RecordStage.Fields name hints fields self.old) token.now
+            ≡ at_record source (RecordStage.Fields name hints fields self.new) }
+        ensures stays { result ≡ false → self.new ≡ self.old }
+    {
+        let next = match self {
+            PartialDeclaration::Start => match token {
+                Token::Int => PartialDeclaration::AfterKind(Kind::Int),
+                Token::Name(of) => PartialDeclaration::AfterKind(Kind::Record(*of)),
+                _ => return false,
+            },
+            PartialDeclaration::AfterKind(kind) => match token {
+                Token::Name(name) => PartialDeclaration::AfterName(*kind, *name),
+                _ => return false,
+            },
+            PartialDeclaration::AfterName(_, _) => return false,
+        };
+        *self = next;
+        true
+    }
+}
+
 /// What has been read of a record.
 #[derive(Drop)]
 pub enum RecordStage {
     AfterWord,
     Head(Name, Items<Name>),
     AfterProtectedBy(Name, Items<Name>),
-    Fields(Name, Items<Name>, Declarations),
-    AfterKind(Name, Items<Name>, Declarations, Kind),
-    AfterField(Name, Items<Name>, Declarations, Kind, Name),
+    Fields(Name, Items<Name>, Declarations, PartialDeclaration),
+}
+
+impl RecordStage {
+    ghost use Rattle.sect_front.specs.{TreeView.{TreeView}, steps.Read.{record_step, at_record}};
+
+    /// Has a `;` end a field. Where it ends none, nothing changes.
+    fn ends_field(&mut self) -> Result<bool, AllocError>
+        ensures ends { IfOk result (λ ends. (source : TreeView) → ends ≡ true
+            → record_step source self.old Token.Semicolon ≡ at_record source self.new) }
+        ensures stays { IfOk result (λ ends. ends ≡ false → self.new ≡ self.old) }
+    {
+        let RecordStage::Fields(_, _, fields, field) = self else {
+            return Ok(false);
+        };
+        let PartialDeclaration::AfterName(kind, name) = field else {
+            return Ok(false);
+        };
+        fields.push(*kind, *name)?;
+        *field = PartialDeclaration::Start;
+        Ok(true)
+    }
 }
 
 /// What has been read of a global.
@@ -40,6 +100,30 @@ pub enum GlobalStage {
     AfterWord,
     AfterRecord(Name),
     AfterName(Name, Name),
+}
+
+impl GlobalStage {
+    ghost use Rattle.std.specs.Prelude.{Some};
+    ghost use Rattle.sect_front.specs.TreeView.{TreeView};
+    ghost use Rattle.sect_front.specs.steps.{Read.{global_step}, ReaderView.{reading}};
+
+    /// Has a global go on by a name in its place. Where a token leads to something else, nothing changes.
+    fn goes_on(&mut self, token: &Token) -> bool
+        ensures goes { (source : TreeView) → result ≡ true
+            → global_step source self.old token.now ≡ Some (reading source (Outside.Global self.new)) }
+        ensures stays { result ≡ false → self.new ≡ self.old }
+    {
+        let Token::Name(name) = token else {
+            return false;
+        };
+        let next = match self {
+            GlobalStage::AfterWord => GlobalStage::AfterRecord(*name),
+            GlobalStage::AfterRecord(of) => GlobalStage::AfterName(*of, *name),
+            GlobalStage::AfterName(_, _) => return false,
+        };
+        *self = next;
+        true
+    }
 }
 
 /// What has been read of a procedure, up to its `{`.
@@ -84,14 +168,6 @@ impl Owner {
     }
 }
 
-/// What has been read of the locals of a procedure or a thread.
-#[derive(Drop)]
-pub enum BodyStage {
-    Locals(Owner, Declarations),
-    AfterKind(Owner, Declarations, Kind),
-    AfterLocal(Owner, Declarations, Kind, Name),
-}
-
 /// Where the next token stands, outside of statements.
 #[derive(Drop)]
 pub enum Outside {
@@ -100,7 +176,52 @@ pub enum Outside {
     Global(GlobalStage),
     Procedure(ProcedureStage),
     Thread(ThreadStage),
-    Body(BodyStage),
+    /// Among the locals of a procedure or a thread.
+    Body(Owner, Declarations, PartialDeclaration),
+}
+
+impl Outside {
+    ghost use Rattle.std.specs.Prelude.{Some};
+    ghost use Rattle.sect_front.specs.TreeView.{TreeView};
+    ghost use Rattle.sect_front.specs.steps.{Read.{read_outside}, ReaderView.{reading}};
+
+    /// Takes a token of a field, a global or a local so that nothing is moved. Where the token leads to something else,
+    /// nothing changes.
+    fn takes_in_place(&mut self, token: &Token) -> bool
+        ensures goes { (source : TreeView) → result ≡ true
+            → read_outside source self.old token.now ≡ Some (reading source self.new) }
+        ensures stays { result ≡ false → self.new ≡ self.old }
+    {
+        match self {
+            Outside::Record(RecordStage::Fields(_, _, _, field)) => field.goes_on(token),
+            Outside::Global(global) => global.goes_on(token),
+            Outside::Body(_, _, local) => local.goes_on(token),
+            _ => false,
+        }
+    }
+
+    /// Takes a `;` that ends a field or a local. Where it ends none, and where another token stands, nothing changes.
+    fn ends_declaration(&mut self, token: &Token) -> Result<bool, AllocError>
+        ensures ends { IfOk result (λ ends. (source : TreeView) → ends ≡ true
+            → read_outside source self.old token.now ≡ Some (reading source self.new)) }
+        ensures stays { IfOk result (λ ends. ends ≡ false → self.new ≡ self.old) }
+    {
+        let Token::Semicolon = token else {
+            return Ok(false);
+        };
+        match self {
+            Outside::Record(record) => record.ends_field(),
+            Outside::Body(_, locals, local) => {
+                let PartialDeclaration::AfterName(kind, name) = local else {
+                    return Ok(false);
+                };
+                locals.push(*kind, *name)?;
+                *local = PartialDeclaration::Start;
+                Ok(true)
+            }
+            _ => Ok(false),
+        }
+    }
 }
 
 /// Where in a text the next token stands.
@@ -216,25 +337,26 @@ impl Reader {
         self.take(alloc, token)
     }
 
-    /// Takes a token of a statement so that nothing is moved. Where the token leads to something else, nothing changes.
+    /// Takes a token of a declaration or a statement so that nothing is moved. Where the token leads to something else,
+    /// nothing changes.
     fn takes_in_place(&mut self, token: &Token) -> bool
         ensures goes { result ≡ true → read_one self.old token.now ≡ Some self.new }
         ensures stays { result ≡ false → self.new ≡ self.old }
     {
         match &mut self.stage {
-            Stage::Outside(_) => false,
+            Stage::Outside(outside) => outside.takes_in_place(token),
             Stage::Inside(_, _, within) => within.takes_in_place(token),
         }
     }
 
-    /// Takes a `;` that ends a statement without a block. Where it ends none, and where another token stands, nothing
-    /// changes.
+    /// Takes a `;` that ends a field, a local or a statement without a block. Where it ends none, and where another
+    /// token stands, nothing changes.
     fn ends_statement(&mut self, token: &Token) -> Result<bool, AllocError>
         ensures ends { IfOk result (λ ends. ends ≡ true → read_one self.old token.now ≡ Some self.new) }
         ensures stays { IfOk result (λ ends. ends ≡ false → self.new ≡ self.old) }
     {
         match &mut self.stage {
-            Stage::Outside(_) => Ok(false),
+            Stage::Outside(outside) => outside.ends_declaration(token),
             Stage::Inside(_, _, within) => within.ends_statement(token),
         }
     }
@@ -265,7 +387,8 @@ impl Reader {
         }
     }
 
-    /// A token outside of statements.
+    /// A token outside of statements. Most of them are taken in place, and come here rarely.
+    #[inline(never)]
     fn outside(&mut self, alloc: Global, outside: Outside, token: Token) -> Result<(), StepError>
         ensures { Reads result self.new (read_outside self.old.source outside token) }
     {
@@ -275,7 +398,7 @@ impl Reader {
             Outside::Global(global) => self.global(global, token),
             Outside::Procedure(procedure) => self.procedure(alloc, procedure, token),
             Outside::Thread(thread) => self.thread(alloc, thread, token),
-            Outside::Body(body) => self.body(alloc, body, token),
+            Outside::Body(owner, locals, local) => self.body(alloc, owner, locals, local, token),
         }
     }
 
@@ -314,24 +437,17 @@ impl Reader {
             },
             RecordStage::Head(name, hints) => match token {
                 Token::ProtectedBy => RecordStage::AfterProtectedBy(name, hints),
-                Token::OpenBrace => RecordStage::Fields(name, hints, Declarations::new(alloc)),
+                Token::OpenBrace => {
+                    let fields = Declarations::new(alloc);
+                    RecordStage::Fields(name, hints, fields, PartialDeclaration::Start)
+                }
                 _ => return Err(StepError::Unexpected),
             },
             RecordStage::AfterProtectedBy(name, hints) => {
                 return self.hint(name, hints, token);
             }
-            RecordStage::Fields(name, hints, fields) => match token {
-                Token::Int => RecordStage::AfterKind(name, hints, fields, Kind::Int),
-                Token::Name(of) => RecordStage::AfterKind(name, hints, fields, Kind::Record(of)),
-                Token::CloseBrace => return self.end_record(name, hints, fields),
-                _ => return Err(StepError::Unexpected),
-            },
-            RecordStage::AfterKind(name, hints, fields, kind) => match token {
-                Token::Name(field) => RecordStage::AfterField(name, hints, fields, kind, field),
-                _ => return Err(StepError::Unexpected),
-            },
-            RecordStage::AfterField(name, hints, fields, kind, field) => {
-                return self.after_field(name, hints, fields, kind, field, token);
+            RecordStage::Fields(name, hints, fields, field) => {
+                return self.field(name, hints, fields, field, token);
             }
         };
         self.lead_to(Stage::Outside(Outside::Record(next)));
@@ -354,28 +470,40 @@ impl Reader {
         }
     }
 
-    /// A token after a field.
-    fn after_field(
+    /// A token among the fields of a record.
+    fn field(
         &mut self,
         name: Name,
         hints: Items<Name>,
         mut fields: Declarations,
-        kind: Kind,
-        field: Name,
+        field: PartialDeclaration,
         token: Token,
     ) -> Result<(), StepError>
         ensures { Reads result self.new
-            (record_step self.old.source (RecordStage.AfterField name hints fields kind field) token) }
+            (record_step self.old.source (RecordStage.Fields name hints fields field) token) }
     {
-        match token {
-            Token::Semicolon => {
-                fields.push(kind, field)?;
-                let next = RecordStage::Fields(name, hints, fields);
-                self.lead_to(Stage::Outside(Outside::Record(next)));
-                Ok(())
-            }
-            _ => Err(StepError::Unexpected),
-        }
+        let next = match field {
+            PartialDeclaration::Start => match token {
+                Token::Int => PartialDeclaration::AfterKind(Kind::Int),
+                Token::Name(of) => PartialDeclaration::AfterKind(Kind::Record(of)),
+                Token::CloseBrace => return self.end_record(name, hints, fields),
+                _ => return Err(StepError::Unexpected),
+            },
+            PartialDeclaration::AfterKind(kind) => match token {
+                Token::Name(x) => PartialDeclaration::AfterName(kind, x),
+                _ => return Err(StepError::Unexpected),
+            },
+            PartialDeclaration::AfterName(kind, x) => match token {
+                Token::Semicolon => {
+                    fields.push(kind, x)?;
+                    PartialDeclaration::Start
+                }
+                _ => return Err(StepError::Unexpected),
+            },
+        };
+        let next = RecordStage::Fields(name, hints, fields, next);
+        self.lead_to(Stage::Outside(Outside::Record(next)));
+        Ok(())
     }
 
     /// The closing brace of a record.
@@ -520,8 +648,9 @@ impl Reader {
         match token {
             Token::OpenBrace => {
                 let owner = Owner::Procedure(name, parameters);
-                let body = BodyStage::Locals(owner, Declarations::new(alloc));
-                self.lead_to(Stage::Outside(Outside::Body(body)));
+                let locals = Declarations::new(alloc);
+                let body = Outside::Body(owner, locals, PartialDeclaration::Start);
+                self.lead_to(Stage::Outside(body));
                 Ok(())
             }
             _ => Err(StepError::Unexpected),
@@ -538,10 +667,11 @@ impl Reader {
                 _ => return Err(StepError::Unexpected),
             },
             ThreadStage::AfterName(name) => match token {
-                Token::OpenBrace => Outside::Body(BodyStage::Locals(
+                Token::OpenBrace => Outside::Body(
                     Owner::Thread(name),
                     Declarations::new(alloc),
-                )),
+                    PartialDeclaration::Start,
+                ),
                 _ => return Err(StepError::Unexpected),
             },
         };
@@ -550,28 +680,35 @@ impl Reader {
     }
 
     /// A token of a procedure or a thread from its `{` on.
-    fn body(&mut self, alloc: Global, stage: BodyStage, token: Token) -> Result<(), StepError>
-        ensures { Reads result self.new (body_step self.old.source stage token) }
+    fn body(
+        &mut self,
+        alloc: Global,
+        owner: Owner,
+        mut locals: Declarations,
+        local: PartialDeclaration,
+        token: Token,
+    ) -> Result<(), StepError>
+        ensures { Reads result self.new (body_step self.old.source owner locals local token) }
     {
-        let next = match stage {
-            BodyStage::Locals(owner, locals) => match token {
-                Token::Int => BodyStage::AfterKind(owner, locals, Kind::Int),
-                Token::Name(of) => BodyStage::AfterKind(owner, locals, Kind::Record(of)),
+        let next = match local {
+            PartialDeclaration::Start => match token {
+                Token::Int => PartialDeclaration::AfterKind(Kind::Int),
+                Token::Name(of) => PartialDeclaration::AfterKind(Kind::Record(of)),
                 _ => return self.inside(alloc, owner, locals, Within::new(alloc), token),
             },
-            BodyStage::AfterKind(owner, locals, kind) => match token {
-                Token::Name(local) => BodyStage::AfterLocal(owner, locals, kind, local),
+            PartialDeclaration::AfterKind(kind) => match token {
+                Token::Name(name) => PartialDeclaration::AfterName(kind, name),
                 _ => return self.after_kind(alloc, owner, locals, kind, token),
             },
-            BodyStage::AfterLocal(owner, mut locals, kind, local) => match token {
+            PartialDeclaration::AfterName(kind, name) => match token {
                 Token::Semicolon => {
-                    locals.push(kind, local)?;
-                    BodyStage::Locals(owner, locals)
+                    locals.push(kind, name)?;
+                    PartialDeclaration::Start
                 }
                 _ => return Err(StepError::Unexpected),
             },
         };
-        self.lead_to(Stage::Outside(Outside::Body(next)));
+        self.lead_to(Stage::Outside(Outside::Body(owner, locals, next)));
         Ok(())
     }
 

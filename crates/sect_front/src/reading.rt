@@ -12,7 +12,7 @@ ghost use Rattle.sect_front.specs.declared.reader.Part.TheVariants as Part;
 
 use crate::expecting::kinds_taken;
 use crate::gaps::pass_gap;
-use crate::lexer::{behind, lexeme};
+use crate::lexer::{behind, lexeme, put_lexeme};
 use crate::limits::MOST_DEPTH;
 use crate::reader::Reader;
 use crate::span::Span;
@@ -103,12 +103,14 @@ fn take_all(
     ensures gaps { AreGaps bytes.now gaps.new.items }
 {
     let mut level = 0;
+    let mut token = Token::Class;
     let mut here = pass_gap(bytes, bytes, gaps)?;
     while !here.is_empty() {
         let at = bytes.len() - here.len();
-        let Some((token, length)) = lexeme(here) else {
+        let length = put_lexeme(here, &mut token);
+        if length == 0 {
             return Err(ReadFault::Bad(at));
-        };
+        }
         let span = Span {
             start: at,
             end: at + length,

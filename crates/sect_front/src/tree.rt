@@ -145,6 +145,8 @@ impl Block {
     }
 
     /// Adds a statement at the end.
+    // what is added is put where it stands
+    #[inline(always)]
     #[tactic(auto, using(crate::proofs::Bodies::body_of_push))]
     pub fn push(&mut self, statement: Statement) -> Result<(), AllocError>
         ensures ok { OnOk result (self.new ≡ append self.old (statement_of statement)) }

@@ -7,10 +7,11 @@ use crate::expecting::{call_takes, then_takes};
 use crate::items::Items;
 use crate::name::Name;
 use crate::partial::{
-    Branch, Move, PartialBranch, PartialCall, PartialHead, advance, ended, goes_on, operand,
+    Branch, Move, PartialAssign, PartialBranch, PartialCall, PartialHead, PartialStore, advance,
+    goes_on, operand,
 };
 use crate::token::Token;
-use crate::tree::{Block, Locking, Operand, Statement, Test};
+use crate::tree::{Block, Locking, Operand, Primitive, Statement, Test};
 use std::alloc::{AllocError, AllocFailed, Global};
 use std::marker::Model;
 use std::mem;
@@ -26,8 +27,8 @@ pub enum OpenBlock {
 
 /// Where in a statement the next token stands.
 pub enum Partial {
-    Start,
-    Inside(PartialHead),
+    /// In the part of a statement up to its `;` or `{`, if that has begun.
+    Head(Option<PartialHead>),
     InCall(PartialCall),
     AfterThen(Test, Block),
     AfterElse(Test, Block),
@@ -36,7 +37,7 @@ pub enum Partial {
 impl Drop for Partial {
     fn drop(self) {
         match self {
-            Partial::Start | Partial::Inside(_) => {}
+            Partial::Head(_) => {}
             Partial::InCall(call) => drop(call),
             Partial::AfterThen(_, then) | Partial::AfterElse(_, then) => drop(then),
         }
@@ -94,32 +95,33 @@ impl Model for Within {
 }
 
 impl Within {
-    ghost use Rattle.std.specs.Prelude.{IfOk, true, false};
+    ghost use Rattle.std.specs.Prelude.{List, Some, None, IfOk, true, false};
+    ghost use Rattle.sect_front.specs.Syntax.{BlockView};
     ghost use Rattle.sect_front.specs.steps.Step.{Steps, Stays, IsKept, LeadsTo, start_step, close_step, call_step};
-    ghost use Rattle.sect_front.specs.steps.Step.{argument_step, after_then, moved, stays, step_of};
+    ghost use Rattle.sect_front.specs.steps.Step.{argument_step, after_then, moved, moved_if, stays, step_of};
     ghost use Rattle.sect_front.specs.steps.Taking.{is_taken};
-    ghost use Rattle.sect_front.specs.steps.Advance.{operand_of};
+    ghost use Rattle.sect_front.specs.steps.Advance.{operand_of, advance_of, assign_step};
     ghost use Rattle.sect_front.specs.Trees.{append, statement_of};
 
     /// No statements.
     pub fn new(alloc: Global) -> Within
-        ensures { result ≡ record { open_blocks = []; before = End; place = Partial.Start } }
+        ensures { result ≡ record { open_blocks = []; before = End; place = Partial.Head None } }
     {
         Within {
             open_blocks: Vec::new(alloc),
             before: Block::new(alloc),
-            place: Partial::Start,
+            place: Partial::Head(None),
         }
     }
 
     /// The statements of which the first has begun so.
     pub fn begun(alloc: Global, line: PartialHead) -> Within
-        ensures { result ≡ record { open_blocks = []; before = End; place = Partial.Inside line } }
+        ensures { result ≡ record { open_blocks = []; before = End; place = Partial.Head (Some line) } }
     {
         Within {
             open_blocks: Vec::new(alloc),
             before: Block::new(alloc),
-            place: Partial::Inside(line),
+            place: Partial::Head(Some(line)),
         }
     }
 
@@ -144,36 +146,136 @@ impl Within {
         ensures stays { result ≡ false → self.new ≡ self.old }
     {
         match &mut self.place {
-            Partial::Start => match token {
-                Token::Name(x) => {
-                    self.place = Partial::Inside(PartialHead::AfterName(*x));
-                    true
-                }
-                _ => false,
+            Partial::Head(head) => match head {
+                None => Within::begins(head, token),
+                Some(line) => goes_on(line, token),
             },
-            Partial::Inside(line) => goes_on(line, token),
+            _ => false,
+        }
+    }
+
+    /// Sets the next token to the start of a statement.
+    fn lead_to_start(&mut self)
+        ensures { self.new ≡ record {
+          open_blocks = self.old.open_blocks;
+          before = self.old.before;
+          place = Partial.Head None;
+        } }
+    {
+        match &mut self.place {
+            // mostly a statement has ended, and nothing is moved or dropped by this
+            Partial::Head(head) => *head = None,
+            _ => self.place = Partial::Head(None),
+        }
+    }
+
+    /// Puts what a token at the start of a statement leads to in its place, unless it is a call's or ends a block: then
+    /// nothing changes.
+    fn begins(head: &mut Option<PartialHead>, token: &Token) -> bool
+        ensures goes { (open_blocks : List OpenBlock) (before : BlockView) → result ≡ true
+            → start_step open_blocks before token.now ≡ stays open_blocks before (Partial.Head head.new) }
+        ensures stays { result ≡ false → head.new ≡ head.old }
+    {
+        match token {
+            Token::Name(x) => {
+                *head = Some(PartialHead::AfterName(*x));
+                true
+            }
+            Token::Print => {
+                *head = Some(PartialHead::AfterPrint);
+                true
+            }
+            Token::If => {
+                *head = Some(PartialHead::Branch(Branch::If, PartialBranch::AfterWord));
+                true
+            }
+            Token::While => {
+                *head = Some(PartialHead::Branch(Branch::While, PartialBranch::AfterWord));
+                true
+            }
+            Token::Atomic => {
+                *head = Some(PartialHead::AfterAtomic);
+                true
+            }
             _ => false,
         }
     }
 
     /// Takes a `;` that ends a statement without a block. Where it ends none, and where another token stands, nothing
     /// changes.
-    #[inline(never)]
     pub fn ends_statement(&mut self, token: &Token) -> Result<bool, AllocError>
         ensures ends { IfOk result (λ ends. ends ≡ true → step_of self.old token.now ≡ Stays self.new) }
         ensures stays { IfOk result (λ ends. ends ≡ false → self.new ≡ self.old) }
     {
-        let Token::Semicolon = token else {
+        match token {
+            Token::Semicolon => self.ends(),
+            _ => Ok(false),
+        }
+    }
+
+    /// Ends a statement without a block by `;`. Where that ends none, nothing changes.
+    #[inline(never)]
+    fn ends(&mut self) -> Result<bool, AllocError>
+        ensures ends { IfOk result (λ ends. ends ≡ true → step_of self.old Token.Semicolon ≡ Stays self.new) }
+        ensures stays { IfOk result (λ ends. ends ≡ false → self.new ≡ self.old) }
+    {
+        let Partial::Head(Some(line)) = &self.place else {
             return Ok(false);
         };
-        let Partial::Inside(line) = &self.place else {
+        if !Within::push_ended(&mut self.before, line)? {
             return Ok(false);
-        };
-        let Some(primitive) = ended(line) else {
-            return Ok(false);
-        };
-        self.before.push(Statement::Primitive(primitive))?;
-        self.lead_to(Partial::Start);
+        }
+        self.lead_to_start();
+        Ok(true)
+    }
+
+    /// Adds the statement without a block that `;` ends here, if it ends one.
+    fn push_ended(before: &mut Block, line: &PartialHead) -> Result<bool, AllocError>
+        ensures ends { IfOk result (λ ends. (open_blocks : List OpenBlock) → ends ≡ true
+            → moved_if open_blocks before.old (advance_of line.now Token.Semicolon)
+            ≡ stays open_blocks before.new (Partial.Head None)) }
+        ensures stays { IfOk result (λ ends. ends ≡ false → before.new ≡ before.old) }
+    {
+        match line {
+            PartialHead::Assign(x, assign) => Within::push_assign(before, x, assign),
+            PartialHead::Store(y, store) => {
+                let PartialStore::AfterValue(f, v) = store else {
+                    return Ok(false);
+                };
+                before.push(Statement::Primitive(Primitive::Store(*y, *f, *v)))?;
+                Ok(true)
+            }
+            _ => Ok(false),
+        }
+    }
+
+    /// Adds the statement that `;` ends behind a name and `=`, if it ends one.
+    fn push_assign(before: &mut Block, x: &Name, assign: &PartialAssign) -> Result<bool, AllocError>
+        ensures ends { IfOk result (λ ends. (open_blocks : List OpenBlock) → ends ≡ true
+            → moved_if open_blocks before.old (assign_step x.now assign.now Token.Semicolon)
+            ≡ stays open_blocks before.new (Partial.Head None)) }
+        ensures stays { IfOk result (λ ends. ends ≡ false → before.new ≡ before.old) }
+    {
+        // each adds its own, so that no statement is moved from one place to another
+        match assign {
+            PartialAssign::AfterFirstName(y) => {
+                let value = Operand::Name(*y);
+                before.push(Statement::Primitive(Primitive::Assign(*x, value)))?;
+            }
+            PartialAssign::AfterFirst(v) => {
+                before.push(Statement::Primitive(Primitive::Assign(*x, *v)))?;
+            }
+            PartialAssign::AfterSecond(v, o, w) => {
+                before.push(Statement::Primitive(Primitive::Compute(*x, *v, *o, *w)))?;
+            }
+            PartialAssign::AfterRecord(r) => {
+                before.push(Statement::Primitive(Primitive::New(*x, *r)))?;
+            }
+            PartialAssign::AfterField(y, f) => {
+                before.push(Statement::Primitive(Primitive::Load(*x, *y, *f)))?;
+            }
+            _ => return Ok(false),
+        }
         Ok(true)
     }
 
@@ -183,9 +285,9 @@ impl Within {
         ensures kept { IsKept result self.old self.new }
     {
         match &mut self.place {
-            Partial::Start => self.start(alloc, token),
+            Partial::Head(None) => self.start(alloc, token),
             // What has been read stays where it is until a token is taken.
-            Partial::Inside(line) => match advance(line, token) {
+            Partial::Head(Some(line)) => match advance(line, token) {
                 None => Err(StepError::Unexpected),
                 Some(Move::To(next)) => {
                     *line = next;
@@ -248,7 +350,7 @@ impl Within {
         then: Block,
     ) -> Result<Option<Block>, AllocError>
         ensures { IfOk result (λ body. LeadsTo body self.new
-            (stays (OpenBlock.Else self.old.before test then ∷ self.old.open_blocks) End Partial.Start)) }
+            (stays (OpenBlock.Else self.old.before test then ∷ self.old.open_blocks) End (Partial.Head None))) }
     {
         let before = mem::replace(&mut self.before, Block::new(alloc));
         self.open(OpenBlock::Else(before, test, then))
@@ -257,20 +359,20 @@ impl Within {
     /// Adds a statement that has been read whole.
     fn add(&mut self, statement: Statement) -> Result<Option<Block>, AllocError>
         ensures { IfOk result (λ body. LeadsTo body self.new
-            (stays self.old.open_blocks (append self.old.before (statement_of statement)) Partial.Start)) }
+            (stays self.old.open_blocks (append self.old.before (statement_of statement)) (Partial.Head None))) }
     {
         self.before.push(statement)?;
-        self.lead_to(Partial::Start);
+        self.lead_to_start();
         Ok(None)
     }
 
     /// Opens this block.
     fn open(&mut self, open_block: OpenBlock) -> Result<Option<Block>, AllocError>
         ensures { IfOk result (λ body. LeadsTo body self.new
-            (stays (open_block ∷ self.old.open_blocks) self.old.before Partial.Start)) }
+            (stays (open_block ∷ self.old.open_blocks) self.old.before (Partial.Head None))) }
     {
         self.open_blocks.push(open_block)?;
-        self.lead_to(Partial::Start);
+        self.lead_to_start();
         Ok(None)
     }
 
@@ -279,20 +381,20 @@ impl Within {
         ensures steps { Steps result self.new (start_step self.old.open_blocks self.old.before token.now) }
         ensures kept { IsKept result self.old self.new }
     {
-        let next = match token {
-            Token::Name(x) => Partial::Inside(PartialHead::AfterName(*x)),
-            Token::Print => Partial::Inside(PartialHead::AfterPrint),
-            Token::If => Partial::Inside(PartialHead::Branch(Branch::If, PartialBranch::AfterWord)),
-            Token::While => Partial::Inside(PartialHead::Branch(
-                Branch::While,
-                PartialBranch::AfterWord,
-            )),
-            Token::Atomic => Partial::Inside(PartialHead::AfterAtomic),
-            Token::Call => Partial::InCall(PartialCall::AfterWord),
+        let line = match token {
+            Token::Name(x) => PartialHead::AfterName(*x),
+            Token::Print => PartialHead::AfterPrint,
+            Token::If => PartialHead::Branch(Branch::If, PartialBranch::AfterWord),
+            Token::While => PartialHead::Branch(Branch::While, PartialBranch::AfterWord),
+            Token::Atomic => PartialHead::AfterAtomic,
+            Token::Call => {
+                self.lead_to(Partial::InCall(PartialCall::AfterWord));
+                return Ok(None);
+            }
             Token::CloseBrace => return Ok(self.close(alloc)?),
             _ => return Err(StepError::Unexpected),
         };
-        self.lead_to(next);
+        self.lead_to(Partial::Head(Some(line)));
         Ok(None)
     }
 
@@ -421,7 +523,7 @@ impl Within {
     {
         match to {
             Move::To(line) => {
-                self.lead_to(Partial::Inside(line));
+                self.lead_to(Partial::Head(Some(line)));
                 Ok(None)
             }
             Move::Whole(primitive) => self.add(Statement::Primitive(primitive)),

@@ -37,6 +37,10 @@ impl Row {
     pub fn push(&mut self, placed: &ThreadAction) -> Result<(), AllocError>
         ensures { OnOk result (self.new ≡ self.old ++ placed.now ∷ []) }
     {
+        // most locals are read by one statement or two
+        if self.statements.is_empty() {
+            self.statements.reserve_exact(2)?;
+        }
         self.statements.push(ThreadAction {
             thread: placed.thread,
             action: placed.action,

@@ -7,7 +7,7 @@ use Rattle.sect_front.specs.{declared.tree.Declaration.{Declaration}, declared.t
 use Rattle.sect_front.specs.{declared.within.StepError.{StepError}, declared.reader.Part.{Part}}
 use Rattle.sect_front.specs.{declared.reader.RecordStage.{RecordStage}, declared.reader.GlobalStage.{GlobalStage}}
 use Rattle.sect_front.specs.{declared.reader.ProcedureStage.{ProcedureStage}, declared.reader.ThreadStage.{ThreadStage}}
-use Rattle.sect_front.specs.{declared.reader.Owner.{Owner}, declared.reader.BodyStage.{BodyStage}}
+use Rattle.sect_front.specs.{declared.reader.Owner.{Owner}, declared.reader.PartialDeclaration.{PartialDeclaration}}
 use Rattle.sect_front.specs.{declared.reader.Outside.{Outside}, declared.reader.Stage.{Stage}}
 use Rattle.sect_front.specs.steps.{WithinView.{WithinView}, Step.{Next, Stays, Ends, Stuck, step_of}}
 use Rattle.sect_front.specs.steps.ReaderView.{ReaderView, reading, among}
@@ -22,7 +22,7 @@ use Rattle.sect_front.specs.declared.reader.GlobalStage.TheVariants as in_global
 use Rattle.sect_front.specs.declared.reader.ProcedureStage.TheVariants as in_procedure
 use Rattle.sect_front.specs.declared.reader.ThreadStage.TheVariants as in_thread
 use Rattle.sect_front.specs.declared.reader.Owner.TheVariants as owner
-use Rattle.sect_front.specs.declared.reader.BodyStage.TheVariants as in_body
+use Rattle.sect_front.specs.declared.reader.PartialDeclaration.TheVariants as partial
 use Rattle.sect_front.specs.declared.reader.Outside.TheVariants as outside
 use Rattle.sect_front.specs.declared.reader.Stage.TheVariants as stage
 
@@ -64,14 +64,17 @@ end_record_step s n hs fs =
 abbrev pub record_step : TreeView → RecordStage → Token → Option ReaderView
 record_step s in_record.AfterWord (token.Name n) = at_record s (in_record.Head n [])
 record_step s (in_record.Head n hs) token.ProtectedBy = at_record s (in_record.AfterProtectedBy n hs)
-record_step s (in_record.Head n hs) token.OpenBrace = at_record s (in_record.Fields n hs [])
+record_step s (in_record.Head n hs) token.OpenBrace = at_record s (in_record.Fields n hs [] partial.Start)
 record_step s (in_record.AfterProtectedBy n hs) (token.Name h) = at_record s (in_record.Head n (hs ++ h ∷ []))
-record_step s (in_record.Fields n hs fs) token.Int = at_record s (in_record.AfterKind n hs fs kind.Int)
-record_step s (in_record.Fields n hs fs) (token.Name r) = at_record s (in_record.AfterKind n hs fs (kind.Record r))
-record_step s (in_record.Fields n hs fs) token.CloseBrace = end_record_step s n hs fs
-record_step s (in_record.AfterKind n hs fs k) (token.Name f) = at_record s (in_record.AfterField n hs fs k f)
-record_step s (in_record.AfterField n hs fs k f) token.Semicolon =
-    at_record s (in_record.Fields n hs (fs ++ record { kind = k; name = f } ∷ []))
+record_step s (in_record.Fields n hs fs partial.Start) token.Int =
+    at_record s (in_record.Fields n hs fs (partial.AfterKind kind.Int))
+record_step s (in_record.Fields n hs fs partial.Start) (token.Name r) =
+    at_record s (in_record.Fields n hs fs (partial.AfterKind (kind.Record r)))
+record_step s (in_record.Fields n hs fs partial.Start) token.CloseBrace = end_record_step s n hs fs
+record_step s (in_record.Fields n hs fs (partial.AfterKind k)) (token.Name f) =
+    at_record s (in_record.Fields n hs fs (partial.AfterName k f))
+record_step s (in_record.Fields n hs fs (partial.AfterName k f)) token.Semicolon =
+    at_record s (in_record.Fields n hs (fs ++ record { kind = k; name = f } ∷ []) partial.Start)
 record_step _ _ _ = None
 
 abbrev pub global_step : TreeView → GlobalStage → Token → Option ReaderView
@@ -85,9 +88,9 @@ global_step _ _ _ = None
 abbrev pub at_procedure : TreeView → ProcedureStage → Option ReaderView
 at_procedure s p = Some (reading s (outside.Procedure p))
 
--- a stage in a body
-abbrev pub at_body : TreeView → BodyStage → Option ReaderView
-at_body s b = Some (reading s (outside.Body b))
+-- among the locals of a body
+abbrev pub at_body : TreeView → Owner → List Declaration → PartialDeclaration → Option ReaderView
+at_body s o ls l = Some (reading s (outside.Body o ls l))
 
 -- where a parameter has to stand
 abbrev pub parameter_step : TreeView → List ℕ → List Declaration → Token → Option ReaderView
@@ -106,21 +109,21 @@ procedure_step s (in_procedure.AfterParameter n ps k x) token.Comma =
 procedure_step s (in_procedure.AfterParameter n ps k x) token.CloseParen =
     at_procedure s (in_procedure.AfterClose n (ps ++ record { kind = k; name = x } ∷ []))
 procedure_step s (in_procedure.AfterComma n ps) t = parameter_step s n ps t
-procedure_step s (in_procedure.AfterClose n ps) token.OpenBrace = at_body s (in_body.Locals (owner.Procedure n ps) [])
+procedure_step s (in_procedure.AfterClose n ps) token.OpenBrace = at_body s (owner.Procedure n ps) [] partial.Start
 procedure_step _ _ _ = None
 
 abbrev pub thread_step : TreeView → ThreadStage → Token → Option ReaderView
 thread_step s in_thread.AfterWord (token.Name n) = Some (reading s (outside.Thread (in_thread.AfterName n)))
-thread_step s (in_thread.AfterName n) token.OpenBrace = at_body s (in_body.Locals (owner.Thread n) [])
+thread_step s (in_thread.AfterName n) token.OpenBrace = at_body s (owner.Thread n) [] partial.Start
 thread_step _ _ _ = None
 
 -- no statement has been read
 abbrev pub fresh : WithinView
-fresh = record { open_blocks = []; before = End; place = place.Start }
+fresh = record { open_blocks = []; before = End; place = place.Head None }
 
 -- the first statement has begun with this name
 abbrev pub begun : List ℕ → WithinView
-begun x = record { open_blocks = []; before = End; place = place.Inside (line.AfterName x) }
+begun x = record { open_blocks = []; before = End; place = place.Head (Some (line.AfterName x)) }
 
 -- the last brace of a procedure or a thread
 abbrev pub end_step : TreeView → Owner → List Declaration → BlockView → Option ReaderView
@@ -140,15 +143,15 @@ abbrev pub after_kind_step : TreeView → Owner → List Declaration → Kind �
 after_kind_step s o ls kind.Int t = None
 after_kind_step s o ls (kind.Record x) t = goes_on s o ls (step_of (begun x) t)
 
-abbrev pub body_step : TreeView → BodyStage → Token → Option ReaderView
-body_step s (in_body.Locals o ls) token.Int = at_body s (in_body.AfterKind o ls kind.Int)
-body_step s (in_body.Locals o ls) (token.Name r) = at_body s (in_body.AfterKind o ls (kind.Record r))
-body_step s (in_body.Locals o ls) t = goes_on s o ls (step_of fresh t)
-body_step s (in_body.AfterKind o ls k) (token.Name x) = at_body s (in_body.AfterLocal o ls k x)
-body_step s (in_body.AfterKind o ls k) t = after_kind_step s o ls k t
-body_step s (in_body.AfterLocal o ls k x) token.Semicolon =
-    at_body s (in_body.Locals o (ls ++ record { kind = k; name = x } ∷ []))
-body_step _ _ _ = None
+abbrev pub body_step : TreeView → Owner → List Declaration → PartialDeclaration → Token → Option ReaderView
+body_step s o ls partial.Start token.Int = at_body s o ls (partial.AfterKind kind.Int)
+body_step s o ls partial.Start (token.Name r) = at_body s o ls (partial.AfterKind (kind.Record r))
+body_step s o ls partial.Start t = goes_on s o ls (step_of fresh t)
+body_step s o ls (partial.AfterKind k) (token.Name x) = at_body s o ls (partial.AfterName k x)
+body_step s o ls (partial.AfterKind k) t = after_kind_step s o ls k t
+body_step s o ls (partial.AfterName k x) token.Semicolon =
+    at_body s o (ls ++ record { kind = k; name = x } ∷ []) partial.Start
+body_step _ _ _ _ _ = None
 
 abbrev pub read_outside : TreeView → Outside → Token → Option ReaderView
 read_outside s (outside.Between p) t = begin_step s p t
@@ -156,7 +159,7 @@ read_outside s (outside.Record r) t = record_step s r t
 read_outside s (outside.Global g) t = global_step s g t
 read_outside s (outside.Procedure p) t = procedure_step s p t
 read_outside s (outside.Thread h) t = thread_step s h t
-read_outside s (outside.Body b) t = body_step s b t
+read_outside s (outside.Body o ls l) t = body_step s o ls l t
 
 abbrev pub read_at : TreeView → Stage → Token → Option ReaderView
 read_at s (stage.Outside g) t = read_outside s g t

@@ -28,18 +28,18 @@ stays fs b p = Stays (record { open_blocks = fs; before = b; place = p })
 -- a closing brace
 abbrev pub close_step : List OpenBlock → BlockView → Next
 close_step [] b = Ends b
-close_step (open_block.Atomic before l ∷ fs) b = stays fs (append before (Atomic l b)) place.Start
-close_step (open_block.While before t ∷ fs) b = stays fs (append before (While t b)) place.Start
+close_step (open_block.Atomic before l ∷ fs) b = stays fs (append before (Atomic l b)) (place.Head None)
+close_step (open_block.While before t ∷ fs) b = stays fs (append before (While t b)) (place.Head None)
 close_step (open_block.Then before t ∷ fs) b = stays fs before (place.AfterThen t b)
-close_step (open_block.Else before t a ∷ fs) b = stays fs (append before (IfElse t a b)) place.Start
+close_step (open_block.Else before t a ∷ fs) b = stays fs (append before (IfElse t a b)) (place.Head None)
 
 -- a token where a statement may start
 abbrev pub start_step : List OpenBlock → BlockView → Token → Next
-start_step fs b (token.Name x) = stays fs b (place.Inside (line.AfterName x))
-start_step fs b token.Print = stays fs b (place.Inside line.AfterPrint)
-start_step fs b token.If = stays fs b (place.Inside (line.Branch branch.If head.AfterWord))
-start_step fs b token.While = stays fs b (place.Inside (line.Branch branch.While head.AfterWord))
-start_step fs b token.Atomic = stays fs b (place.Inside line.AfterAtomic)
+start_step fs b (token.Name x) = stays fs b (place.Head (Some (line.AfterName x)))
+start_step fs b token.Print = stays fs b (place.Head (Some line.AfterPrint))
+start_step fs b token.If = stays fs b (place.Head (Some (line.Branch branch.If head.AfterWord)))
+start_step fs b token.While = stays fs b (place.Head (Some (line.Branch branch.While head.AfterWord)))
+start_step fs b token.Atomic = stays fs b (place.Head (Some line.AfterAtomic))
 start_step fs b token.Call = stays fs b (place.InCall call.AfterWord)
 start_step fs b token.CloseBrace = close_step fs b
 start_step fs b _ = Stuck
@@ -59,15 +59,15 @@ call_step fs b (call.AfterArgument f vs v) token.Comma = stays fs b (place.InCal
 call_step fs b (call.AfterArgument f vs v) token.CloseParen =
     stays fs b (place.InCall (call.AfterClose f (vs ++ v ∷ [])))
 call_step fs b (call.AfterComma f vs) t = argument_step fs b f vs (operand_of t)
-call_step fs b (call.AfterClose f vs) token.Semicolon = stays fs (append b (Call f vs)) place.Start
+call_step fs b (call.AfterClose f vs) token.Semicolon = stays fs (append b (Call f vs)) (place.Head None)
 call_step _ _ _ _ = Stuck
 
 abbrev pub moved : List OpenBlock → BlockView → Move → Next
-moved fs b (move.To l) = stays fs b (place.Inside l)
-moved fs b (move.Whole p) = stays fs (append b (Primitive p)) place.Start
-moved fs b (move.OpensThen t) = stays (open_block.Then b t ∷ fs) End place.Start
-moved fs b (move.OpensWhile t) = stays (open_block.While b t ∷ fs) End place.Start
-moved fs b (move.OpensAtomic l) = stays (open_block.Atomic b l ∷ fs) End place.Start
+moved fs b (move.To l) = stays fs b (place.Head (Some l))
+moved fs b (move.Whole p) = stays fs (append b (Primitive p)) (place.Head None)
+moved fs b (move.OpensThen t) = stays (open_block.Then b t ∷ fs) End (place.Head None)
+moved fs b (move.OpensWhile t) = stays (open_block.While b t ∷ fs) End (place.Head None)
+moved fs b (move.OpensAtomic l) = stays (open_block.Atomic b l ∷ fs) End (place.Head None)
 
 abbrev pub moved_if : List OpenBlock → BlockView → Option Move → Next
 moved_if fs b None = Stuck
@@ -78,12 +78,12 @@ after_then fs b s p token.Else = stays fs b p
 after_then fs b s p t = start_step fs (append b s) t
 
 abbrev pub after_else : List OpenBlock → BlockView → Token → Next
-after_else fs b token.OpenBrace = stays fs b place.Start
+after_else fs b token.OpenBrace = stays fs b (place.Head None)
 after_else fs b _ = Stuck
 
 abbrev pub step_at : List OpenBlock → BlockView → Partial → Token → Next
-step_at fs b place.Start t = start_step fs b t
-step_at fs b (place.Inside l) t = moved_if fs b (advance_of l t)
+step_at fs b (place.Head None) t = start_step fs b t
+step_at fs b (place.Head (Some l)) t = moved_if fs b (advance_of l t)
 step_at fs b (place.InCall c) t = call_step fs b c t
 step_at fs b (place.AfterThen v a) t = after_then fs b (If v a) (place.AfterElse v a) t
 step_at fs b (place.AfterElse v a) t = after_else (open_block.Else b v a ∷ fs) End t

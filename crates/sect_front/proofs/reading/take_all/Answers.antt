@@ -20,37 +20,41 @@ loop-here-init c = record {
 pub overflow_sub-at : goal.overflow_sub-at
 overflow_sub-at c = c.loop-here.invariant.read.reached.fits
 
-pub returns-in_default-clause-fault : goal.returns-in_default-clause-fault
-returns-in_default-clause-fault c =
+pub returns-then-length-eq0-clause-fault : goal.returns-then-length-eq0-clause-fault
+returns-then-length-eq0-clause-fault c =
     let some : 0 < length c.loop-here.here.now = grind (arith, nat_tests) in
     let read = c.loop-here.invariant.read in
     bad_at c.args.bytes.now read.places c.loop-here.here.now
     (length c.args.bytes.now - length c.loop-here.here.now) read.reached
-    (λ e. absurd (omega (arith, ap length e, some))) (sym c.lexeme.ensures ∙ c.in_default.is)
+    (λ e. absurd (omega (arith, ap length e, some))) (c.put_lexeme-length.ensures.none (grind (arith, nat_tests)))
     (omega (arith, read.reached.fits))
 
 pub overflow_add-span : goal.overflow_add-span
 overflow_add-span c =
     let fits = c.loop-here.invariant.read.reached.fits in
-    let within = (lexeme_first c.loop-here.here.now _ c.in-Some.length (sym c.lexeme.ensures ∙ c.in-Some.is)).within in
+    let within = (lexeme_first c.loop-here.here.now _ c.put_lexeme-length.result
+    (c.put_lexeme-length.ensures.some (grind (arith, nat_tests)))).within in
     grind arith
 
 pub split_at-requires : goal.split_at-requires
 split_at-requires c =
-    (lexeme_first c.loop-here.here.now _ c.in-Some.length (sym c.lexeme.ensures ∙ c.in-Some.is)).within
+    (lexeme_first c.loop-here.here.now _ c.put_lexeme-length.result
+    (c.put_lexeme-length.ensures.some (grind (arith, nat_tests)))).within
 
 pub pass_gap-requires-in-loop-here-clause-rest : goal.pass_gap-requires-in-loop-here-clause-rest
 pass_gap-requires-in-loop-here-clause-rest c =
     let read = c.loop-here.invariant.read in
     rw c.split_at.ensures.back
-    (rest_more c.args.bytes.now c.loop-here.here.now c.in-Some.length (reached_rest c.args.bytes.now read.places
+    (rest_more c.args.bytes.now c.loop-here.here.now c.put_lexeme-length.result
+    (reached_rest c.args.bytes.now read.places
     c.loop-here.here.now read.reached))
 
 pub unless_bad-requires : goal.unless_bad-requires
 unless_bad-requires c = omega (
   arith,
   c.loop-here.invariant.read.reached.fits,
-  shorter c.loop-here.here.now c.in-Some.token c.in-Some.length (sym c.lexeme.ensures ∙ c.in-Some.is),
+  shorter c.loop-here.here.now c.put_lexeme-length.new.token c.put_lexeme-length.result
+      (c.put_lexeme-length.ensures.some (grind (arith, nat_tests))),
   ap length (c.in_ok-here-2.ensures.after ∙ ap after_gap c.split_at.ensures.back),
 )
 
@@ -60,15 +64,17 @@ returns-in-Err-Unexpected-clause-fault c =
     let here = c.loop-here.here.now in
     let r = c.loop-here.reader in
     let read = c.loop-here.invariant.read in
-    let token = c.in-Some.token in
+    let token = c.put_lexeme-length.new.token in
     let kinds = c.in_ok-kinds-in-Err-Unexpected.kinds.items in
-    let span = span_here bytes here token c.in-Some.length (sym c.lexeme.ensures ∙ c.in-Some.is) read.reached.fits in
+    let span = span_here bytes here token c.put_lexeme-length.result
+    (c.put_lexeme-length.ensures.some (grind (arith, nat_tests))) read.reached.fits in
     let stuck = rw c.in-Err-Unexpected.field-0-is at c.in-Err-Unexpected.ensures in
     let taken : kinds ≡ filter (is_kind_taken r) all_kinds =
     c.in_ok-kinds-in-Err-Unexpected.ensures ∙ ap (λ x. filter (is_kind_taken x) all_kinds) stuck.kept in
     c.unless_bad.ensures (read.places ++ token_here bytes here token ∷ [])
     (rw (c.in_ok-here-2.ensures.after, c.split_at.ensures.back)
-    (passed bytes here r c.loop-here.level token c.in-Some.length read (sym c.lexeme.ensures ∙ c.in-Some.is)))
+    (passed bytes here r c.loop-here.level token c.put_lexeme-length.result read
+    (c.put_lexeme-length.ensures.some (grind (arith, nat_tests)))))
     (λ behind spells. (
       subst (λ span. SpellingAt bytes span IsUnexpectedAt) (sym span.0)
           (unexpected_at bytes here r c.loop-here.level (token_here bytes here token) read stuck.reads span.1
@@ -83,7 +89,8 @@ pub unless_bad-requires-then-level-gt-MOST_DEPTH : goal.unless_bad-requires-then
 unless_bad-requires-then-level-gt-MOST_DEPTH c = omega (
   arith,
   c.loop-here.invariant.read.reached.fits,
-  shorter c.loop-here.here.now c.in-Some.token c.in-Some.length (sym c.lexeme.ensures ∙ c.in-Some.is),
+  shorter c.loop-here.here.now c.put_lexeme-length.new.token c.put_lexeme-length.result
+      (c.put_lexeme-length.ensures.some (grind (arith, nat_tests))),
   ap length (c.in_ok-here-2.ensures.after ∙ ap after_gap c.split_at.ensures.back),
 )
 
@@ -92,8 +99,9 @@ returns-then-level-gt-MOST_DEPTH-clause-fault c =
     let bytes = c.args.bytes.now in
     let here = c.loop-here.here.now in
     let read = c.loop-here.invariant.read in
-    let token = c.in-Some.token in
-    let span = span_here bytes here token c.in-Some.length (sym c.lexeme.ensures ∙ c.in-Some.is) read.reached.fits in
+    let token = c.put_lexeme-length.new.token in
+    let span = span_here bytes here token c.put_lexeme-length.result
+    (c.put_lexeme-length.ensures.some (grind (arith, nat_tests))) read.reached.fits in
     let deep : c.braces-level.result ≡ 33 = omega (
       arith,
       is_low _ _ _ read.reads,
@@ -102,21 +110,23 @@ returns-then-level-gt-MOST_DEPTH-clause-fault c =
     ) in
     c.unless_bad-then-level-gt-MOST_DEPTH.ensures (read.places ++ token_here bytes here token ∷ [])
     (rw (c.in_ok-here-2.ensures.after, c.split_at.ensures.back)
-    (passed bytes here c.loop-here.reader c.loop-here.level token c.in-Some.length read
-    (sym c.lexeme.ensures ∙ c.in-Some.is)))
+    (passed bytes here c.loop-here.reader c.loop-here.level token c.put_lexeme-length.result read
+    (c.put_lexeme-length.ensures.some (grind (arith, nat_tests)))))
     (λ behind spells. subst (λ span. SpellingAt bytes span IsTooDeepAt) (sym span.0)
     (too_deep_at bytes here c.loop-here.reader c.step.new.self c.loop-here.level (token_here bytes here token) read
     c.in-Ok.ensures.reads (sym c.braces-level.ensures ∙ deep) span.1 behind spells))
 
 pub loop-here-smaller : goal.loop-here-smaller
 loop-here-smaller c = rw (c.in_ok-here-2.ensures.after, c.split_at.ensures.back)
-    (shorter c.loop-here.here.now c.in-Some.token c.in-Some.length (sym c.lexeme.ensures ∙ c.in-Some.is))
+    (shorter c.loop-here.here.now c.put_lexeme-length.new.token c.put_lexeme-length.result
+    (c.put_lexeme-length.ensures.some (grind (arith, nat_tests))))
 
 pub loop-here-preserved : goal.loop-here-preserved
 loop-here-preserved c = record {
   read = rw (c.in_ok-here-2.ensures.after, c.split_at.ensures.back, c.braces-level.ensures)
       (reads_on c.args.bytes.now c.loop-here.here.now c.loop-here.reader c.step.new.self c.loop-here.level
-      c.in-Some.token c.in-Some.length c.loop-here.invariant.read (sym c.lexeme.ensures ∙ c.in-Some.is)
+      c.put_lexeme-length.new.token c.put_lexeme-length.result c.loop-here.invariant.read
+      (c.put_lexeme-length.ensures.some (grind (arith, nat_tests)))
       c.in-Ok.ensures.reads (omega (arith, c.braces-level.ensures)));
   gaps = c.pass_gap-in-loop-here.ensures.gaps;
 }

@@ -8,7 +8,7 @@ ghost use Rattle.sect_names.specs.{declared.lock.Lock.{Lock}, Schemes.{SchemeVie
 ghost use Rattle.sect_infer.specs.Numbers.{has_number};
 ghost use Rattle.sect_infer.specs.Numberings.{AreAbove, AreAboveRead, IsToWrite, IsNumbering, IsNumberingOfSome};
 ghost use Rattle.sect_infer.specs.Numberings.{IsNumbered, IsOfClass, is_under};
-ghost use Rattle.sect_infer.specs.steps.Putting.{IsPut, IsTold};
+ghost use Rattle.sect_infer.specs.steps.Putting.{IsPut, IsTold, AreWritesTold};
 ghost use Rattle.sect_names.specs.declared.lock.Effect.TheVariants as effect;
 ghost use Rattle.sect_names.specs.declared.lock.Right.TheVariants as right;
 ghost use Rattle.sect_names.specs.declared.lock.Lock.TheVariants as lock;
@@ -20,21 +20,32 @@ use smallvec::SmallVec;
 use std::alloc::{AllocError, Global};
 use std::marker::Model;
 
-/// How many of the first locks are compared one by one with a lock that isn't on a path, before it is sought by its
-/// hash: the lock on all is the first, and those on the first class are next to it.
-const NEAR: usize = 4;
-
 /// Locks, numbered from 0 in the order in which they came, and for each the numbers of the other locks there that cover
 /// it. All that cover it have come before it, but for the lock to write its path, which comes when it is needed. These
 /// are at most four, so they are kept inline.
 pub struct Numbering {
     locks: IndexSet<Lock>,
     above: Vec<SmallVec<usize, 4>>,
+    last: LastOfClass,
+    writes: bool,
+}
+
+/// The numbers of the locks on a class that were asked for last, to write its objects and to read them. Others may have
+/// these numbers, or none.
+#[derive(Clone, Copy)]
+struct LastOfClass {
+    write: usize,
+    read: usize,
 }
 
 impl Drop for Numbering {
     fn drop(self) {
-        let Numbering { locks: _, above: _ } = self;
+        let Numbering {
+            locks: _,
+            above: _,
+            last: _,
+            writes: _,
+        } = self;
     }
 }
 
@@ -42,7 +53,7 @@ impl Model for Numbering {
     ghost use Rattle.std.specs.Prelude.{map};
     ghost use Rattle.std.specs.Coded.{codes};
     ghost use Rattle.sect_points.specs.Paths.{path_code};
-    ghost use Rattle.sect_infer.specs.Numberings.{NumberingView};
+    ghost use Rattle.sect_infer.specs.{Numberings.{NumberingView}, steps.Putting.{AreWritesTold}};
 
     ghost Value = { NumberingView };
 
@@ -52,6 +63,8 @@ impl Model for Numbering {
       keys = t.locks.keys;
       above = map (λ v. v.items) t.above.items;
     } };
+
+    ghost invariant = { λ t. AreWritesTold t.writes t.locks.keys };
 }
 
 /// The numbers of the locks over all that is of a class: that on all, and that to write all objects of the class.
@@ -84,6 +97,13 @@ fn with_last(
     Ok(all)
 }
 
+/// Whether a lock is one to write a path.
+fn is_to_write(lock: &Lock) -> bool
+    ensures { IsTrue result ↔ IsToWrite lock.now }
+{
+    matches!(lock, Lock::Path(_, Effect::Write))
+}
+
 impl Numbering {
     /// No locks.
     pub fn new(alloc: Global) -> Numbering
@@ -93,6 +113,8 @@ impl Numbering {
         Numbering {
             locks: IndexSet::new(alloc),
             above: Vec::new(alloc),
+            last: LastOfClass { write: 0, read: 0 },
+            writes: false,
         }
     }
 
@@ -104,6 +126,8 @@ impl Numbering {
         Ok(Numbering {
             locks: IndexSet::with_capacity(alloc, count)?,
             above: Vec::with_capacity(alloc, count)?,
+            last: LastOfClass { write: 0, read: 0 },
+            writes: false,
         })
     }
 
@@ -165,16 +189,50 @@ impl Numbering {
         self.locks.get_index_of(lock)
     }
 
-    /// The number of a lock, if it is one of the first.
+    /// Whether there may be locks to write paths.
+    fn has_writes(&self) -> bool
+        ensures { AreWritesTold result self.now.keys }
+    {
+        self.writes
+    }
+
+    /// Whether there may be locks to write paths among those that are there and this one.
+    fn has_writes_with(&self, lock: &Lock) -> bool
+        ensures there { AreWritesTold result self.now.keys }
+        ensures behind { AreWritesTold result (self.now.keys ++ lock.now ∷ []) }
+    {
+        self.has_writes() || is_to_write(lock)
+    }
+
+    /// The number that a lock which isn't on a path has most likely: the lock on all comes first.
+    fn likely(&self, lock: &Lock) -> usize {
+        match lock {
+            Lock::Class(_, Right::Write) => self.last.write,
+            Lock::Class(_, Right::Read) => self.last.read,
+            Lock::All | Lock::Class(_, Right::Make) | Lock::Path(_, _) => 0,
+        }
+    }
+
+    /// The number of a lock, if it has that which is most likely.
     fn near(&self, lock: &Lock) -> Option<usize>
         ensures { (n : ℕ) → result ≡ Some n → slice_get self.now.keys n ≡ Some lock.now }
     {
-        for number in 0..self.len().min(NEAR) {
-            if *self.lock(number) == *lock {
-                return Some(number);
-            }
+        let number = self.likely(lock);
+        if number < self.len() && *self.lock(number) == *lock {
+            return Some(number);
         }
         None
+    }
+
+    /// Keeps the number of the lock on a class that was asked for last.
+    fn keep_last(&mut self, right: Right, number: usize)
+        ensures { self.new ≡ self.old }
+    {
+        match right {
+            Right::Write => self.last.write = number,
+            Right::Read => self.last.read = number,
+            Right::Make => {}
+        }
     }
 
     /// The number of a lock, which comes now unless it is there, and before it the locks above it.
@@ -187,9 +245,6 @@ impl Numbering {
         requires { IsNumbering scheme.now self.old }
         ensures { IfOk result (IsNumbered scheme.now self.old self.new lock.now) }
     {
-        if let Some(number) = self.find(lock) {
-            return Ok(number);
-        }
         match lock {
             Lock::All => self.put(alloc, Lock::All, &[]),
             Lock::Class(class, right) => self.put_class(alloc, *class, *right),
@@ -204,9 +259,6 @@ impl Numbering {
         ensures { (s : SchemeView) → IsNumbering s self.old → IsOfClass s.classes lock.now class
             → IfOk result (IsNumbered s self.old self.new lock.now) }
     {
-        if let Some(number) = self.find(lock) {
-            return Ok(number);
-        }
         match lock {
             Lock::All => self.put(alloc, Lock::All, &[]),
             Lock::Class(class, right) => self.put_class(alloc, *class, *right),
@@ -262,6 +314,7 @@ impl Numbering {
             Effect::Write => self.put_write(alloc, path, &[all, write]),
             Effect::Read => {
                 let read = self.put(alloc, Lock::Class(class, Right::Read), &[all, write])?;
+                self.keep_last(Right::Read, read);
                 self.put_read(alloc, path, &[all, write, read])
             }
         }
@@ -270,6 +323,24 @@ impl Numbering {
     /// The number of the lock to read a path, which comes now unless it is there. Those above it that don't depend on
     /// the path have these numbers.
     fn put_read(&mut self, alloc: Global, path: &Path, above: &[usize]) -> Result<usize, AllocError>
+        ensures { (s : SchemeView) → IsNumbering s self.old
+            → AreAboveRead s self.old.keys path.now above.now
+            → IfOk result (IsNumbered s self.old self.new (lock.Path path.now effect.Read)) }
+    {
+        if self.has_writes() {
+            self.put_beside_write(alloc, path, above)
+        } else {
+            self.put_behind(alloc, Lock::Path(path.try_clone()?, Effect::Read), above)
+        }
+    }
+
+    /// The number of the lock to read a path, as `put_read` gives it, where the lock to write the path may be there.
+    fn put_beside_write(
+        &mut self,
+        alloc: Global,
+        path: &Path,
+        above: &[usize],
+    ) -> Result<usize, AllocError>
         ensures { (s : SchemeView) → IsNumbering s self.old
             → AreAboveRead s self.old.keys path.now above.now
             → IfOk result (IsNumbered s self.old self.new (lock.Path path.now effect.Read)) }
@@ -300,13 +371,13 @@ impl Numbering {
             → AreAbove s self.old.keys (lock.Path path.now effect.Write) above.now
             → IfOk result (IsNumbered s self.old self.new (lock.Path path.now effect.Write)) }
     {
-        let read = self.find(&Lock::Path(path.try_clone()?, Effect::Read));
         let Added { number, is_new } = self.add(
             alloc,
             Lock::Path(path.try_clone()?, Effect::Write),
             above,
         )?;
         if is_new {
+            let read = self.find(&Lock::Path(path.try_clone()?, Effect::Read));
             if let Some(read) = read {
                 self.tell(read, number)?;
             }
@@ -337,10 +408,11 @@ impl Numbering {
     {
         let all = self.put(alloc, Lock::All, &[])?;
         let write = self.put(alloc, Lock::Class(class, Right::Write), &[all])?;
+        self.keep_last(Right::Write, write);
         Ok(OverClass { all, write })
     }
 
-    /// The number of a lock that isn't one to write a path, which comes now unless it is there, mostly among the first.
+    /// The number of a lock that isn't one to write a path, which comes now unless it is there.
     /// The numbers of those above it are these.
     fn put(&mut self, alloc: Global, lock: Lock, above: &[usize]) -> Result<usize, AllocError>
         ensures { (s : SchemeView) → IsNumbering s self.old → (IsToWrite lock → ⊥)
@@ -373,6 +445,7 @@ impl Numbering {
         ensures old { IfOk result (λ added. IsFalse added.is_new
             → (self.new.keys ≡ self.old.keys) × (self.new.above ≡ self.old.above)) }
     {
+        self.writes = self.has_writes_with(&lock);
         let (number, is_new) = self.locks.insert_full(lock)?;
         if is_new {
             self.above.push(SmallVec::from_slice(alloc, above)?)?;

@@ -1,10 +1,16 @@
 -- What is put into a numbering, and the locks on paths.
-use Rattle.std.specs.Prelude.{◌≡◌, ℕ, List, [], ◌∷◌, ◌++◌, slice_index_or, slice_set}
+use Rattle.std.specs.Prelude.{◌≡◌, ℕ, Bool, false, List, [], ◌∷◌, ◌++◌, slice_index_or, slice_set}
 use Rattle.sect_lemmas.specs.Lists.{Has}
 use Rattle.sect_points.specs.Paths.{PathView}
 use Rattle.sect_names.specs.{declared.lock.Lock.{Lock}, declared.lock.Effect.{Effect}, Schemes.{SchemeView}}
 use Rattle.sect_names.specs.Carrying.{LockOn}
 use Rattle.sect_infer.specs.Numberings.{NumberingView}
+use Rattle.sect_names.specs.declared.lock.Effect.TheVariants as effect
+use Rattle.sect_names.specs.declared.lock.Lock.TheVariants as lock
+
+-- where it isn't told that there may be locks to write paths, none is there
+abbrev pub AreWritesTold : Bool → List Lock → Type 0
+AreWritesTold writes keys = writes ≡ false → (p : PathView) → Has keys (lock.Path p effect.Write) → ⊥
 
 -- the lock wasn't there, and stands behind the others now, with those numbers of locks above it
 pub record IsPut (old new : NumberingView) (l : Lock) (ns : List ℕ) : Type 0 where

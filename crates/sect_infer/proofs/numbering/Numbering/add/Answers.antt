@@ -4,8 +4,8 @@ use Rattle.std.specs.{Prelude.{if◌then◌else◌}, List.{list_any}}
 use Rattle.sect_lemmas.proofs.Finding.{any_tells}
 use Rattle.sect_names.specs.contracts.lock.LockPartialEq.TheImpl.{ghosts as the_lock_eq}
 use Rattle.sect_names.proofs.shared.Telling.{lock_tells}
-use Rattle.sect_infer.specs.Numberings.{NumberingView}
-use Rattle.sect_infer.proofs.Extending.{added_is}
+use Rattle.sect_infer.specs.{Numberings.{NumberingView}, steps.Putting.{AreWritesTold}}
+use Rattle.sect_infer.proofs.Extending.{added_is, writes_added}
 use Rattle.sect_infer.proofs.numbering.Numbering.add.Goals as goal
 
 pub returns-in_ok-push-clause-there : goal.returns-in_ok-push-clause-there
@@ -37,3 +37,33 @@ returns-in_ok-push-clause-new c = λ new.
           ∙ ap (λ (v : NumberingView). v.above ++ c.in_ok-from_slice.field-0.items ∷ []) c.self.view_is
           ∙ ap (λ ms. t.above ++ ms ∷ []) c.in_ok-from_slice.ensures.ok;
     }
+
+pub invariant_of-self-in_err-from_slice : goal.invariant_of-self-in_err-from_slice
+invariant_of-self-in_err-from_slice c =
+    let keys = c.self.inside.locks.keys in
+    let l = c.args.lock in
+    let writes = c.has_writes_with-self-inside.result in
+    let was : keys ≡ c.args.self.now.keys = ap (λ (v : NumberingView). v.keys) c.self.view_is in
+    writes_added keys c.insert_full.new.self.keys l (list_any (the_lock_eq.eq l) keys) writes
+    c.in_ok-number.ensures.keys (subst (AreWritesTold writes) (sym was) c.has_writes_with-self-inside.ensures.there)
+    (subst (λ ks. AreWritesTold writes (ks ++ l ∷ [])) (sym was) c.has_writes_with-self-inside.ensures.behind)
+
+pub invariant_of-self-in_err-push : goal.invariant_of-self-in_err-push
+invariant_of-self-in_err-push c =
+    let keys = c.self.inside.locks.keys in
+    let l = c.args.lock in
+    let writes = c.has_writes_with-self-inside.result in
+    let was : keys ≡ c.args.self.now.keys = ap (λ (v : NumberingView). v.keys) c.self.view_is in
+    writes_added keys c.insert_full.new.self.keys l (list_any (the_lock_eq.eq l) keys) writes
+    c.in_ok-number.ensures.keys (subst (AreWritesTold writes) (sym was) c.has_writes_with-self-inside.ensures.there)
+    (subst (λ ks. AreWritesTold writes (ks ++ l ∷ [])) (sym was) c.has_writes_with-self-inside.ensures.behind)
+
+pub invariant_of-self-in_ok-push : goal.invariant_of-self-in_ok-push
+invariant_of-self-in_ok-push c =
+    let keys = c.self.inside.locks.keys in
+    let l = c.args.lock in
+    let writes = c.has_writes_with-self-inside.result in
+    let was : keys ≡ c.args.self.now.keys = ap (λ (v : NumberingView). v.keys) c.self.view_is in
+    writes_added keys c.insert_full.new.self.keys l (list_any (the_lock_eq.eq l) keys) writes
+    c.in_ok-number.ensures.keys (subst (AreWritesTold writes) (sym was) c.has_writes_with-self-inside.ensures.there)
+    (subst (λ ks. AreWritesTold writes (ks ++ l ∷ [])) (sym was) c.has_writes_with-self-inside.ensures.behind)

@@ -3,7 +3,7 @@ use Rattle.std.specs.Prelude.{◌≡◌, ℕ, Bool, false, List, [], ◌∷◌, 
 use Rattle.sect_lemmas.specs.Lists.{Has}
 use Rattle.sect_points.specs.Paths.{PathView}
 use Rattle.sect_names.specs.{declared.lock.Lock.{Lock}, declared.lock.Effect.{Effect}, Schemes.{SchemeView}}
-use Rattle.sect_names.specs.Carrying.{LockOn}
+use Rattle.sect_names.specs.{declared.carry.Earlier.{Earlier}, Carrying.{LockOn}, Earlier.{IsOneOf}}
 use Rattle.sect_infer.specs.Numberings.{NumberingView}
 use Rattle.sect_names.specs.declared.lock.Effect.TheVariants as effect
 use Rattle.sect_names.specs.declared.lock.Lock.TheVariants as lock
@@ -26,3 +26,7 @@ pub record IsTold (old new : NumberingView) (n m : ℕ) : Type 0 where
 -- the lock is the one with this effect on one of the paths
 abbrev pub AreOn : SchemeView → Effect → List PathView → Lock → Type 0
 AreOn s e paths l = (q : PathView) × Has paths q × LockOn s e q l
+
+-- the lock is the one with this effect on one of the paths that may denote before a node what a path denotes after it
+abbrev pub IsOnOneOf : SchemeView → Effect → Earlier → Lock → Type 0
+IsOnOneOf s e paths l = (q : PathView) × IsOneOf paths q × LockOn s e q l

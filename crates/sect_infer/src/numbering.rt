@@ -104,6 +104,16 @@ fn is_to_write(lock: &Lock) -> bool
     matches!(lock, Lock::Path(_, Effect::Write))
 }
 
+/// Whether a lock is the one with this right over a class.
+fn is_on_class(one: &Lock, class: u16, right: Right) -> bool
+    ensures { IsTrue result ↔ (one.now ≡ lock.Class class right) }
+{
+    match one {
+        Lock::Class(other, its) => *other == class && *its == right,
+        Lock::All | Lock::Path(_, _) => false,
+    }
+}
+
 impl Numbering {
     /// No locks.
     pub fn new(alloc: Global) -> Numbering
@@ -204,21 +214,28 @@ impl Numbering {
         self.has_writes() || is_to_write(lock)
     }
 
-    /// The number that a lock which isn't on a path has most likely: the lock on all comes first.
-    fn likely(&self, lock: &Lock) -> usize {
-        match lock {
-            Lock::Class(_, Right::Write) => self.last.write,
-            Lock::Class(_, Right::Read) => self.last.read,
-            Lock::All | Lock::Class(_, Right::Make) | Lock::Path(_, _) => 0,
+    /// Whether the lock on all is the first.
+    fn begins_with_all(&self) -> bool
+        ensures { IsTrue result → slice_get self.now.keys 0 ≡ Some lock.All }
+    {
+        self.len() > 0 && matches!(self.lock(0), Lock::All)
+    }
+
+    /// The number that a lock with this right over a class has most likely.
+    fn likely(&self, right: Right) -> usize {
+        match right {
+            Right::Write => self.last.write,
+            Right::Read => self.last.read,
+            Right::Make => 0,
         }
     }
 
-    /// The number of a lock, if it has that which is most likely.
-    fn near(&self, lock: &Lock) -> Option<usize>
-        ensures { (n : ℕ) → result ≡ Some n → slice_get self.now.keys n ≡ Some lock.now }
+    /// The number of a lock on a class, if it is the one that was asked for last.
+    fn last_on_class(&self, class: u16, right: Right) -> Option<usize>
+        ensures { (n : ℕ) → result ≡ Some n → slice_get self.now.keys n ≡ Some (lock.Class class right) }
     {
-        let number = self.likely(lock);
-        if number < self.len() && *self.lock(number) == *lock {
+        let number = self.likely(right);
+        if number < self.len() && is_on_class(self.lock(number), class, right) {
             return Some(number);
         }
         None
@@ -246,7 +263,7 @@ impl Numbering {
         ensures { IfOk result (IsNumbered scheme.now self.old self.new lock.now) }
     {
         match lock {
-            Lock::All => self.put(alloc, Lock::All, &[]),
+            Lock::All => self.put_all(alloc),
             Lock::Class(class, right) => self.put_class(alloc, *class, *right),
             Lock::Path(path, effect) => self.put_path(alloc, scheme, path, *effect),
         }
@@ -260,7 +277,7 @@ impl Numbering {
             → IfOk result (IsNumbered s self.old self.new lock.now) }
     {
         match lock {
-            Lock::All => self.put(alloc, Lock::All, &[]),
+            Lock::All => self.put_all(alloc),
             Lock::Class(class, right) => self.put_class(alloc, *class, *right),
             Lock::Path(path, effect) => self.put_classed(alloc, class, path, *effect),
         }
@@ -289,7 +306,7 @@ impl Numbering {
         ensures { (s : SchemeView) → IsNumbering s self.old → ((n : ℕ) → HasClass s.classes path.now n → ⊥)
             → IfOk result (IsNumbered s self.old self.new (lock.Path path.now effect)) }
     {
-        let all = self.put(alloc, Lock::All, &[])?;
+        let all = self.put_all(alloc)?;
         match effect {
             Effect::Write => self.put_write(alloc, path, &[all]),
             Effect::Read => self.put_read(alloc, path, &[all]),
@@ -313,8 +330,7 @@ impl Numbering {
         match effect {
             Effect::Write => self.put_write(alloc, path, &[all, write]),
             Effect::Read => {
-                let read = self.put(alloc, Lock::Class(class, Right::Read), &[all, write])?;
-                self.keep_last(Right::Read, read);
+                let read = self.put_on_class(alloc, class, Right::Read, &[all, write])?;
                 self.put_read(alloc, path, &[all, write, read])
             }
         }
@@ -394,8 +410,8 @@ impl Numbering {
         let above = [over.all, over.write];
         match right {
             Right::Write => Ok(over.write),
-            Right::Read => self.put(alloc, Lock::Class(class, Right::Read), &above),
-            Right::Make => self.put(alloc, Lock::Class(class, Right::Make), &above),
+            Right::Read => self.put_on_class(alloc, class, Right::Read, &above),
+            Right::Make => self.put_on_class(alloc, class, Right::Make, &above),
         }
     }
 
@@ -406,22 +422,40 @@ impl Numbering {
             IsNumbered s self.old self.new lock.All over.all
             × IsNumbered s self.old self.new (lock.Class class right.Write) over.write) }
     {
-        let all = self.put(alloc, Lock::All, &[])?;
-        let write = self.put(alloc, Lock::Class(class, Right::Write), &[all])?;
-        self.keep_last(Right::Write, write);
+        let all = self.put_all(alloc)?;
+        let write = self.put_on_class(alloc, class, Right::Write, &[all])?;
         Ok(OverClass { all, write })
     }
 
-    /// The number of a lock that isn't one to write a path, which comes now unless it is there.
-    /// The numbers of those above it are these.
-    fn put(&mut self, alloc: Global, lock: Lock, above: &[usize]) -> Result<usize, AllocError>
-        ensures { (s : SchemeView) → IsNumbering s self.old → (IsToWrite lock → ⊥)
-            → AreAbove s self.old.keys lock above.now → IfOk result (IsNumbered s self.old self.new lock) }
+    /// The number of the lock on all, which comes now unless it is there.
+    fn put_all(&mut self, alloc: Global) -> Result<usize, AllocError>
+        ensures { (s : SchemeView) → IsNumbering s self.old
+            → IfOk result (IsNumbered s self.old self.new lock.All) }
     {
-        match self.near(&lock) {
-            Some(number) => Ok(number),
-            None => self.put_behind(alloc, lock, above),
+        if self.begins_with_all() {
+            return Ok(0);
         }
+        self.put_behind(alloc, Lock::All, &[])
+    }
+
+    /// The number of a lock on a class, which comes now unless it is there. The numbers of those above it are these.
+    fn put_on_class(
+        &mut self,
+        alloc: Global,
+        class: u16,
+        right: Right,
+        above: &[usize],
+    ) -> Result<usize, AllocError>
+        ensures { (s : SchemeView) → IsNumbering s self.old
+            → AreAbove s self.old.keys (lock.Class class right) above.now
+            → IfOk result (IsNumbered s self.old self.new (lock.Class class right)) }
+    {
+        if let Some(number) = self.last_on_class(class, right) {
+            return Ok(number);
+        }
+        let number = self.put_behind(alloc, Lock::Class(class, right), above)?;
+        self.keep_last(right, number);
+        Ok(number)
     }
 
     /// The number of a lock that isn't one to write a path, which comes now unless it is there. The numbers of those

@@ -74,11 +74,11 @@ fn only_the_programs(scheme: &Scheme, section: u16)
     steps_of_sections();
 }
 
-/// For how many locks there is room from the first: one for each node and four more, as many as short sections mostly
+/// For how many locks there is room from the first: two for each node and four more, as many as short sections mostly
 /// have with those above them. In longer ones most statements name locks again.
 fn room_for(flow: &Flow) -> usize {
     let nodes = flow.exit() as usize;
-    nodes.min(MOST_NODES_WITH_ROOM) + 4
+    2 * nodes.min(MOST_NODES_WITH_ROOM) + 4
 }
 
 /// The locks of a graph whose nodes need locks of the program alone: at each node the maximal ones of those that are

@@ -1,14 +1,14 @@
 //! Locks by their numbers.
 
-ghost use Rattle.std.specs.Prelude.{◌≡◌, ◌↔◌, ◌<◌, ◌||◌, ℕ, ◌++◌, ◌∷◌, length, slice_get, [], Some, IfOk, OnOk, IsTrue};
-ghost use Rattle.std.specs.Prelude.{IsFalse, MatchOption};
+ghost use Rattle.std.specs.Prelude.{◌≡◌, ◌↔◌, ◌<◌, ◌≤◌, ◌||◌, ℕ, ◌++◌, ◌∷◌, length, slice_get, [], Some, IfOk, OnOk, IsTrue};
+ghost use Rattle.std.specs.Prelude.{IsFalse, MatchOption, false};
 ghost use Rattle.sect_lemmas.specs.Lists.{Has};
 ghost use Rattle.sect_points.specs.Partitions.{HasClass};
 ghost use Rattle.sect_names.specs.{declared.lock.Lock.{Lock}, Schemes.{SchemeView}};
 ghost use Rattle.sect_infer.specs.Numbers.{has_number};
 ghost use Rattle.sect_infer.specs.Numberings.{AreAbove, AreAboveRead, IsToWrite, IsNumbering, IsNumberingOfSome};
 ghost use Rattle.sect_infer.specs.Numberings.{IsNumbered, IsOfClass, is_under};
-ghost use Rattle.sect_infer.specs.steps.Putting.{IsPut, IsTold, AreWritesTold};
+ghost use Rattle.sect_infer.specs.steps.Putting.{IsPut, IsTold, AreWritesTold, AreWithin};
 ghost use Rattle.sect_names.specs.declared.lock.Effect.TheVariants as effect;
 ghost use Rattle.sect_names.specs.declared.lock.Right.TheVariants as right;
 ghost use Rattle.sect_names.specs.declared.lock.Lock.TheVariants as lock;
@@ -28,6 +28,7 @@ pub struct Numbering {
     above: Vec<SmallVec<usize, 4>>,
     last: LastOfClass,
     writes: bool,
+    highest: usize,
 }
 
 /// The numbers of the locks on a class that were asked for last, to write its objects and to read them. Others may have
@@ -45,6 +46,7 @@ impl Drop for Numbering {
             above: _,
             last: _,
             writes: _,
+            highest: _,
         } = self;
     }
 }
@@ -53,7 +55,7 @@ impl Model for Numbering {
     ghost use Rattle.std.specs.Prelude.{map};
     ghost use Rattle.std.specs.Coded.{codes};
     ghost use Rattle.sect_points.specs.Paths.{path_code};
-    ghost use Rattle.sect_infer.specs.{Numberings.{NumberingView}, steps.Putting.{AreWritesTold}};
+    ghost use Rattle.sect_infer.specs.{Numberings.{NumberingView}, steps.Putting.{IsKept}};
 
     ghost Value = { NumberingView };
 
@@ -64,7 +66,7 @@ impl Model for Numbering {
       above = map (λ v. v.items) t.above.items;
     } };
 
-    ghost invariant = { λ t. AreWritesTold t.writes t.locks.keys };
+    ghost invariant = { λ t. IsKept t.writes t.highest t.locks.keys (map (λ v. v.items) t.above.items) };
 }
 
 /// The numbers of the locks over all that is of a class: that on all, and that to write all objects of the class.
@@ -114,6 +116,14 @@ fn is_on_class(one: &Lock, class: u16, right: Right) -> bool
     }
 }
 
+/// The greater of two numbers.
+fn greater(number: usize, other: usize) -> usize
+    ensures first { number ≤ result }
+    ensures second { other ≤ result }
+{
+    if number < other { other } else { number }
+}
+
 impl Numbering {
     /// No locks.
     pub fn new(alloc: Global) -> Numbering
@@ -125,6 +135,7 @@ impl Numbering {
             above: Vec::new(alloc),
             last: LastOfClass { write: 0, read: 0 },
             writes: false,
+            highest: 0,
         }
     }
 
@@ -138,6 +149,7 @@ impl Numbering {
             above: Vec::with_capacity(alloc, count)?,
             last: LastOfClass { write: 0, read: 0 },
             writes: false,
+            highest: 0,
         })
     }
 
@@ -212,6 +224,30 @@ impl Numbering {
         ensures behind { AreWritesTold result (self.now.keys ++ lock.now ∷ []) }
     {
         self.has_writes() || is_to_write(lock)
+    }
+
+    /// The greatest of these numbers, and of those that are told of any lock.
+    fn highest_with(&self, numbers: &[usize]) -> usize
+        ensures there { AreWithin result self.now.above }
+        ensures behind { (n : ℕ) → Has numbers.now n → n ≤ result }
+    {
+        let mut highest = self.highest;
+        for number in numbers {
+            highest = greater(highest, *number);
+        }
+        highest
+    }
+
+    /// Whether it is seen at once that none of these locks covers another lock.
+    pub fn has_none_above(&self, numbers: &Numbers) -> bool
+        ensures { IsTrue result → (n : ℕ) → is_under self.now.above numbers.now n ≡ false }
+    {
+        for number in numbers.members() {
+            if *number <= self.highest {
+                return false;
+            }
+        }
+        true
     }
 
     /// Whether the lock on all is the first.
@@ -480,6 +516,7 @@ impl Numbering {
             → (self.new.keys ≡ self.old.keys) × (self.new.above ≡ self.old.above)) }
     {
         self.writes = self.has_writes_with(&lock);
+        self.highest = self.highest_with(above);
         let (number, is_new) = self.locks.insert_full(lock)?;
         if is_new {
             self.above.push(SmallVec::from_slice(alloc, above)?)?;
@@ -492,6 +529,7 @@ impl Numbering {
         requires { number < length self.old.above }
         ensures { OnOk result (IsTold self.old self.new number above) }
     {
+        self.highest = self.highest_with(&[above]);
         self.above[number].push(above)?;
         Ok(())
     }

@@ -298,6 +298,9 @@ impl Numbering {
         requires { IsNumbering scheme.now self.old }
         ensures { IfOk result (IsNumbered scheme.now self.old self.new lock.now) }
     {
+        if let Some(number) = self.find(lock) {
+            return Ok(number);
+        }
         match lock {
             Lock::All => self.put_all(alloc),
             Lock::Class(class, right) => self.put_class(alloc, *class, *right),

@@ -4,13 +4,15 @@ ghost use Rattle.std.specs.Prelude.{◌≡◌, ◌<◌, [], ◌∷◌, ◌++◌,
 ghost use Rattle.sect_graph.specs.Predecessors.{IsAdded, StaysWithin, AreAllBefore};
 
 use crate::flow::{Flow, Successors};
+use smallvec::SmallVec;
 use std::alloc::{AllocError, Global};
 use std::marker::Model;
 
 /// For each node of a graph, and for the exit, the nodes from which control may go on to it, each once, in order.
+/// Mostly these are two at most, so they are kept inline.
 #[derive(Drop)]
 pub struct Predecessors {
-    lists: Vec<Vec<u16>>,
+    lists: Vec<SmallVec<u16, 2>>,
 }
 
 impl Model for Predecessors {
@@ -27,9 +29,9 @@ impl Predecessors {
         ensures count { IfOk result (λ p. length p ≡ count) }
         ensures none { IfOk result (λ p. (m : ℕ) → slice_index_or p m [] ≡ []) }
     {
-        let mut lists = Vec::new(alloc);
+        let mut lists = Vec::with_capacity(alloc, count as usize)?;
         for _ in 0..count {
-            lists.push(Vec::new(alloc))?;
+            lists.push(SmallVec::new(alloc))?;
         }
         Ok(Predecessors { lists })
     }

@@ -3,7 +3,7 @@ use Rattle.std.proofs.Common.{◌≡◌, inl, inr, ℕ, zero, suc, ◌+◌, ◌<
 use Rattle.std.proofs.{Common.{length, refl, sym, ap, ◌∙◌, subst, length-append, arith}, lemmas.Bool.{cases_eq}}
 use Rattle.std.proofs.lemmas.List.{append-nil, get_or-set_same, get_or-set_other, length-set}
 use Rattle.std.proofs.lemmas.Option.{slice_get_within}
-use Rattle.std.specs.Prelude.{slice_get, slice_index_or, Result, Ok, Err, IfOk, IsTrue, IsFalse, not}
+use Rattle.std.specs.Prelude.{slice_get, slice_index_or, Result, Ok, Err, IfOk, IsTrue, IsFalse, not, if◌then◌else◌}
 use Rattle.sect_lemmas.specs.Lists.{Has}
 use Rattle.sect_lemmas.proofs.{Places.{pushed_at}, Options.{some_injective}}
 use Rattle.sect_lemmas.proofs.Membership.{Has-left, Has-right, Has-cases, Has-slice_get}
@@ -14,7 +14,7 @@ use Rattle.sect_names.proofs.shared.Climbing.{below_write}
 use Rattle.sect_infer.specs.Numbers.{AreApart}
 use Rattle.sect_infer.specs.Numberings.{NumberingView, HasLock, IsToWrite, AreAbove, AreAboveRead, IsNumbering, Extends}
 use Rattle.sect_infer.specs.Numberings.{IsNumbered}
-use Rattle.sect_infer.specs.steps.Putting.{IsPut, IsTold}
+use Rattle.sect_infer.specs.steps.Putting.{IsPut, IsTold, AreWritesTold}
 use Rattle.sect_infer.proofs.shared.Apart.{apart_push, apart_one}
 use Rattle.sect_infer.proofs.shared.Extending.{get_left, extends_none, extends_then, extends_at}
 use Rattle.sect_names.specs.declared.lock.Effect.TheVariants as effect
@@ -37,6 +37,30 @@ get_before (z ∷ xs) x d (suc i) within = get_before xs x d i (omega (arith, wi
 pub added_is : (added there b : Bool) → added ≡ not there → added ≡ b → there ≡ not b
 added_is added true b is e = sym (ap not (sym e ∙ is))
 added_is added false b is e = sym (ap not (sym e ∙ is))
+
+-- it is told whether there may be locks to write paths, whether one more was there or comes behind the others
+pub writes_added : (keys new : List Lock) (l : Lock) (there writes : Bool)
+    → new ≡ (if there then keys else keys ++ l ∷ []) → AreWritesTold writes keys
+    → AreWritesTold writes (keys ++ l ∷ []) → AreWritesTold writes new
+writes_added keys new l true writes is here behind = subst (AreWritesTold writes) (sym is) here
+writes_added keys new l false writes is here behind = subst (AreWritesTold writes) (sym is) behind
+
+-- one that is no lock to write a path adds none
+pub writes_other : (keys : List Lock) (l : Lock) → ((p : PathView) → Has keys (lock.Path p effect.Write) → ⊥)
+    → (IsToWrite l → ⊥) → (p : PathView) → Has (keys ++ l ∷ []) (lock.Path p effect.Write) → ⊥
+writes_other keys l none other p h = elim (Has-cases keys (l ∷ []) (lock.Path p effect.Write) h) [
+  | inl k ↦ none p k
+  | inr last ↦ elim last [ inl e ↦ other (p, e) | inr k ↦ k ]
+]
+
+-- the lock to read a path has the number that it had before that to write it came
+pub read_before : (keys : List Lock) (p : PathView) (n : ℕ)
+    → slice_get (keys ++ lock.Path p effect.Write ∷ []) n ≡ Some (lock.Path p effect.Read)
+    → slice_get keys n ≡ Some (lock.Path p effect.Read)
+read_before keys p n at = elim (pushed_at keys (lock.Path p effect.Write) (lock.Path p effect.Read) n at) [
+  | inl e ↦ (let same = e.1 in absurd cc)
+  | inr old ↦ old
+]
 
 pub extends_lock : (old new : NumberingView) → Extends old new → (ns : List ℕ) (l : Lock) → HasLock old.keys ns l
     → HasLock new.keys ns l

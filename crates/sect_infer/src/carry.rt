@@ -4,12 +4,12 @@ ghost use Rattle.std.specs.Prelude.{◌≡◌, ◌<◌, ◌≤◌, length, slice
 ghost use Rattle.sect_names.specs.{declared.lock.Lock.{Lock}, Locks.{IsLockOf, depth}};
 ghost use Rattle.sect_names.specs.{Carrying.{CarriedBack, LockOn, right_for}, Touching.{LeavesOthers}};
 ghost use Rattle.sect_infer.specs.Numberings.{HasLock, AreNumbers, IsFinding, Finds};
-ghost use Rattle.sect_infer.specs.steps.Putting.{AreOn};
+ghost use Rattle.sect_infer.specs.steps.Putting.{AreOn, IsOnOneOf};
 ghost use Rattle.sect_names.specs.declared.lock.Lock.TheVariants as lock;
 
 use crate::numbering::Numbering;
 use crate::numbers::Numbers;
-use sect_names::{Change, Effect, Lock, Path, Scheme};
+use sect_names::{Change, Earlier, Effect, Lock, Path, Scheme};
 use sect_types::Label;
 use std::alloc::{AllocError, Global};
 
@@ -120,6 +120,27 @@ impl Transfer<'_> {
         Ok(())
     }
 
+    /// Finds the locks with this effect on each of the paths that may denote before the node what a path denotes after
+    /// it.
+    fn find_each_on(
+        self,
+        alloc: Global,
+        numbering: &mut Numbering,
+        found: &mut Numbers,
+        effect: Effect,
+        paths: Earlier,
+    ) -> Result<(), AllocError>
+        requires { IsFinding self.scheme.now numbering.old found.old }
+        ensures { OnOk result (Finds self.entry.scheme.now numbering.old found.old numbering.new found.new
+            (IsOnOneOf self.entry.scheme.now effect paths)) }
+    {
+        match paths {
+            Earlier::Nothing => Ok(()),
+            Earlier::Alone(path) => self.find_on(alloc, numbering, found, effect, path),
+            Earlier::Any(paths) => self.find_all_on(alloc, numbering, found, effect, paths),
+        }
+    }
+
     /// Finds what is needed before the node for one lock that is needed after it, where the node touches that.
     #[inline(never)]
     fn carry_over(
@@ -142,8 +163,8 @@ impl Transfer<'_> {
             }
             Lock::Path(path, effect) => {
                 let effect = *effect;
-                let paths = self.scheme.before(alloc, self.thread, *self.label, path)?;
-                self.find_all_on(alloc, numbering, found, effect, paths)
+                let paths = self.scheme.earlier(alloc, self.thread, *self.label, path)?;
+                self.find_each_on(alloc, numbering, found, effect, paths)
             }
         }
     }

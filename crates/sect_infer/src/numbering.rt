@@ -1,14 +1,14 @@
 //! Locks by their numbers.
 
-ghost use Rattle.std.specs.Prelude.{◌≡◌, ◌↔◌, ◌<◌, ◌||◌, ℕ, ◌++◌, ◌∷◌, length, slice_get, [], Some, IfOk, OnOk, IsTrue};
-ghost use Rattle.std.specs.Prelude.{IsFalse, MatchOption};
+ghost use Rattle.std.specs.Prelude.{◌≡◌, ◌↔◌, ◌<◌, ◌≤◌, ◌||◌, ℕ, ◌++◌, ◌∷◌, length, slice_get, [], Some, IfOk, OnOk, IsTrue};
+ghost use Rattle.std.specs.Prelude.{IsFalse, MatchOption, false};
 ghost use Rattle.sect_lemmas.specs.Lists.{Has};
 ghost use Rattle.sect_points.specs.Partitions.{HasClass};
 ghost use Rattle.sect_names.specs.{declared.lock.Lock.{Lock}, Schemes.{SchemeView}};
 ghost use Rattle.sect_infer.specs.Numbers.{has_number};
 ghost use Rattle.sect_infer.specs.Numberings.{AreAbove, AreAboveRead, IsToWrite, IsNumbering, IsNumberingOfSome};
 ghost use Rattle.sect_infer.specs.Numberings.{IsNumbered, IsOfClass, is_under};
-ghost use Rattle.sect_infer.specs.steps.Putting.{IsPut, IsTold};
+ghost use Rattle.sect_infer.specs.steps.Putting.{IsPut, IsTold, AreWritesTold, AreWithin};
 ghost use Rattle.sect_names.specs.declared.lock.Effect.TheVariants as effect;
 ghost use Rattle.sect_names.specs.declared.lock.Right.TheVariants as right;
 ghost use Rattle.sect_names.specs.declared.lock.Lock.TheVariants as lock;
@@ -20,21 +20,34 @@ use smallvec::SmallVec;
 use std::alloc::{AllocError, Global};
 use std::marker::Model;
 
-/// How many of the first locks are compared one by one with a lock that isn't on a path, before it is sought by its
-/// hash: the lock on all is the first, and those on the first class are next to it.
-const NEAR: usize = 4;
-
 /// Locks, numbered from 0 in the order in which they came, and for each the numbers of the other locks there that cover
 /// it. All that cover it have come before it, but for the lock to write its path, which comes when it is needed. These
 /// are at most four, so they are kept inline.
 pub struct Numbering {
     locks: IndexSet<Lock>,
     above: Vec<SmallVec<usize, 4>>,
+    last: LastOfClass,
+    writes: bool,
+    highest: usize,
+}
+
+/// The numbers of the locks on a class that were asked for last, to write its objects and to read them. Others may have
+/// these numbers, or none.
+#[derive(Clone, Copy)]
+struct LastOfClass {
+    write: usize,
+    read: usize,
 }
 
 impl Drop for Numbering {
     fn drop(self) {
-        let Numbering { locks: _, above: _ } = self;
+        let Numbering {
+            locks: _,
+            above: _,
+            last: _,
+            writes: _,
+            highest: _,
+        } = self;
     }
 }
 
@@ -42,7 +55,7 @@ impl Model for Numbering {
     ghost use Rattle.std.specs.Prelude.{map};
     ghost use Rattle.std.specs.Coded.{codes};
     ghost use Rattle.sect_points.specs.Paths.{path_code};
-    ghost use Rattle.sect_infer.specs.Numberings.{NumberingView};
+    ghost use Rattle.sect_infer.specs.{Numberings.{NumberingView}, steps.Putting.{IsKept}};
 
     ghost Value = { NumberingView };
 
@@ -52,6 +65,8 @@ impl Model for Numbering {
       keys = t.locks.keys;
       above = map (λ v. v.items) t.above.items;
     } };
+
+    ghost invariant = { λ t. IsKept t.writes t.highest t.locks.keys (map (λ v. v.items) t.above.items) };
 }
 
 /// The numbers of the locks over all that is of a class: that on all, and that to write all objects of the class.
@@ -84,6 +99,31 @@ fn with_last(
     Ok(all)
 }
 
+/// Whether a lock is one to write a path.
+fn is_to_write(lock: &Lock) -> bool
+    ensures { IsTrue result ↔ IsToWrite lock.now }
+{
+    matches!(lock, Lock::Path(_, Effect::Write))
+}
+
+/// Whether a lock is the one with this right over a class.
+fn is_on_class(one: &Lock, class: u16, right: Right) -> bool
+    ensures { IsTrue result ↔ (one.now ≡ lock.Class class right) }
+{
+    match one {
+        Lock::Class(other, its) => *other == class && *its == right,
+        Lock::All | Lock::Path(_, _) => false,
+    }
+}
+
+/// The greater of two numbers.
+fn greater(number: usize, other: usize) -> usize
+    ensures first { number ≤ result }
+    ensures second { other ≤ result }
+{
+    if number < other { other } else { number }
+}
+
 impl Numbering {
     /// No locks.
     pub fn new(alloc: Global) -> Numbering
@@ -93,6 +133,9 @@ impl Numbering {
         Numbering {
             locks: IndexSet::new(alloc),
             above: Vec::new(alloc),
+            last: LastOfClass { write: 0, read: 0 },
+            writes: false,
+            highest: 0,
         }
     }
 
@@ -104,6 +147,9 @@ impl Numbering {
         Ok(Numbering {
             locks: IndexSet::with_capacity(alloc, count)?,
             above: Vec::with_capacity(alloc, count)?,
+            last: LastOfClass { write: 0, read: 0 },
+            writes: false,
+            highest: 0,
         })
     }
 
@@ -165,16 +211,81 @@ impl Numbering {
         self.locks.get_index_of(lock)
     }
 
-    /// The number of a lock, if it is one of the first.
-    fn near(&self, lock: &Lock) -> Option<usize>
-        ensures { (n : ℕ) → result ≡ Some n → slice_get self.now.keys n ≡ Some lock.now }
+    /// Whether there may be locks to write paths.
+    fn has_writes(&self) -> bool
+        ensures { AreWritesTold result self.now.keys }
     {
-        for number in 0..self.len().min(NEAR) {
-            if *self.lock(number) == *lock {
-                return Some(number);
+        self.writes
+    }
+
+    /// Whether there may be locks to write paths among those that are there and this one.
+    fn has_writes_with(&self, lock: &Lock) -> bool
+        ensures there { AreWritesTold result self.now.keys }
+        ensures behind { AreWritesTold result (self.now.keys ++ lock.now ∷ []) }
+    {
+        self.has_writes() || is_to_write(lock)
+    }
+
+    /// The greatest of these numbers, and of those that are told of any lock.
+    fn highest_with(&self, numbers: &[usize]) -> usize
+        ensures there { AreWithin result self.now.above }
+        ensures behind { (n : ℕ) → Has numbers.now n → n ≤ result }
+    {
+        let mut highest = self.highest;
+        for number in numbers {
+            highest = greater(highest, *number);
+        }
+        highest
+    }
+
+    /// Whether it is seen at once that none of these locks covers another lock.
+    pub fn has_none_above(&self, numbers: &Numbers) -> bool
+        ensures { IsTrue result → (n : ℕ) → is_under self.now.above numbers.now n ≡ false }
+    {
+        for number in numbers.members() {
+            if *number <= self.highest {
+                return false;
             }
         }
+        true
+    }
+
+    /// Whether the lock on all is the first.
+    fn begins_with_all(&self) -> bool
+        ensures { IsTrue result → slice_get self.now.keys 0 ≡ Some lock.All }
+    {
+        self.len() > 0 && matches!(self.lock(0), Lock::All)
+    }
+
+    /// The number that a lock with this right over a class has most likely.
+    fn likely(&self, right: Right) -> usize {
+        match right {
+            Right::Write => self.last.write,
+            Right::Read => self.last.read,
+            Right::Make => 0,
+        }
+    }
+
+    /// The number of a lock on a class, if it is the one that was asked for last.
+    fn last_on_class(&self, class: u16, right: Right) -> Option<usize>
+        ensures { (n : ℕ) → result ≡ Some n → slice_get self.now.keys n ≡ Some (lock.Class class right) }
+    {
+        let number = self.likely(right);
+        if number < self.len() && is_on_class(self.lock(number), class, right) {
+            return Some(number);
+        }
         None
+    }
+
+    /// Keeps the number of the lock on a class that was asked for last.
+    fn keep_last(&mut self, right: Right, number: usize)
+        ensures { self.new ≡ self.old }
+    {
+        match right {
+            Right::Write => self.last.write = number,
+            Right::Read => self.last.read = number,
+            Right::Make => {}
+        }
     }
 
     /// The number of a lock, which comes now unless it is there, and before it the locks above it.
@@ -191,7 +302,7 @@ impl Numbering {
             return Ok(number);
         }
         match lock {
-            Lock::All => self.put(alloc, Lock::All, &[]),
+            Lock::All => self.put_all(alloc),
             Lock::Class(class, right) => self.put_class(alloc, *class, *right),
             Lock::Path(path, effect) => self.put_path(alloc, scheme, path, *effect),
         }
@@ -204,11 +315,8 @@ impl Numbering {
         ensures { (s : SchemeView) → IsNumbering s self.old → IsOfClass s.classes lock.now class
             → IfOk result (IsNumbered s self.old self.new lock.now) }
     {
-        if let Some(number) = self.find(lock) {
-            return Ok(number);
-        }
         match lock {
-            Lock::All => self.put(alloc, Lock::All, &[]),
+            Lock::All => self.put_all(alloc),
             Lock::Class(class, right) => self.put_class(alloc, *class, *right),
             Lock::Path(path, effect) => self.put_classed(alloc, class, path, *effect),
         }
@@ -237,7 +345,7 @@ impl Numbering {
         ensures { (s : SchemeView) → IsNumbering s self.old → ((n : ℕ) → HasClass s.classes path.now n → ⊥)
             → IfOk result (IsNumbered s self.old self.new (lock.Path path.now effect)) }
     {
-        let all = self.put(alloc, Lock::All, &[])?;
+        let all = self.put_all(alloc)?;
         match effect {
             Effect::Write => self.put_write(alloc, path, &[all]),
             Effect::Read => self.put_read(alloc, path, &[all]),
@@ -261,7 +369,7 @@ impl Numbering {
         match effect {
             Effect::Write => self.put_write(alloc, path, &[all, write]),
             Effect::Read => {
-                let read = self.put(alloc, Lock::Class(class, Right::Read), &[all, write])?;
+                let read = self.put_on_class(alloc, class, Right::Read, &[all, write])?;
                 self.put_read(alloc, path, &[all, write, read])
             }
         }
@@ -270,6 +378,24 @@ impl Numbering {
     /// The number of the lock to read a path, which comes now unless it is there. Those above it that don't depend on
     /// the path have these numbers.
     fn put_read(&mut self, alloc: Global, path: &Path, above: &[usize]) -> Result<usize, AllocError>
+        ensures { (s : SchemeView) → IsNumbering s self.old
+            → AreAboveRead s self.old.keys path.now above.now
+            → IfOk result (IsNumbered s self.old self.new (lock.Path path.now effect.Read)) }
+    {
+        if self.has_writes() {
+            self.put_beside_write(alloc, path, above)
+        } else {
+            self.put_behind(alloc, Lock::Path(path.try_clone()?, Effect::Read), above)
+        }
+    }
+
+    /// The number of the lock to read a path, as `put_read` gives it, where the lock to write the path may be there.
+    fn put_beside_write(
+        &mut self,
+        alloc: Global,
+        path: &Path,
+        above: &[usize],
+    ) -> Result<usize, AllocError>
         ensures { (s : SchemeView) → IsNumbering s self.old
             → AreAboveRead s self.old.keys path.now above.now
             → IfOk result (IsNumbered s self.old self.new (lock.Path path.now effect.Read)) }
@@ -300,13 +426,13 @@ impl Numbering {
             → AreAbove s self.old.keys (lock.Path path.now effect.Write) above.now
             → IfOk result (IsNumbered s self.old self.new (lock.Path path.now effect.Write)) }
     {
-        let read = self.find(&Lock::Path(path.try_clone()?, Effect::Read));
         let Added { number, is_new } = self.add(
             alloc,
             Lock::Path(path.try_clone()?, Effect::Write),
             above,
         )?;
         if is_new {
+            let read = self.find(&Lock::Path(path.try_clone()?, Effect::Read));
             if let Some(read) = read {
                 self.tell(read, number)?;
             }
@@ -323,8 +449,8 @@ impl Numbering {
         let above = [over.all, over.write];
         match right {
             Right::Write => Ok(over.write),
-            Right::Read => self.put(alloc, Lock::Class(class, Right::Read), &above),
-            Right::Make => self.put(alloc, Lock::Class(class, Right::Make), &above),
+            Right::Read => self.put_on_class(alloc, class, Right::Read, &above),
+            Right::Make => self.put_on_class(alloc, class, Right::Make, &above),
         }
     }
 
@@ -335,21 +461,40 @@ impl Numbering {
             IsNumbered s self.old self.new lock.All over.all
             × IsNumbered s self.old self.new (lock.Class class right.Write) over.write) }
     {
-        let all = self.put(alloc, Lock::All, &[])?;
-        let write = self.put(alloc, Lock::Class(class, Right::Write), &[all])?;
+        let all = self.put_all(alloc)?;
+        let write = self.put_on_class(alloc, class, Right::Write, &[all])?;
         Ok(OverClass { all, write })
     }
 
-    /// The number of a lock that isn't one to write a path, which comes now unless it is there, mostly among the first.
-    /// The numbers of those above it are these.
-    fn put(&mut self, alloc: Global, lock: Lock, above: &[usize]) -> Result<usize, AllocError>
-        ensures { (s : SchemeView) → IsNumbering s self.old → (IsToWrite lock → ⊥)
-            → AreAbove s self.old.keys lock above.now → IfOk result (IsNumbered s self.old self.new lock) }
+    /// The number of the lock on all, which comes now unless it is there.
+    fn put_all(&mut self, alloc: Global) -> Result<usize, AllocError>
+        ensures { (s : SchemeView) → IsNumbering s self.old
+            → IfOk result (IsNumbered s self.old self.new lock.All) }
     {
-        match self.near(&lock) {
-            Some(number) => Ok(number),
-            None => self.put_behind(alloc, lock, above),
+        if self.begins_with_all() {
+            return Ok(0);
         }
+        self.put_behind(alloc, Lock::All, &[])
+    }
+
+    /// The number of a lock on a class, which comes now unless it is there. The numbers of those above it are these.
+    fn put_on_class(
+        &mut self,
+        alloc: Global,
+        class: u16,
+        right: Right,
+        above: &[usize],
+    ) -> Result<usize, AllocError>
+        ensures { (s : SchemeView) → IsNumbering s self.old
+            → AreAbove s self.old.keys (lock.Class class right) above.now
+            → IfOk result (IsNumbered s self.old self.new (lock.Class class right)) }
+    {
+        if let Some(number) = self.last_on_class(class, right) {
+            return Ok(number);
+        }
+        let number = self.put_behind(alloc, Lock::Class(class, right), above)?;
+        self.keep_last(right, number);
+        Ok(number)
     }
 
     /// The number of a lock that isn't one to write a path, which comes now unless it is there. The numbers of those
@@ -373,6 +518,8 @@ impl Numbering {
         ensures old { IfOk result (λ added. IsFalse added.is_new
             → (self.new.keys ≡ self.old.keys) × (self.new.above ≡ self.old.above)) }
     {
+        self.writes = self.has_writes_with(&lock);
+        self.highest = self.highest_with(above);
         let (number, is_new) = self.locks.insert_full(lock)?;
         if is_new {
             self.above.push(SmallVec::from_slice(alloc, above)?)?;
@@ -385,6 +532,7 @@ impl Numbering {
         requires { number < length self.old.above }
         ensures { OnOk result (IsTold self.old self.new number above) }
     {
+        self.highest = self.highest_with(&[above]);
         self.above[number].push(above)?;
         Ok(())
     }

@@ -111,6 +111,10 @@ fn fresh(
     ensures { IfOk result (λ fresh. fresh.items ≡ fresh_from numbering.now.above found.now numbers.now) }
 {
     let mut fresh = Vec::with_capacity(alloc, numbers.len())?;
+    if numbering.has_none_above(found) {
+        fresh.extend_from_slice(numbers)?;
+        return Ok(fresh);
+    }
     for number in numbers {
         if !numbering.is_under(found, *number) {
             fresh.push(*number)?;

@@ -2,6 +2,7 @@ pub mod Schemes
 pub mod Verdicts
 pub mod Locks
 pub mod Carrying
+pub mod Earlier
 pub mod Touching
 pub mod Needed
 pub mod Chains

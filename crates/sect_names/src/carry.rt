@@ -6,6 +6,7 @@ ghost use Rattle.sect_points.specs.{declared.holders.Variable.{Variable}, Paths.
 ghost use Rattle.sect_names.specs.{declared.lock.Lock.{Lock}, Locks.{depth}};
 ghost use Rattle.sect_names.specs.Carrying.{Replaced, AreOfOneClass, BeforeStore, BeforeAssignment, Before, GoesOn};
 ghost use Rattle.sect_names.specs.Carrying.{LockOn, CarriedBack, right_for};
+ghost use Rattle.sect_names.specs.Earlier.{IsOneOf};
 ghost use Rattle.sect_names.specs.steps.OverStore.{OverField};
 ghost use Rattle.sect_names.specs.declared.lock.Lock.TheVariants as lock;
 
@@ -29,6 +30,15 @@ impl Effect {
     }
 }
 
+/// The paths that may denote before a node what a path denotes after it: one at most, but for those over a store into a
+/// field.
+#[derive(Drop)]
+pub enum Earlier {
+    Nothing,
+    Alone(Path),
+    Any(Vec<Path>),
+}
+
 /// A path alone.
 fn alone(alloc: Global, path: Path) -> Result<Vec<Path>, AllocError>
     ensures { IfOk result (λ paths. paths.items ≡ path ∷ []) }
@@ -39,39 +49,39 @@ fn alone(alloc: Global, path: Path) -> Result<Vec<Path>, AllocError>
 }
 
 /// The path that begins with `start` in place of the variable `x`, where it begins with that.
-fn rebased(x: Variable, start: &Path, path: &Path) -> Result<Path, AllocError>
-    ensures { IfOk result (λ r. (q : PathView) → (q ≡ r) ↔ Replaced x (Some start.now) path.now q) }
+fn rebased(x: Variable, mut start: Path, path: &Path) -> Result<Path, AllocError>
+    ensures { IfOk result (λ r. (q : PathView) → (q ≡ r) ↔ Replaced x (Some start) path.now q) }
 {
     if path.base() == x {
-        Ok(start.extended(path.fields())?)
+        start.append(path.fields())?;
+        Ok(start)
     } else {
         Ok(path.try_clone()?)
     }
 }
 
 /// The path alone, which stays.
-fn unchanged(alloc: Global, path: &Path) -> Result<Vec<Path>, AllocError>
-    ensures { IfOk result (λ paths. (q : PathView) → Has paths.items q ↔ (q ≡ path.now)) }
+fn unchanged(path: &Path) -> Result<Earlier, AllocError>
+    ensures { IfOk result (λ paths. (q : PathView) → IsOneOf paths q ↔ (q ≡ path.now)) }
 {
-    alone(alloc, path.try_clone()?)
+    Ok(Earlier::Alone(path.try_clone()?))
 }
 
 /// The path alone, with `start` in place of the variable `x`, where it begins with that.
-fn moved(alloc: Global, x: Variable, start: &Path, path: &Path) -> Result<Vec<Path>, AllocError>
-    ensures { IfOk result (λ paths. (q : PathView)
-        → Has paths.items q ↔ Replaced x (Some start.now) path.now q) }
+fn moved(x: Variable, start: Path, path: &Path) -> Result<Earlier, AllocError>
+    ensures { IfOk result (λ paths. (q : PathView) → IsOneOf paths q ↔ Replaced x (Some start) path.now q) }
 {
-    alone(alloc, rebased(x, start, path)?)
+    Ok(Earlier::Alone(rebased(x, start, path)?))
 }
 
 /// The path, unless it begins with the variable `x`.
-fn unless_based(alloc: Global, x: Variable, path: &Path) -> Result<Vec<Path>, AllocError>
-    ensures { IfOk result (λ paths. (q : PathView) → Has paths.items q ↔ Replaced x None path.now q) }
+fn unless_based(x: Variable, path: &Path) -> Result<Earlier, AllocError>
+    ensures { IfOk result (λ paths. (q : PathView) → IsOneOf paths q ↔ Replaced x None path.now q) }
 {
     if path.base() == x {
-        Ok(Vec::new(alloc))
+        Ok(Earlier::Nothing)
     } else {
-        Ok(alone(alloc, path.try_clone()?)?)
+        Ok(Earlier::Alone(path.try_clone()?))
     }
 }
 
@@ -172,14 +182,14 @@ impl FieldStore {
     }
 
     /// The paths that may denote before the store what this path denotes after it.
-    fn before(self, scheme: &Scheme, alloc: Global, path: &Path) -> Result<Vec<Path>, AllocError>
-        ensures { IfOk result (λ paths. (q : PathView) → Has paths.items q
+    fn before(self, scheme: &Scheme, alloc: Global, path: &Path) -> Result<Earlier, AllocError>
+        ensures { IfOk result (λ paths. (q : PathView) → IsOneOf paths q
             ↔ BeforeStore scheme.now.classes self.base self.field self.value path.now q) }
     {
         if path.follows(self.field) {
-            return self.field_by_field(scheme, alloc, path);
+            return Ok(Earlier::Any(self.field_by_field(scheme, alloc, path)?));
         }
-        unchanged(alloc, path)
+        unchanged(path)
     }
 }
 
@@ -221,16 +231,30 @@ impl Scheme {
         ensures { IfOk result (λ paths. (q : PathView)
             → Has paths.items q ↔ Before self.now.classes thread label path.now q) }
     {
+        match self.earlier(alloc, thread, label, path)? {
+            Earlier::Nothing => Ok(Vec::new(alloc)),
+            Earlier::Alone(path) => alone(alloc, path),
+            Earlier::Any(paths) => Ok(paths),
+        }
+    }
+
+    /// The paths that may denote before a node what this path denotes after it, as `before` gives them.
+    pub fn earlier(
+        &self,
+        alloc: Global,
+        thread: u16,
+        label: Label,
+        path: &Path,
+    ) -> Result<Earlier, AllocError>
+        ensures { IfOk result (λ paths. (q : PathView)
+            → IsOneOf paths q ↔ Before self.now.classes thread label path.now q) }
+    {
         let Label::Act(action) = label else {
-            return unchanged(alloc, path);
+            return unchanged(path);
         };
         match action {
-            Action::Assign(target, value) => {
-                before_assignment(alloc, thread, target, value, path)
-            }
-            Action::New(target, _, _) => {
-                unless_based(alloc, Variable::Local(thread, target), path)
-            }
+            Action::Assign(target, value) => before_assignment(alloc, thread, target, value, path),
+            Action::New(target, _, _) => unless_based(Variable::Local(thread, target), path),
             Action::Load(target, base, field) => {
                 let target = Variable::Local(thread, target);
                 before_load(alloc, target, variable_of(thread, base), field, path)
@@ -243,7 +267,7 @@ impl Scheme {
                 };
                 store.before(self, alloc, path)
             }
-            Action::Compute(_, _, _, _) | Action::Print(_) => unchanged(alloc, path),
+            Action::Compute(_, _, _, _) | Action::Print(_) => unchanged(path),
         }
     }
 
@@ -295,21 +319,21 @@ fn before_assignment(
     target: u16,
     value: Value,
     path: &Path,
-) -> Result<Vec<Path>, AllocError>
+) -> Result<Earlier, AllocError>
     ensures { IfOk result (λ paths. (q : PathView)
-        → Has paths.items q ↔ BeforeAssignment thread target value path.now q) }
+        → IsOneOf paths q ↔ BeforeAssignment thread target value path.now q) }
 {
     let x = Variable::Local(thread, target);
     match value {
-        Value::Number(_) => unchanged(alloc, path),
-        Value::Null => unless_based(alloc, x, path),
+        Value::Number(_) => unchanged(path),
+        Value::Null => unless_based(x, path),
         Value::Local(number) => {
             let start = Path::new(alloc, Variable::Local(thread, number));
-            moved(alloc, x, &start, path)
+            moved(x, start, path)
         }
         Value::Global(number) => {
             let start = Path::new(alloc, Variable::Global(number));
-            moved(alloc, x, &start, path)
+            moved(x, start, path)
         }
     }
 }
@@ -321,10 +345,11 @@ fn before_load(
     z: Variable,
     f: Field,
     path: &Path,
-) -> Result<Vec<Path>, AllocError>
+) -> Result<Earlier, AllocError>
     ensures { IfOk result (λ paths. (q : PathView)
-        → Has paths.items q ↔ Replaced x (Some (dot (var z) f)) path.now q) }
+        → IsOneOf paths q ↔ Replaced x (Some (dot (var z) f)) path.now q) }
 {
-    let start = Path::new(alloc, z).extended(&[f])?;
-    moved(alloc, x, &start, path)
+    let mut start = Path::new(alloc, z);
+    start.push(f)?;
+    moved(x, start, path)
 }

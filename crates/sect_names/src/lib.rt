@@ -17,6 +17,7 @@ mod source;
 mod touching;
 mod variables;
 
+pub use carry::Earlier;
 pub use covers::covering_is_an_order;
 pub use fault::SchemeFault;
 pub use generate::end_lock;

@@ -97,8 +97,16 @@ impl Path {
         ensures { IfOk result (λ path. path ≡ dots self.now fields.now) }
     {
         let mut longer = self.try_clone()?;
-        longer.fields.extend_from_slice(fields)?;
+        longer.append(fields)?;
         Ok(longer)
+    }
+
+    /// Goes on by these fields.
+    pub fn append(&mut self, fields: &[Field]) -> Result<(), AllocError>
+        ensures { OnOk result (self.new ≡ dots self.old fields.now) }
+    {
+        self.fields.extend_from_slice(fields)?;
+        Ok(())
     }
 
     /// Goes on by one field more.

@@ -1,6 +1,6 @@
 use Rattle.std.proofs.{Common.{◌<◌, ◌∙◌, ◌++◌, ◌∷◌, [], length, get_or, sym, arith, ap}, lemmas.List.{get_or_default}}
 use Rattle.sect_lemmas.proofs.Membership.{Has-get_or}
-use Rattle.sect_infer.proofs.Appending.{fresh_next, fresh_skip}
+use Rattle.sect_infer.proofs.{Appending.{fresh_next, fresh_skip}, Highest.{fresh_all}}
 use Rattle.sect_infer.proofs.work.fresh.Goals.{then-not-is_under+in_ok-push, else-not-is_under}
 use Rattle.sect_infer.proofs.work.fresh.Goals as goal
 
@@ -25,3 +25,11 @@ loop-number-preserved c =
           let next = fresh_skip above found numbers i n within is (sym c.is_under.ensures ∙ w.if-not-is_under.false) in
           rw (w.fresh-is, next) c.loop-number.invariant
     ]
+
+pub returns-then-has_none_above : goal.returns-then-has_none_above
+returns-then-has_none_above c =
+    let above = c.args.numbering.now.above in
+    let found = c.args.found.now in
+    let none = c.has_none_above.ensures c.if-has_none_above.true in
+    c.in_ok-extend_from_slice.ensures.items
+    ∙ ap (λ ns. ns ++ c.args.numbers.now) c.in_ok-fresh.ensures.items ∙ fresh_all above found c.args.numbers.now none

@@ -19,7 +19,7 @@ returns-clause-added c =
     ∙ ap (λ v. v.items) (sym c.index_mut.ensures.value) in
     let new : map (λ v. v.items) (set vs to c.push.new.self) ≡ set lists to (slice_index_or lists to [] ++ from ∷ []) =
     map-set (λ v. v.items) vs to c.push.new.self
-    ∙ ap (set lists to) (c.in_ok-push.ensures.items ∙ ap (λ l. l ++ from ∷ []) (sym was)) in
+    ∙ ap (set lists to) (c.in_ok-push.ensures.ok ∙ ap (λ l. l ++ from ∷ []) (sym was)) in
     subst (λ old. IsAdded old (map (λ v. v.items) (set vs to c.push.new.self)) to from) c.self.view_is
     (subst (λ l. IsAdded lists l to from) (sym new) (push_at lists to from there))
 
@@ -35,6 +35,6 @@ returns-clause-behind c =
     ∙ ap (λ v. v.items) (sym c.index_mut.ensures.value) in
     let new : map (λ v. v.items) (set vs to c.push.new.self) ≡ set lists to (slice_index_or lists to [] ++ from ∷ []) =
     map-set (λ v. v.items) vs to c.push.new.self
-    ∙ ap (set lists to) (c.in_ok-push.ensures.items ∙ ap (λ l. l ++ from ∷ []) (sym was)) in
+    ∙ ap (set lists to) (c.in_ok-push.ensures.ok ∙ ap (λ l. l ++ from ∷ []) (sym was)) in
     subst (λ (old : List (List ℕ)). map (λ v. v.items) (set vs to c.push.new.self)
     ≡ set old to (slice_index_or old to [] ++ from ∷ [])) c.self.view_is new

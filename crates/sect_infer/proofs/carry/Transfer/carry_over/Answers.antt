@@ -2,7 +2,7 @@ use Rattle.std.proofs.{Common.{◌≡◌, ◌↔◌, ◌∙◌, inl, inr, sym, s
 use Rattle.sect_lemmas.proofs.Places.{one_at}
 use Rattle.sect_names.specs.{declared.lock.Lock.{Lock}, Carrying.{CarriedBack}}
 use Rattle.sect_names.specs.declared.lock.Lock.TheVariants as lock
-use Rattle.sect_infer.specs.{Numbers.{with_number}, steps.Putting.{AreOn}}
+use Rattle.sect_infer.specs.{Numbers.{with_number}, steps.Putting.{IsOnOneOf}}
 use Rattle.sect_infer.proofs.{Carrying.{finds_one, finds_as}, Extending.{numbered_there}}
 use Rattle.sect_infer.proofs.carry.Transfer.carry_over.Goals as goal
 
@@ -13,14 +13,14 @@ returns-in_ok-paths-in-Path c =
     let label = c.args.self.label.now in
     let a = c.args.numbering.now in
     let e = c.in-Path.effect in
-    let paths = c.in_ok-paths-in-Path.paths.items in
+    let paths = c.in_ok-paths-in-Path.paths in
     let tells = c.in_ok-paths-in-Path.ensures in
-    on_ok_weaker c.find_all_on.result (λ f l at.
+    on_ok_weaker c.find_each_on.result (λ f l at.
     let same : c.lock.result.now ≡ l = one_at a.keys c.args.number c.lock.result.now l c.lock.ensures at in
-    finds_as s a c.find_all_on.new.numbering c.args.found.now c.find_all_on.new.found (AreOn s e paths)
+    finds_as s a c.find_each_on.new.numbering c.args.found.now c.find_each_on.new.found (IsOnOneOf s e paths)
     (CarriedBack s t label l)
-    (subst (λ k. (r : Lock) → CarriedBack s t label k r ↔ AreOn s e paths r) (sym c.in-Path.is ∙ same)
-    (λ r. (λ h. (h.0, (tells h.0).1 h.1, h.2), λ h. (h.0, (tells h.0).0 h.1, h.2)))) f) c.find_all_on.ensures
+    (subst (λ k. (r : Lock) → CarriedBack s t label k r ↔ IsOnOneOf s e paths r) (sym c.in-Path.is ∙ same)
+    (λ r. (λ h. (h.0, (tells h.0).1 h.1, h.2), λ h. (h.0, (tells h.0).0 h.1, h.2)))) f) c.find_each_on.ensures
 
 pub returns-in_ok-insert-in-All : goal.returns-in_ok-insert-in-All
 returns-in_ok-insert-in-All c = λ l at.

@@ -1,6 +1,6 @@
 use Rattle.std.proofs.Common.{[], ◌∷◌}
 use Rattle.sect_names.proofs.shared.Climbing.{class_coverers}
-use Rattle.sect_infer.proofs.Extending.{above_placed, class_other, put_after}
+use Rattle.sect_infer.proofs.Extending.{above_placed, put_after}
 use Rattle.sect_names.specs.declared.lock.Right.TheVariants as right
 use Rattle.sect_names.specs.declared.lock.Lock.TheVariants as lock
 use Rattle.sect_infer.proofs.numbering.Numbering.put_class.Goals as goal
@@ -15,8 +15,8 @@ returns-in-Read c = λ s is.
     let l = lock.Class c.args.class right.Read in
     let coverers = lock.All ∷ lock.Class c.args.class right.Write ∷ [] in
     let numbers = c.in_ok-over.over.all ∷ c.in_ok-over.over.write ∷ [] in
-    rw c.in-Read.is (put_after s c.args.self.now b c.put.new.self l c.put.result over.0.longer
-    (c.put.ensures s over.0.numbering (class_other c.args.class right.Read) (above_placed s b.keys l coverers numbers
+    rw c.in-Read.is (put_after s c.args.self.now b c.put_on_class.new.self l c.put_on_class.result over.0.longer
+    (c.put_on_class.ensures s over.0.numbering (above_placed s b.keys l coverers numbers
     (class_coverers s c.args.class right.Read) (over.0.there, (over.1.there, tt)))))
 
 pub returns-in-Make : goal.returns-in-Make
@@ -26,6 +26,6 @@ returns-in-Make c = λ s is.
     let l = lock.Class c.args.class right.Make in
     let coverers = lock.All ∷ lock.Class c.args.class right.Write ∷ [] in
     let numbers = c.in_ok-over.over.all ∷ c.in_ok-over.over.write ∷ [] in
-    rw c.in-Make.is (put_after s c.args.self.now b c.put-in-Make.new.self l c.put-in-Make.result over.0.longer
-    (c.put-in-Make.ensures s over.0.numbering (class_other c.args.class right.Make) (above_placed s b.keys l coverers
+    rw c.in-Make.is (put_after s c.args.self.now b c.put_on_class-in-Make.new.self l c.put_on_class-in-Make.result over.0.longer
+    (c.put_on_class-in-Make.ensures s over.0.numbering (above_placed s b.keys l coverers
     numbers (class_coverers s c.args.class right.Make) (over.0.there, (over.1.there, tt)))))

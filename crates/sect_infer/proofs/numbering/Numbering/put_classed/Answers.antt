@@ -1,7 +1,7 @@
 use Rattle.std.proofs.Common.{[], ◌∷◌, Some}
 use Rattle.sect_names.proofs.shared.Climbing.{class_coverers, coverers_of_path}
 use Rattle.sect_infer.proofs.shared.Extending.{extends_at, extends_then}
-use Rattle.sect_infer.proofs.Extending.{ArePlaced, above_placed, read_placed, class_other, put_after}
+use Rattle.sect_infer.proofs.Extending.{ArePlaced, above_placed, read_placed, put_after}
 use Rattle.sect_names.specs.declared.lock.Effect.TheVariants as effect
 use Rattle.sect_names.specs.declared.lock.Right.TheVariants as right
 use Rattle.sect_names.specs.declared.lock.Lock.TheVariants as lock
@@ -29,14 +29,14 @@ pub returns-in_ok-read-in-Read : goal.returns-in_ok-read-in-Read
 returns-in_ok-read-in-Read c = λ s is told.
     let a = c.args.self.now in
     let b = c.over_class.new.self in
-    let d = c.put.new.self in
+    let d = c.put_on_class.new.self in
     let p = c.args.path.now in
     let n = c.in_ok-all.field-0.all in
     let m = c.in_ok-all.field-0.write in
     let class_write = lock.Class c.args.class right.Write in
     let class_read = lock.Class c.args.class right.Read in
     let over = c.in_ok-all.ensures s is in
-    let part = c.in_ok-read-in-Read.ensures s over.0.numbering (class_other c.args.class right.Read)
+    let part = c.in_ok-read-in-Read.ensures s over.0.numbering
     (above_placed s b.keys class_read (lock.All ∷ class_write ∷ []) (n ∷ m ∷ [])
     (class_coverers s c.args.class right.Read) (over.0.there, (over.1.there, tt))) in
     let three = lock.All ∷ class_write ∷ class_read ∷ [] in

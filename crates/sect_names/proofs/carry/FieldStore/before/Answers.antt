@@ -1,7 +1,6 @@
 use Rattle.std.proofs.{Common.{◌≡◌, ◌↔◌}, lemmas.Result.{IfOk-weaker}}
-use Rattle.sect_lemmas.specs.Lists.{Has}
 use Rattle.sect_points.specs.Paths.{PathView}
-use Rattle.sect_names.specs.Carrying.{BeforeStore}
+use Rattle.sect_names.specs.{Carrying.{BeforeStore}, Earlier.{IsOneOf}}
 use Rattle.sect_names.proofs.Untouched.{tells_off, untouched_field}
 use Rattle.sect_names.proofs.carry.FieldStore.before.Goals as goal
 
@@ -10,8 +9,8 @@ returns c =
     let x = c.args.self in
     let cs = c.args.scheme.now.classes in
     let p = c.args.path.now in
-    IfOk-weaker c.unchanged.result (λ paths. (q : PathView) → Has paths.items q ↔ (q ≡ p))
-    (λ paths. (q : PathView) → Has paths.items q ↔ BeforeStore cs x.base x.field x.value p q)
+    IfOk-weaker c.unchanged.result (λ paths. (q : PathView) → IsOneOf paths q ↔ (q ≡ p))
+    (λ paths. (q : PathView) → IsOneOf paths q ↔ BeforeStore cs x.base x.field x.value p q)
     (λ paths same q.
     let tells = untouched_field cs x.base x.field x.value p q
     (tells_off c.follows.ensures c.if-follows.false) in

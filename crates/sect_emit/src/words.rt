@@ -17,7 +17,7 @@ use sect_cert::{CertBase, CertLock, CertPath, CertStep, ChainSteps, Runs, Shared
 use sect_chains::Chain;
 use sect_front::Items;
 use sect_infer::Locks;
-use sect_names::{Effect, Link, Lock, Path, Right, field_name};
+use sect_names::{Effect, Link, Lock, Path, Right, field_name, precedes};
 use sect_points::Variable;
 use sect_types::Program;
 use std::alloc::{AllocError, Global};
@@ -80,7 +80,7 @@ fn lock_of(alloc: Global, program: &Program, lock: &Lock) -> Result<CertLock, Al
     }
 }
 
-/// How many places of a list are searched for a lock.
+/// How many places of a list are searched one by one.
 const NEAR: usize = 4;
 
 /// Locks, and what they are by their names.
@@ -97,18 +97,58 @@ fn are_equal(one: &Lock, other: &Lock) -> bool
     *one == *other
 }
 
-/// Where a list has a lock: at this place, or not far behind it.
+/// The first place between two at which a list in canonical order has no lock before this one; the second where there is
+/// none.
+fn first_between(locks: &[&Lock], from: usize, end: usize, lock: &Lock) -> usize
+    requires { end ≤ length locks.now }
+{
+    let mut low = from;
+    let mut high = end;
+    while low < high {
+        let middle = low + (high - low) / 2;
+        if precedes(locks[middle], lock) {
+            low = middle + 1;
+        } else {
+            high = middle;
+        }
+    }
+    low
+}
+
+/// The first place from one on at which a list in canonical order has no lock before this one. Mostly it is near.
+#[inline(never)]
+fn first_from(locks: &[&Lock], from: usize, lock: &Lock) -> usize {
+    let near = locks.len().min(from.saturating_add(NEAR));
+    for place in from..near {
+        if !precedes(locks[place], lock) {
+            return place;
+        }
+    }
+    first_between(locks, near, locks.len(), lock)
+}
+
+/// Whether a list has a lock at a place.
+fn is_at(locks: &[&Lock], place: usize, lock: &Lock) -> bool
+    ensures within { IsTrue result → place < length locks.now }
+    ensures there { IsTrue result → slice_get (map deref locks.now) place ≡ Some lock.now }
+{
+    place < locks.len() && are_equal(locks[place], lock)
+}
+
+/// Where a list in canonical order has a lock: at this place or behind it.
 fn place_of(locks: &[&Lock], from: usize, lock: &Lock) -> Option<usize>
     ensures within { IfSome result (λ place. place < length locks.now) }
     ensures there { IfSome result (λ place. slice_get (map deref locks.now) place ≡ Some lock.now) }
 {
-    let end = locks.len().min(from.saturating_add(NEAR));
-    for place in from..end {
-        if are_equal(locks[place], lock) {
-            return Some(place);
-        }
+    if is_at(locks, from, lock) {
+        return Some(from);
     }
-    None
+    let place = first_from(locks, from, lock);
+    if is_at(locks, place, lock) {
+        Some(place)
+    } else {
+        None
+    }
 }
 
 /// The lock that is next in a list, by its names. One that a known list has from a place on isn't named again, and the

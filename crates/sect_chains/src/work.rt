@@ -13,7 +13,7 @@ ghost use Rattle.sect_chains.specs.steps.Ordering.{IsInOrder, AllBefore, AddsTo,
 use crate::keep::{KeptLink, Siblings, keep};
 use crate::marks::Marks;
 use sect_graph::Flow;
-use sect_infer::{Numbering, Numbers, carry_one};
+use sect_infer::{Numbering, Numbers, carry_one, room_for};
 use sect_names::{Link, Lock, Scheme, stays};
 use std::alloc::{AllocError, Global};
 
@@ -138,10 +138,14 @@ impl Searched<'_> {
         ensures order { IfOk result (λ trail. BeginsInOrder self.entry.scheme.now self.entry.thread
             self.entry.last.now self.entry.flow.now trail) }
     {
+        let room = room_for(self.flow);
+        let numbering = Numbering::with_room(alloc, room)?;
+        let found = none_found(alloc, self.flow.exit() as usize + 1)?;
+        let steps = Vec::with_capacity(alloc, room)?;
         let mut trail = Trail {
-            numbering: Numbering::new(alloc),
-            found: none_found(alloc, self.flow.exit() as usize + 1)?,
-            steps: Vec::new(alloc),
+            numbering,
+            found,
+            steps,
         };
         self.put_by_nodes(alloc, &mut trail)?;
         self.put_at_end(alloc, &mut trail)?;

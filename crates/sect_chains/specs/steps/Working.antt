@@ -1,5 +1,5 @@
 -- The search for what is needed at the nodes of a section's graph: what has been found, and which steps are kept.
-use Rattle.std.specs.Prelude.{◌≡◌, ◌<◌, ◌+◌, ℕ, List, [], ◌++◌, map, Option, Some, None, length, slice_get}
+use Rattle.std.specs.Prelude.{◌≡◌, ◌<◌, ◌+◌, ℕ, List, ◌++◌, map, Option, Some, None, length, slice_get}
 use Rattle.std.specs.Prelude.{Bool}
 use Rattle.sect_lemmas.specs.Lists.{Has}
 use Rattle.sect_graph.specs.declared.flow.Node.{Node}

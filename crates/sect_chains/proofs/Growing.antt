@@ -1,6 +1,6 @@
 -- What is found and kept grows.
 use Rattle.std.proofs.Common.{◌≡◌, ◌⊎◌, ℕ, ◌<◌, List, [], ◌∷◌, ◌++◌, Option, Some, None, Bool, true, false, inl, inr}
-use Rattle.std.proofs.Common.{refl, sym, ap, ◌∙◌, subst, length, append_assoc, arith}
+use Rattle.std.proofs.Common.{refl, sym, ap, ◌∙◌, subst, length, length-append, append_assoc, arith, ◌↔◌, true≢false}
 use Rattle.std.proofs.lemmas.List.{append-nil, map-append, length-set}
 use Rattle.std.proofs.lemmas.Option.{slice_get_within, get_or_from_slice_get, slice_get-map}
 use Rattle.std.specs.{Prelude.{slice_get, slice_index_or, slice_set, if◌then◌else◌}, Option.{option_map}}
@@ -9,13 +9,14 @@ use Rattle.sect_lemmas.proofs.{Membership.{Has-cases, Has-left, Has-right, Has-s
 use Rattle.sect_graph.specs.declared.flow.Node.{Node}
 use Rattle.sect_names.specs.{declared.link.Link.{Link}, declared.lock.Lock.{Lock}, Schemes.{SchemeView}, Chains.{link}}
 use Rattle.sect_names.proofs.shared.Covering.{covers_refl, covers_trans}
-use Rattle.sect_infer.specs.Numbers.{AreApart, has_number, with_number}
-use Rattle.sect_infer.specs.Numberings.{NumberingView, HasLock, AreNumbers, IsNumbering, Extends, is_under, lock_at}
-use Rattle.sect_infer.proofs.shared.{Apart.{apart_push, apart_one, number_tells, number_absent}, Bounding.{named}}
-use Rattle.sect_infer.proofs.shared.Extending.{extends_none, extends_then, extends_at, extends_back, extends_numbers}
-use Rattle.sect_infer.proofs.shared.Undone.{under_is}
+use Rattle.sect_infer.specs.Numbers.{AreApart}
+use Rattle.sect_infer.specs.Numberings.{NumberingView, HasLock, IsNumbering, Extends, lock_at}
+use Rattle.sect_infer.proofs.shared.{Apart.{apart_push, apart_one}, Bounding.{named}}
+use Rattle.sect_infer.proofs.shared.Extending.{extends_none, extends_then, extends_at, get_front}
 use Rattle.sect_chains.specs.declared.keep.KeptLink.{KeptLink}
-use Rattle.sect_chains.specs.steps.Keeping.{KeptView, kept, step_of, is_new, keep_one, keep_each}
+use Rattle.sect_chains.specs.steps.Keeping.{KeptView, kept, step_of, IsMarkedAt, is_outdone, is_new, keep_one, keep_each}
+use Rattle.sect_chains.specs.steps.Marking.{is_marked, with_mark}
+use Rattle.sect_chains.proofs.Marking.{any_has}
 use Rattle.sect_chains.specs.steps.Trails.{HasTrail, LeadOn}
 use Rattle.sect_chains.specs.steps.Working.{link_of, links_of, nexts_of, IsFoundAt, IsCoveredAt, IsKept, IsReason}
 use Rattle.sect_chains.specs.steps.Working.{Grows}
@@ -136,12 +137,17 @@ module _ (s : SchemeView) (t : ℕ) (last : List Lock) (g : List Node) where
   grows_extended a w b k e is =
       let same = links_same a b e w.steps (kept_numbers a w k) in
       let back : (x : Link) → IsFoundAt b.keys w.found x → IsFoundAt a.keys w.found x
-      = λ x h. extends_back a b e (slice_index_or w.found x.node []) (k.numbers x.node) x.lock h in
+      = λ x h. (
+        h.0,
+        h.1,
+        get_front a.keys e.0 h.0 x.lock (k.numbers x.node h.0 h.1)
+            (subst (λ ks. slice_get ks h.0 ≡ Some x.lock) e.1 h.2),
+      ) in
       record {
         kept = record {
           numbering = is;
           count = k.count;
-          numbers = λ j. extends_numbers a b e (slice_index_or w.found j []) (k.numbers j);
+          numbers = λ j n h. (let within = k.numbers j n h in omega (arith, within, ap length e.1, length-append a.keys e.0));
           trails = λ x h. k.trails x (back x h);
           there = k.there;
           leads = subst (λ ls. LeadOn s t last g ls (nexts_of w.steps)) (sym same) k.leads;
@@ -194,34 +200,39 @@ module _ (s : SchemeView) (t : ℕ) (last : List Lock) (g : List Node) where
       (at : slice_get a.keys x.number ≡ Some l)
       (within : x.node < length w.found) (why : IsReason s t last g (links_of a.keys w.steps) (link x.node l) x.next)
     where
-      abbrev before : List ℕ
+      abbrev before : List Bool
       before = slice_index_or w.found x.node []
 
-      abbrev now : List (List ℕ)
-      now = slice_set w.found x.node (with_number before x.number)
+      abbrev now : List (List Bool)
+      now = slice_set w.found x.node (with_mark before (length a.above) x.number)
 
       abbrev links : List Link
       links = links_of a.keys w.steps
 
-      still : (j n : ℕ) → Has (slice_index_or w.found j []) n → Has (slice_index_or now j []) n
-      still j n h = (found_new w.found x.node x.number within j n).1 (inl h)
+      -- what is marked now
+      marked : (j n : ℕ) → IsMarkedAt now j n ↔ (IsMarkedAt w.found j n ⊎ ((j ≡ x.node) × (n ≡ x.number)))
+      marked = found_new w.found (length a.above) x.node x.number within
+          (let there = slice_get_within a.keys x.number l at in omega (arith, there, k.numbering.count))
+
+      still : (j n : ℕ) → IsMarkedAt w.found j n → IsMarkedAt now j n
+      still j n h = (marked j n).1 (inl h)
 
       -- what is found was found before, or is the lock of the step
       cases : (y : Link) → IsFoundAt a.keys now y → IsFoundAt a.keys w.found y ⊎ (y ≡ link x.node l)
-      cases y h = elim ((found_new w.found x.node x.number within y.node h.0).0 h.1) [
+      cases y h = elim ((marked y.node h.0).0 h.1) [
         | inl old ↦ inl (h.0, old, h.2)
         | inr e ↦ inr (same_link y x.node l e.0
             (one_at a.keys x.number y.lock l (subst (λ n. slice_get a.keys n ≡ Some y.lock) e.1 h.2) at))
       ]
 
-      put_there : Has (slice_index_or now x.node []) x.number
-      put_there = (found_new w.found x.node x.number within x.node x.number).1 (inr (refl, refl))
+      put_there : IsMarkedAt now x.node x.number
+      put_there = (marked x.node x.number).1 (inr (refl, refl))
 
       here : IsFoundAt a.keys now (link x.node l)
       here = (x.number, put_there, at)
 
-      numbers : (j : ℕ) → AreNumbers a.keys (slice_index_or now j [])
-      numbers j n h = elim ((found_new w.found x.node x.number within j n).0 h) [
+      numbers : (j n : ℕ) → IsMarkedAt now j n → n < length a.keys
+      numbers j n h = elim ((marked j n).0 h) [
         | inl old ↦ k.numbers j n old
         | inr e ↦ (let there = slice_get_within a.keys x.number l at in omega (arith, there, e.1))
       ]
@@ -233,7 +244,7 @@ module _ (s : SchemeView) (t : ℕ) (last : List Lock) (g : List Node) where
       ]
 
       -- a lock that is new at the node has no step there
-      fresh : has_number before x.number ≡ false → Has links (link x.node l) → ⊥
+      fresh : is_marked before x.number ≡ false → Has links (link x.node l) → ⊥
       fresh off h =
           let y = Has-unmap (link_of a.keys) w.steps (link x.node l) h in
           let there = k.there y.0 y.1 in
@@ -241,17 +252,18 @@ module _ (s : SchemeView) (t : ℕ) (last : List Lock) (g : List Node) where
           let got : slice_get a.keys y.0.number ≡ Some l
           = named a.keys y.0.number (k.numbers y.0.node y.0.number there) ∙ ap (λ b. Some b.lock) y.2 in
           let number : y.0.number ≡ x.number = apart_one a.keys y.0.number x.number l k.numbering.apart got at in
-          number_absent before x.number off
-          (subst (Has before) number (subst (λ j. Has (slice_index_or w.found j []) y.0.number) node there))
+          true≢false (sym (subst (λ n. is_marked before n ≡ true) number
+          (subst (λ j. IsMarkedAt w.found j y.0.number) node there)) ∙ off)
 
       -- one that isn't new has a step that covers it
       by_another : is_new a.above before x.number ≡ false → IsCoveredAt s links (link x.node l)
-      by_another e = elim (old_told (has_number before x.number) (is_under a.above before x.number) e) [
-        | inl has ↦ k.covered (link x.node l) (x.number, (number_tells before x.number).0 has, at)
+      by_another e = elim (old_told (is_marked before x.number) (is_outdone a.above before x.number) e) [
+        | inl has ↦ k.covered (link x.node l) (x.number, has, at)
         | inr under ↦
-            let out = under_is s a k.numbering before x.number l at under in
-            let top = k.covered (link x.node out.0) out.1 in
-            (top.0, top.1, covers_trans s top.0 out.0 l top.2 out.2)
+            let m = any_has (is_marked before) (slice_index_or a.above x.number []) under in
+            let big = (k.numbering.told x.number l at).cover m.0 m.1 in
+            let top = k.covered (link x.node big.0) (m.0, m.2, big.1) in
+            (top.0, top.1, covers_trans s top.0 big.0 l top.2 big.2.0)
       ]
 
       links_more : links_of a.keys (w.steps ++ x ∷ []) ≡ links ++ link x.node l ∷ []
@@ -265,13 +277,13 @@ module _ (s : SchemeView) (t : ℕ) (last : List Lock) (g : List Node) where
           → IsKept s t last g a (kept now (if b then w.steps ++ x ∷ [] else w.steps))
       kept_so true e = record {
         numbering = k.numbering;
-        count = length-set w.found x.node (with_number before x.number) ∙ k.count;
+        count = length-set w.found x.node (with_mark before (length a.above) x.number) ∙ k.count;
         numbers = numbers;
         trails = trails;
         there = λ y h. elim (Has-cases w.steps (x ∷ []) y h) [
           | inl old ↦ still y.node y.number (k.there y old)
           | inr one ↦ elim one [
-            | inl is ↦ subst (λ (z : KeptLink). Has (slice_index_or now z.node []) z.number) is put_there
+            | inl is ↦ subst (λ (z : KeptLink). IsMarkedAt now z.node z.number) is put_there
             | inr none ↦ absurd none
           ]
         ];
@@ -284,11 +296,11 @@ module _ (s : SchemeView) (t : ℕ) (last : List Lock) (g : List Node) where
               (l, Has-right links (link x.node l ∷ []) (link x.node l) (inl refl), covers_refl s l)
         ]);
         apart = subst (λ ls. AreApart ls) (sym links_more) (apart_push links (link x.node l) k.apart
-            (fresh (new_told (has_number before x.number) (is_under a.above before x.number) e)));
+            (fresh (new_told (is_marked before x.number) (is_outdone a.above before x.number) e)));
       }
       kept_so false e = record {
         numbering = k.numbering;
-        count = length-set w.found x.node (with_number before x.number) ∙ k.count;
+        count = length-set w.found x.node (with_mark before (length a.above) x.number) ∙ k.count;
         numbers = numbers;
         trails = trails;
         there = λ y h. still y.node y.number (k.there y h);

@@ -3,35 +3,34 @@ use Rattle.std.proofs.Common.{◌≡◌, ◌↔◌, ◌⊎◌, ℕ, ◌+◌, ◌
 use Rattle.std.proofs.Common.{get_or, set, take, inl, inr, refl, sym, ap, ◌∙◌, subst, true≢false}
 use Rattle.std.proofs.{lemmas.Bool.{cases_eq}, lemmas.List.{get_or-set_same, get_or-set_other, length-set, take_more}}
 use Rattle.std.specs.Prelude.{slice_index_or, slice_set, ◌&&◌}
-use Rattle.sect_lemmas.specs.Lists.{Has}
-use Rattle.sect_infer.specs.Numbers.{with_number}
-use Rattle.sect_infer.proofs.shared.Apart.{with_has}
-use Rattle.sect_chains.specs.steps.Keeping.{KeptView, step_of, keep_one, keep_each}
+use Rattle.sect_chains.specs.steps.{Keeping.{KeptView, step_of, keep_one, keep_each, IsMarkedAt}}
+use Rattle.sect_chains.specs.steps.Marking.{is_marked, with_mark}
+use Rattle.sect_chains.proofs.Marking.{mark_has}
 
--- what was found at the nodes, once a number is put at one of them
-pub found_new : (found : List (List ℕ)) (j n : ℕ) → j < length found → (i m : ℕ)
-    → Has (slice_index_or (slice_set found j (with_number (slice_index_or found j []) n)) i []) m
-    ↔ (Has (slice_index_or found i []) m ⊎ ((i ≡ j) × (m ≡ n)))
-found_new found j n there i m =
-    let put = with_number (slice_index_or found j []) n in
+-- what is marked at the nodes, once a number is marked at one of them
+pub found_new : (found : List (List Bool)) (count j n : ℕ) → j < length found → n < count → (i m : ℕ)
+    → IsMarkedAt (slice_set found j (with_mark (slice_index_or found j []) count n)) i m
+    ↔ (IsMarkedAt found i m ⊎ ((i ≡ j) × (m ≡ n)))
+found_new found count j n there below i m =
+    let put = with_mark (slice_index_or found j []) count n in
     elim (cases_eq i j) [
       | inl e ↦
           let here : slice_index_or (set found j put) i [] ≡ put
           = ap (λ k. get_or (set found j put) k []) e ∙ get_or-set_same found j put [] there in
           let was : slice_index_or found i [] ≡ slice_index_or found j [] = ap (λ k. get_or found k []) e in
-          let one = with_has (slice_index_or found j []) n m in (
-            λ h. elim (one.0 (subst (λ l. Has l m) here h)) [
-              | inl a ↦ inl (subst (λ l. Has l m) (sym was) a)
+          let one = mark_has (slice_index_or found j []) count n below m in (
+            λ h. elim (one.0 (subst (λ l. is_marked l m ≡ true) here h)) [
+              | inl a ↦ inl (subst (λ l. is_marked l m ≡ true) (sym was) a)
               | inr q ↦ inr (e, q)
             ],
-            λ h. subst (λ l. Has l m) (sym here)
-                (one.1 (elim h [ inl a ↦ inl (subst (λ l. Has l m) was a) | inr b ↦ inr b.1 ])),
+            λ h. subst (λ l. is_marked l m ≡ true) (sym here)
+                (one.1 (elim h [ inl a ↦ inl (subst (λ l. is_marked l m ≡ true) was a) | inr b ↦ inr b.1 ])),
           )
       | inr other ↦
           let here : slice_index_or (set found j put) i [] ≡ slice_index_or found i []
           = get_or-set_other found j i put [] other in (
-            λ h. inl (subst (λ l. Has l m) here h),
-            λ h. subst (λ l. Has l m) (sym here) (elim h [ inl a ↦ a | inr b ↦ absurd (other b.0) ]),
+            λ h. inl (subst (λ l. is_marked l m ≡ true) here h),
+            λ h. subst (λ l. is_marked l m ≡ true) (sym here) (elim h [ inl a ↦ a | inr b ↦ absurd (other b.0) ]),
           )
     ]
 
@@ -57,7 +56,7 @@ pub each_count : (above : List (List ℕ)) (w : KeptView) (j : ℕ) (o : Option 
 each_count above w j o [] = refl
 each_count above w j o (n ∷ ns) =
     each_count above (keep_one above w (step_of j o n)) j o ns
-    ∙ length-set w.found j (with_number (slice_index_or w.found j []) n)
+    ∙ length-set w.found j (with_mark (slice_index_or w.found j []) (length above) n)
 
 -- the next number
 pub each_next : (above : List (List ℕ)) (w v u : KeptView) (j : ℕ) (o : Option ℕ) (ns : List ℕ) (i n : ℕ)

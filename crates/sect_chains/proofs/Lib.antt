@@ -1,4 +1,5 @@
 mod Places
+mod Marking
 mod Keeping
 mod Growing
 mod Carrying

@@ -1,5 +1,6 @@
 -- What the contracts of private functions speak of.
 pub mod Trails
+pub mod Marking
 pub mod Keeping
 pub mod Working
 pub mod Starting

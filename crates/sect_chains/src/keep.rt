@@ -3,8 +3,9 @@
 ghost use Rattle.std.specs.Prelude.{◌≡◌, ◌<◌, ℕ, List, length, OnOk};
 ghost use Rattle.sect_lemmas.specs.Lists.{Has};
 ghost use Rattle.sect_infer.specs.{Numbers.{AreApart}, Numberings.{AreNumbers, IsOrderOf}};
-ghost use Rattle.sect_chains.specs.steps.Keeping.{kept, is_new, keep_one, keep_each};
+ghost use Rattle.sect_chains.specs.steps.Keeping.{kept, is_outdone, is_new, keep_one, keep_each};
 
+use crate::marks::Marks;
 use sect_infer::{Numbering, Numbers, in_order};
 use std::alloc::{AllocError, Global};
 
@@ -25,22 +26,38 @@ pub struct Siblings {
     pub next: Option<usize>,
 }
 
-/// Whether a lock is another than those with these numbers, and none of them covers it.
-fn is_new(numbering: &Numbering, found: &Numbers, number: usize) -> bool
+/// Whether another lock, whose number is marked, covers the lock with this number.
+#[inline(always)]
+fn is_outdone(numbering: &Numbering, found: &Marks, number: usize) -> bool
+    requires { number < length numbering.now.above }
+    ensures { result ≡ is_outdone numbering.now.above found.now number }
+{
+    for big in numbering.above(number) {
+        if found.has(*big) {
+            return true;
+        }
+    }
+    false
+}
+
+/// Whether a lock is another than those whose numbers are marked, and none of them covers it.
+#[inline(always)]
+fn is_new(numbering: &Numbering, found: &Marks, number: usize) -> bool
     requires { number < length numbering.now.above }
     ensures { result ≡ is_new numbering.now.above found.now number }
 {
-    !found.has(number) && !numbering.is_under(found, number)
+    !found.has(number) && !is_outdone(numbering, found, number)
 }
 
 /// Finds the lock of a step at its node. The step is kept, unless the lock was found there or another that covers it.
 pub fn keep(
     numbering: &Numbering,
-    found: &mut Vec<Numbers>,
+    found: &mut Vec<Marks>,
     steps: &mut Vec<KeptLink>,
     step: KeptLink,
 ) -> Result<(), AllocError>
     requires node { step.node < length found.old.items }
+    requires count { length numbering.now.above ≡ length numbering.now.keys }
     requires number { step.number < length numbering.now.above }
     ensures { OnOk result (kept found.new.items steps.new.items
         ≡ keep_one numbering.now.above (kept found.old.items steps.old.items) step) }
@@ -48,8 +65,7 @@ pub fn keep(
     if is_new(numbering, &found[step.node as usize], step.number) {
         steps.push(step)?;
     }
-    found[step.node as usize].insert(step.number)?;
-    Ok(())
+    found[step.node as usize].mark(step.number, numbering.len())
 }
 
 impl Siblings {
@@ -57,11 +73,12 @@ impl Siblings {
     fn keep_all(
         self,
         numbering: &Numbering,
-        found: &mut Vec<Numbers>,
+        found: &mut Vec<Marks>,
         steps: &mut Vec<KeptLink>,
         numbers: &[usize],
     ) -> Result<(), AllocError>
         requires node { self.node < length found.old.items }
+        requires count { length numbering.now.above ≡ length numbering.now.keys }
         requires numbers { (n : ℕ) → Has numbers.now n → n < length numbering.now.above }
         ensures { OnOk result (kept found.new.items steps.new.items
             ≡ keep_each numbering.now.above (kept found.old.items steps.old.items) self.node self.next numbers.now) }
@@ -84,7 +101,7 @@ impl Siblings {
         self,
         alloc: Global,
         numbering: &Numbering,
-        found: &mut Vec<Numbers>,
+        found: &mut Vec<Marks>,
         steps: &mut Vec<KeptLink>,
         numbers: &Numbers,
     ) -> Result<(), AllocError>

@@ -3,6 +3,7 @@
 
 mod chain;
 mod keep;
+mod marks;
 mod section;
 mod starts;
 mod trail;

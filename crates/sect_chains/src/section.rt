@@ -120,7 +120,7 @@ fn found(alloc: Global, section: Searched<'_>, locks: &[Lock]) -> Result<Vec<Cha
 {
     let trail = trail_of(alloc, section)?;
     let starts = starts_of(alloc, &trail)?;
-    let mut chains = Vec::new(alloc);
+    let mut chains = Vec::with_capacity(alloc, locks.len())?;
     for lock in locks {
         chains.push(chain_of(alloc, &trail, &starts, lock)?)?;
     }

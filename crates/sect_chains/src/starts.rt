@@ -13,7 +13,7 @@ fn no_starts(alloc: Global, count: usize) -> Result<Vec<Option<usize>>, AllocErr
     ensures count { IfOk result (λ starts. length starts.items ≡ count) }
     ensures none { IfOk result (λ starts. (o : Option ℕ) → Has starts.items o → o ≡ None) }
 {
-    let mut starts = Vec::new(alloc);
+    let mut starts = Vec::with_capacity(alloc, count)?;
     for _ in 0..count {
         starts.push(None)?;
     }

@@ -11,8 +11,9 @@ ghost use Rattle.sect_chains.specs.steps.Working.{HasAllGenerated};
 ghost use Rattle.sect_chains.specs.steps.Ordering.{IsInOrder, AllBefore, AddsTo, LinkBelow, BeginsInOrder};
 
 use crate::keep::{KeptLink, Siblings, keep};
+use crate::marks::Marks;
 use sect_graph::Flow;
-use sect_infer::{Numbering, Numbers, carry_one};
+use sect_infer::{Numbering, Numbers, carry_one, room_for};
 use sect_names::{Link, Lock, Scheme, stays};
 use std::alloc::{AllocError, Global};
 
@@ -27,22 +28,22 @@ pub struct Searched<'a> {
 }
 
 /// Steps, each once, in the order in which they came; the numbering of their locks; and for each node of a graph, the
-/// exit too, the numbers of all locks that were found there.
+/// exit too, the marks of all locks that were found there, by their numbers.
 #[derive(Drop)]
 pub struct Trail {
     pub numbering: Numbering,
-    pub found: Vec<Numbers>,
+    pub found: Vec<Marks>,
     pub steps: Vec<KeptLink>,
 }
 
-/// No numbers, for so many nodes.
-fn none_found(alloc: Global, count: usize) -> Result<Vec<Numbers>, AllocError>
+/// No marks, for so many nodes.
+fn none_found(alloc: Global, count: usize) -> Result<Vec<Marks>, AllocError>
     ensures count { IfOk result (λ found. length found.items ≡ count) }
     ensures none { IfOk result (λ found. (j : ℕ) → slice_index_or found.items j [] ≡ []) }
 {
-    let mut found = Vec::new(alloc);
+    let mut found = Vec::with_capacity(alloc, count)?;
     for _ in 0..count {
-        found.push(Numbers::new(alloc))?;
+        found.push(Marks::new(alloc))?;
     }
     Ok(found)
 }
@@ -137,10 +138,14 @@ impl Searched<'_> {
         ensures order { IfOk result (λ trail. BeginsInOrder self.entry.scheme.now self.entry.thread
             self.entry.last.now self.entry.flow.now trail) }
     {
+        let room = room_for(self.flow);
+        let numbering = Numbering::with_room(alloc, room)?;
+        let found = none_found(alloc, self.flow.exit() as usize + 1)?;
+        let steps = Vec::with_capacity(alloc, room)?;
         let mut trail = Trail {
-            numbering: Numbering::new(alloc),
-            found: none_found(alloc, self.flow.exit() as usize + 1)?,
-            steps: Vec::new(alloc),
+            numbering,
+            found,
+            steps,
         };
         self.put_by_nodes(alloc, &mut trail)?;
         self.put_at_end(alloc, &mut trail)?;

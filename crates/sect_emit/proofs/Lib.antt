@@ -15,6 +15,7 @@ mod Denoting
 mod Certifying
 mod Checked
 mod Working
+mod KnownLemmas
 mod Labelled
 mod Noded
 mod Numbered

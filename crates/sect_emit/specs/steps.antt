@@ -3,3 +3,4 @@ pub mod Inferred
 pub mod Wishes
 pub mod Spelled
 pub mod Naming
+pub mod Known

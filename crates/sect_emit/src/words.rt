@@ -11,13 +11,14 @@ ghost use Rattle.sect_front.specs.TreeView.{TreeView};
 ghost use Rattle.sect_check.specs.Names.{words_of_variable};
 ghost use Rattle.sect_emit.specs.Words.{path_words, lock_words, list_words, step_words, chain_words, chains_words};
 ghost use Rattle.sect_emit.specs.Words.{IsChainNamed};
-ghost use Rattle.sect_emit.specs.steps.Spelled.{IsLastNamed};
+ghost use Rattle.sect_emit.specs.steps.{Spelled.{IsLastNamed}, Known.{AreKnown}};
 
+use crate::known_locks::KnownLocks;
 use sect_cert::{CertBase, CertLock, CertPath, CertStep, ChainSteps, Runs, SharedPath};
 use sect_chains::Chain;
 use sect_front::Items;
 use sect_infer::Locks;
-use sect_names::{Effect, Link, Lock, Path, Right, field_name};
+use sect_names::{Effect, Link, Lock, Path, Right, field_name, precedes};
 use sect_points::Variable;
 use sect_types::Program;
 use std::alloc::{AllocError, Global};
@@ -65,7 +66,7 @@ fn path_of(alloc: Global, program: &Program, path: &Path) -> Result<SharedPath, 
 }
 
 /// A lock by its names.
-fn lock_of(alloc: Global, program: &Program, lock: &Lock) -> Result<CertLock, AllocError>
+pub fn lock_of(alloc: Global, program: &Program, lock: &Lock) -> Result<CertLock, AllocError>
     requires { IsNamed program.now lock.now }
     ensures words { IfOk result (λ words. words ≡ lock_words program.now.source lock.now) }
     ensures good { IfOk result IsLock }
@@ -80,7 +81,7 @@ fn lock_of(alloc: Global, program: &Program, lock: &Lock) -> Result<CertLock, Al
     }
 }
 
-/// How many places of a list are searched for a lock.
+/// How many places of a list are searched one by one.
 const NEAR: usize = 4;
 
 /// Locks, and what they are by their names.
@@ -97,18 +98,58 @@ fn are_equal(one: &Lock, other: &Lock) -> bool
     *one == *other
 }
 
-/// Where a list has a lock: at this place, or not far behind it.
+/// The first place between two at which a list in canonical order has no lock before this one; the second where there is
+/// none.
+fn first_between(locks: &[&Lock], from: usize, end: usize, lock: &Lock) -> usize
+    requires { end ≤ length locks.now }
+{
+    let mut low = from;
+    let mut high = end;
+    while low < high {
+        let middle = low + (high - low) / 2;
+        if precedes(locks[middle], lock) {
+            low = middle + 1;
+        } else {
+            high = middle;
+        }
+    }
+    low
+}
+
+/// The first place from one on at which a list in canonical order has no lock before this one. Mostly it is near.
+#[inline(never)]
+fn first_from(locks: &[&Lock], from: usize, lock: &Lock) -> usize {
+    let near = locks.len().min(from.saturating_add(NEAR));
+    for place in from..near {
+        if !precedes(locks[place], lock) {
+            return place;
+        }
+    }
+    first_between(locks, near, locks.len(), lock)
+}
+
+/// Whether a list has a lock at a place.
+fn is_at(locks: &[&Lock], place: usize, lock: &Lock) -> bool
+    ensures within { IsTrue result → place < length locks.now }
+    ensures there { IsTrue result → slice_get (map deref locks.now) place ≡ Some lock.now }
+{
+    place < locks.len() && are_equal(locks[place], lock)
+}
+
+/// Where a list in canonical order has a lock: at this place or behind it.
 fn place_of(locks: &[&Lock], from: usize, lock: &Lock) -> Option<usize>
     ensures within { IfSome result (λ place. place < length locks.now) }
     ensures there { IfSome result (λ place. slice_get (map deref locks.now) place ≡ Some lock.now) }
 {
-    let end = locks.len().min(from.saturating_add(NEAR));
-    for place in from..end {
-        if are_equal(locks[place], lock) {
-            return Some(place);
-        }
+    if is_at(locks, from, lock) {
+        return Some(from);
     }
-    None
+    let place = first_from(locks, from, lock);
+    if is_at(locks, place, lock) {
+        Some(place)
+    } else {
+        None
+    }
 }
 
 /// The lock that is next in a list, by its names. One that a known list has from a place on isn't named again, and the
@@ -179,13 +220,26 @@ fn step(node: u32, lock: CertLock) -> CertStep
     CertStep { node, lock }
 }
 
-/// A step of a chain by its names.
-fn step_of(alloc: Global, program: &Program, link: &Link) -> Result<CertStep, AllocError>
-    requires { IsNamed program.now link.now.lock }
+/// The step at an index of a chain, by its names. No two chains of a section begin with one lock, so that of the first
+/// step isn't sought.
+fn step_of(
+    alloc: Global,
+    program: &Program,
+    known: &mut KnownLocks,
+    index: usize,
+    link: &Link,
+) -> Result<CertStep, AllocError>
+    requires named { IsNamed program.now link.now.lock }
+    requires known { AreKnown program.now.source known.old }
     ensures words { IfOk result (λ step. step ≡ step_words program.now.source link.now) }
     ensures good { IfOk result IsStep }
+    ensures known { OnOk result (AreKnown program.now.source known.new) }
 {
-    let lock = lock_of(alloc, program, &link.lock)?;
+    if index == 0 {
+        let lock = lock_of(alloc, program, &link.lock)?;
+        return Ok(step(link.node, lock));
+    }
+    let lock = known.named(alloc, program, &link.lock)?;
     Ok(step(link.node, lock))
 }
 
@@ -212,14 +266,17 @@ fn have_one_lock(one: &Link, other: &Link) -> bool
 fn next_step(
     alloc: Global,
     program: &Program,
+    known: &mut KnownLocks,
     links: &[Link],
     index: usize,
     steps: &mut ChainSteps,
 ) -> Result<(), AllocError>
     requires there { index < length links.now }
     requires named { IsChainNamed program.now links.now }
+    requires known { AreKnown program.now.source known.old }
     requires words { steps.old ≡ map (step_words program.now.source) (take index links.now) }
     requires good { AllByRecursion IsStep steps.old }
+    ensures known { OnOk result (AreKnown program.now.source known.new) }
     ensures words { OnOk result (steps.new ≡ map (step_words program.now.source) (take (index + 1) links.now)) }
     ensures good { OnOk result (AllByRecursion IsStep steps.new) }
 {
@@ -227,7 +284,7 @@ fn next_step(
     if 0 < index && have_one_lock(&links[index - 1], link) {
         return step_again(steps, link.node);
     }
-    let step = step_of(alloc, program, link)?;
+    let step = step_of(alloc, program, known, index, link)?;
     steps.push(step)
 }
 
@@ -235,17 +292,20 @@ fn next_step(
 fn chain_of(
     alloc: Global,
     program: &Program,
+    known: &mut KnownLocks,
     lock: u32,
     chain: &Chain,
 ) -> Result<sect_cert::CertChain, AllocError>
-    requires { IsChainNamed program.now chain.now }
+    requires named { IsChainNamed program.now chain.now }
+    requires known { AreKnown program.now.source known.old }
+    ensures known { OnOk result (AreKnown program.now.source known.new) }
     ensures words { IfOk result (λ words. words ≡ chain_words program.now.source lock chain.now) }
     ensures good { IfOk result IsChain }
 {
     let links = chain.links();
     let mut steps = ChainSteps::with_capacity(alloc, links.len())?;
     for index in 0..links.len() {
-        next_step(alloc, program, links, index, &mut steps)?;
+        next_step(alloc, program, known, links, index, &mut steps)?;
     }
     Ok(sect_cert::CertChain { lock, steps })
 }
@@ -261,9 +321,11 @@ pub fn chains_of(
     ensures words { IfOk result (λ list. list ≡ chains_words program.now.source 0 chains.now) }
     ensures good { IfOk result (λ list. AllByRecursion IsChain list) }
 {
+    let mut known = KnownLocks::new(alloc);
     let mut list = Vec::with_capacity(alloc, chains.len())?;
     for lock in 0..chains.len() {
-        list.push(chain_of(alloc, program, lock as u32, &chains[lock])?)?;
+        let chain = chain_of(alloc, program, &mut known, lock as u32, &chains[lock])?;
+        list.push(chain)?;
     }
     Ok(Items::from_vec(list))
 }

@@ -1,7 +1,7 @@
 //! Locks by their numbers.
 
-ghost use Rattle.std.specs.Prelude.{◌≡◌, ◌↔◌, ◌<◌, ◌≤◌, ◌||◌, ℕ, ◌++◌, ◌∷◌, length, slice_get, [], Some, IfOk, OnOk, IsTrue};
-ghost use Rattle.std.specs.Prelude.{IsFalse, MatchOption, false};
+ghost use Rattle.std.specs.Prelude.{◌≡◌, ◌↔◌, ◌<◌, ◌≤◌, ◌||◌, ℕ, ◌++◌, ◌∷◌, length, slice_get, [], Some};
+ghost use Rattle.std.specs.Prelude.{IfOk, OnOk, IsTrue, IsFalse, MatchOption, false, slice_index_or};
 ghost use Rattle.sect_lemmas.specs.Lists.{Has};
 ghost use Rattle.sect_points.specs.Partitions.{HasClass};
 ghost use Rattle.sect_names.specs.{declared.lock.Lock.{Lock}, Schemes.{SchemeView}};
@@ -166,6 +166,15 @@ impl Numbering {
         ensures { slice_get self.now.keys number ≡ Some result.now }
     {
         &self.locks[number]
+    }
+
+    /// The numbers of the other locks that cover the lock with this number.
+    #[inline(always)]
+    pub fn above(&self, number: usize) -> &[usize]
+        requires { number < length self.now.above }
+        ensures { result.now ≡ slice_index_or self.now.above number [] }
+    {
+        self.above[number].as_slice()
     }
 
     /// Whether another lock, whose number is one of these, covers the lock with this number.

@@ -76,7 +76,7 @@ fn only_the_programs(scheme: &Scheme, section: u16)
 
 /// For how many locks there is room from the first: two for each node and four more, as many as short sections mostly
 /// have with those above them. In longer ones most statements name locks again.
-fn room_for(flow: &Flow) -> usize {
+pub fn room_for(flow: &Flow) -> usize {
     let nodes = flow.exit() as usize;
     2 * nodes.min(MOST_NODES_WITH_ROOM) + 4
 }

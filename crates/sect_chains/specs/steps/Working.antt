@@ -1,14 +1,14 @@
 -- The search for what is needed at the nodes of a section's graph: what has been found, and which steps are kept.
-use Rattle.std.specs.Prelude.{◌≡◌, ◌<◌, ◌+◌, ℕ, List, [], ◌++◌, map, Option, Some, None, length, slice_get}
-use Rattle.std.specs.Prelude.{slice_index_or}
+use Rattle.std.specs.Prelude.{◌≡◌, ◌<◌, ◌+◌, ℕ, List, ◌++◌, map, Option, Some, None, length, slice_get}
+use Rattle.std.specs.Prelude.{Bool}
 use Rattle.sect_lemmas.specs.Lists.{Has}
 use Rattle.sect_graph.specs.declared.flow.Node.{Node}
 use Rattle.sect_names.specs.{declared.link.Link.{Link}, declared.lock.Lock.{Lock}, Schemes.{SchemeView}, Locks.{Covers}}
 use Rattle.sect_names.specs.{Carrying.{Generated}, Chains.{link, IsGeneratedAt, LinksTo}}
 use Rattle.sect_infer.specs.Numbers.{AreApart}
-use Rattle.sect_infer.specs.Numberings.{NumberingView, HasLock, AreNumbers, IsNumbering, Extends, lock_at}
+use Rattle.sect_infer.specs.Numberings.{NumberingView, IsNumbering, Extends, lock_at}
 use Rattle.sect_chains.specs.{declared.keep.KeptLink.{KeptLink}, declared.work.Trail.{Trail}}
-use Rattle.sect_chains.specs.steps.{Keeping.{KeptView, kept}, Trails.{HasTrail, LeadOn}}
+use Rattle.sect_chains.specs.steps.{Keeping.{KeptView, kept, IsMarkedAt}, Trails.{HasTrail, LeadOn}}
 
 -- what a step stands for
 abbrev pub link_of : List Lock → KeptLink → Link
@@ -22,8 +22,8 @@ abbrev pub nexts_of : List KeptLink → List (Option ℕ)
 nexts_of steps = map (λ x. x.next) steps
 
 -- the lock was found at the node
-abbrev pub IsFoundAt : List Lock → List (List ℕ) → Link → Type 0
-IsFoundAt keys found a = HasLock keys (slice_index_or found a.node []) a.lock
+abbrev pub IsFoundAt : List Lock → List (List Bool) → Link → Type 0
+IsFoundAt keys found a = (n : ℕ) × IsMarkedAt found a.node n × (slice_get keys n ≡ Some a.lock)
 
 -- a step is kept at the node, with a lock that covers this one
 abbrev pub IsCoveredAt : SchemeView → List Link → Link → Type 0
@@ -35,9 +35,9 @@ pub record IsKept (s : SchemeView) (t : ℕ) (last : List Lock) (g : List Node) 
   where
     pub numbering : IsNumbering s a
     pub count : length w.found ≡ length g + 1
-    pub numbers : (j : ℕ) → AreNumbers a.keys (slice_index_or w.found j [])
+    pub numbers : (j n : ℕ) → IsMarkedAt w.found j n → n < length a.keys
     pub trails : (x : Link) → IsFoundAt a.keys w.found x → HasTrail s t last g x
-    pub there : (x : KeptLink) → Has w.steps x → Has (slice_index_or w.found x.node []) x.number
+    pub there : (x : KeptLink) → Has w.steps x → IsMarkedAt w.found x.node x.number
     pub leads : LeadOn s t last g (links_of a.keys w.steps) (nexts_of w.steps)
     pub covered : (x : Link) → IsFoundAt a.keys w.found x → IsCoveredAt s (links_of a.keys w.steps) x
     pub apart : AreApart (links_of a.keys w.steps)
@@ -52,7 +52,7 @@ pub record Grows (s : SchemeView) (t : ℕ) (last : List Lock) (g : List Node) (
     (b : NumberingView) (v : KeptView) (P : Link → Type 0) : Type 0 where
   pub kept : IsKept s t last g b v
   pub longer : Extends a b
-  pub found : (j n : ℕ) → Has (slice_index_or w.found j []) n → Has (slice_index_or v.found j []) n
+  pub found : (j n : ℕ) → IsMarkedAt w.found j n → IsMarkedAt v.found j n
   pub steps : (more : List KeptLink) × (v.steps ≡ w.steps ++ more)
   pub each : (x : Link) → P x → IsFoundAt b.keys v.found x
 

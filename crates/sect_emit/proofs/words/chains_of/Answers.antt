@@ -6,8 +6,8 @@ use Rattle.sect_cert.specs.Texts.{IsChain}
 use Rattle.sect_emit.proofs.Spelling.{next_chain, all_more}
 use Rattle.sect_emit.proofs.words.chains_of.Goals as goal
 
-pub chain_of-requires : goal.chain_of-requires
-chain_of-requires c =
+pub chain_of-requires-clause-named : goal.chain_of-requires-clause-named
+chain_of-requires-clause-named c =
     let chains = c.args.chains.now in
     let i = c.loop-lock.lock in
     let within : i < length chains = omega arith in
@@ -20,9 +20,10 @@ loop-lock-preserved c =
     let i = c.loop-lock.lock in
     let within : i < length chains = omega arith in
     let t = c.args.program.now.source in
-    let made = c.in_ok-chain_of.field-0 in (
+    let made = c.in_ok-chain.chain in (
       next_chain t chains i c.index-chains-lock.result made _ _ within c.index-chains-lock.is
-          c.in_ok-chain_of.ensures.words c.loop-lock.invariant.0 c.in_ok-push.ensures.items,
+          c.in_ok-chain.ensures.words c.loop-lock.invariant.0 c.in_ok-push.ensures.items,
       subst (AllByRecursion IsChain) (sym c.in_ok-push.ensures.items)
-          (all_more IsChain c.loop-lock.list.items made c.loop-lock.invariant.1 c.in_ok-chain_of.ensures.good),
+          (all_more IsChain c.loop-lock.list.items made c.loop-lock.invariant.1 c.in_ok-chain.ensures.good),
+      c.in_ok-chain.ensures.known,
     )

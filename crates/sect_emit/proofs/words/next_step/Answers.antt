@@ -7,8 +7,8 @@ use Rattle.sect_cert.specs.Texts.{IsStep}
 use Rattle.sect_emit.proofs.Spelling.{next_step, step_again, all_more}
 use Rattle.sect_emit.proofs.words.next_step.Goals as goal
 
-pub step_of-requires : goal.step_of-requires
-step_of-requires c =
+pub step_of-requires-clause-named : goal.step_of-requires-clause-named
+step_of-requires-clause-named c =
     let links = c.args.links.now in
     let x = c.index-links-index.result in
     c.requires.named.1 x
@@ -37,6 +37,7 @@ returns c =
     let old = c.args.steps.now in
     let at : slice_get links i ≡ Some link =
     slice_get_read links (length links) i link refl c.requires.there c.index-links-index.is in record {
+      known = on_ok_weaker c.push.result (λ is. c.in_ok-step.ensures.known) c.push.ensures;
       words = on_ok_weaker c.push.result (λ is. next_step c.args.program.now.source links i link old c.push.new.self
           c.requires.there at c.requires.words (is ∙ ap (λ x. old ++ x ∷ []) c.in_ok-step.ensures.words))
           c.push.ensures;

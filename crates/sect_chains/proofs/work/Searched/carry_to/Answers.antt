@@ -20,6 +20,9 @@ lock-requires c =
     kept_numbers a.scheme.now a.thread a.last.now a.flow.now old.numbering (kept_of old) c.requires.work x
     (Has-slice_get old.steps.items c.args.index x at)
 
+pub keep-requires-clause-count : goal.keep-requires-clause-count
+keep-requires-clause-count c = c.requires.work.numbering.count
+
 pub returns-then-stays-clause-kept : goal.returns-then-stays-clause-kept
 returns-then-stays-clause-kept c = on_ok_weaker c.keep.result (λ is y b at_y at_b.
     let a = c.args.self in

@@ -27,14 +27,14 @@ put_at_end-requires-clause-before c = λ l.
     let s = a.scheme.now in
     let g = a.flow.now in
     let first : Trail =
-    record { numbering = c.new.result; found = c.in_ok-none_found.field-0; steps = c.new-2.result } in
-    below_before s a.thread a.last.now g first c.put_by_nodes.new.trail c.new-2.ensures.items (length g)
+    record { numbering = c.in_ok-numbering.numbering; found = c.in_ok-found.found; steps = c.in_ok-steps.steps } in
+    below_before s a.thread a.last.now g first c.put_by_nodes.new.trail c.in_ok-steps.ensures.items (length g)
     (IsGeneratedBelow s a.thread g (length g)) c.in_ok-put_by_nodes.ensures.order l
 
 pub returns-clause-order : goal.returns-clause-order
 returns-clause-order c =
     let a = c.args.self in
     let first : Trail =
-    record { numbering = c.new.result; found = c.in_ok-none_found.field-0; steps = c.new-2.result } in
+    record { numbering = c.in_ok-numbering.numbering; found = c.in_ok-found.found; steps = c.in_ok-steps.steps } in
     begins a.scheme.now a.thread a.last.now a.flow.now first c.put_by_nodes.new.trail
-    c.put_at_end.new.trail c.new-2.ensures.items c.in_ok-put_by_nodes.ensures.order c.in_ok-put_at_end.ensures.order
+    c.put_at_end.new.trail c.in_ok-steps.ensures.items c.in_ok-put_by_nodes.ensures.order c.in_ok-put_at_end.ensures.order

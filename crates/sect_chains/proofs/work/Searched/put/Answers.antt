@@ -13,6 +13,9 @@ keep-requires-clause-node c =
     generated_within a.scheme.now a.thread a.last.now a.flow.now old.numbering (kept_of old)
     (link c.args.node c.args.lock.now) c.requires.work c.requires.generated
 
+pub keep-requires-clause-count : goal.keep-requires-clause-count
+keep-requires-clause-count c = c.in_ok-number.ensures.numbering.count
+
 pub keep-requires-clause-number : goal.keep-requires-clause-number
 keep-requires-clause-number c =
     let t = c.number.new.self in

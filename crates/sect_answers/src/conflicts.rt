@@ -1,6 +1,6 @@
 //! The command `conflicts`.
 
-ghost use Rattle.std.specs.{Prelude.{◌≡◌, ◌≢◌, ◌++◌, [], List, IfOk, IfErr, OnOk, IsOkUnless}, String.{string_bytes}};
+ghost use Rattle.std.specs.{Prelude.{◌≡◌, ◌≢◌, ◌++◌, [], IfOk, IfErr, OnOk, IsOkUnless}, String.{string_bytes}};
 ghost use Rattle.std.specs.List.{flat_map};
 ghost use Rattle.sect_names.specs.{Schemes.{SchemeView}, Sources.{IsAccepted}};
 ghost use Rattle.sect_answers.specs.{declared.refusal.Refusal.TheVariants.{Memory}, Answers.{IsDue}};

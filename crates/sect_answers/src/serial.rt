@@ -1,6 +1,6 @@
 //! The command `serial`.
 
-ghost use Rattle.std.specs.{Prelude.{◌≡◌, IfOk, IfErr, IsOkUnless}, String.{string_bytes}};
+ghost use Rattle.std.specs.{Prelude.{IfOk, IfErr, IsOkUnless}, String.{string_bytes}};
 ghost use Rattle.sect_types.specs.{Programs.{ProgramView}, Whole.{SerialEndView, RunsWhole}};
 ghost use Rattle.sect_answers.specs.{declared.refusal.Refusal.TheVariants.{Memory}, Serial.{IsOutcome, IsSerialDue}};
 ghost use Rattle.sect_names.specs.Sources.{IsTypedText};

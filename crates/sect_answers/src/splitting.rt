@@ -1,6 +1,6 @@
 //! A certificate and the source text behind it, in one input.
 
-ghost use Rattle.std.specs.Prelude.{◌≡◌, ◌≤◌, length, take, drop};
+ghost use Rattle.std.specs.Prelude.{◌≤◌, length, take, drop};
 ghost use Rattle.sect_answers.specs.Splitting.{IsSplit};
 
 use memchr::memchr;

@@ -1,6 +1,6 @@
 //! Paths that were read.
 
-ghost use Rattle.std.specs.Prelude.{◌≡◌, OnOk, IfOk, None};
+ghost use Rattle.std.specs.Prelude.{None};
 ghost use Rattle.sect_cert.specs.steps.{Readers.{ReadsAs}, Subjects.{path_of as path_in}};
 
 use crate::fault::LineFault;

@@ -1,6 +1,6 @@
 //! Numbers, and the marks that may end their word.
 
-ghost use Rattle.std.specs.Prelude.{◌≡◌, length, ◌<◌, ◌^◌};
+ghost use Rattle.std.specs.Prelude.{◌≡◌, ◌<◌};
 ghost use Rattle.sect_front.specs.Words.{is_digit as digit_of};
 ghost use Rattle.sect_cert.specs.steps.Numbers.{number_of, decimal_from, ends_with as ends_with_of};
 ghost use Rattle.sect_cert.specs.steps.Numbers.{without_end as without_end_of};

@@ -1,6 +1,6 @@
 //! The parts of a text that is cut at a byte.
 
-ghost use Rattle.std.specs.Prelude.{◌≡◌, ◌++◌, ◌∷◌, [], IsTrue, ◌↔◌, length, MatchOption, IfSome, take_while, not};
+ghost use Rattle.std.specs.Prelude.{◌≡◌, ◌∷◌, [], IsTrue, ◌↔◌, length, MatchOption, IfSome, take_while, not};
 ghost use Rattle.std.specs.{Prelude.{◌==◌}, Option.{option_copied}};
 ghost use Rattle.sect_cert.specs.Parts.{parts, parts_left};
 

@@ -14,7 +14,8 @@ use Rattle.sect_infer.specs.Numberings.{NumberingView, HasLock, IsNumbering, Ext
 use Rattle.sect_infer.proofs.shared.{Apart.{apart_push, apart_one}, Bounding.{named}}
 use Rattle.sect_infer.proofs.shared.Extending.{extends_none, extends_then, extends_at, get_front}
 use Rattle.sect_chains.specs.declared.keep.KeptLink.{KeptLink}
-use Rattle.sect_chains.specs.steps.Keeping.{KeptView, kept, step_of, IsMarkedAt, is_outdone, is_new, keep_one, keep_each}
+use Rattle.sect_chains.specs.steps.Keeping.{KeptView, kept, step_of, IsMarkedAt, is_outdone, is_new, keep_one}
+use Rattle.sect_chains.specs.steps.Keeping.{keep_each}
 use Rattle.sect_chains.specs.steps.Marking.{is_marked, with_mark}
 use Rattle.sect_chains.proofs.Marking.{any_has}
 use Rattle.sect_chains.specs.steps.Trails.{HasTrail, LeadOn}
@@ -147,7 +148,8 @@ module _ (s : SchemeView) (t : ℕ) (last : List Lock) (g : List Node) where
         kept = record {
           numbering = is;
           count = k.count;
-          numbers = λ j n h. (let within = k.numbers j n h in omega (arith, within, ap length e.1, length-append a.keys e.0));
+          numbers = λ j n h. (let within = k.numbers j n h in
+              omega (arith, within, ap length e.1, length-append a.keys e.0));
           trails = λ x h. k.trails x (back x h);
           there = k.there;
           leads = subst (λ ls. LeadOn s t last g ls (nexts_of w.steps)) (sym same) k.leads;

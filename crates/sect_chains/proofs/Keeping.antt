@@ -3,7 +3,7 @@ use Rattle.std.proofs.Common.{◌≡◌, ◌↔◌, ◌⊎◌, ℕ, ◌+◌, ◌
 use Rattle.std.proofs.Common.{get_or, set, take, inl, inr, refl, sym, ap, ◌∙◌, subst, true≢false}
 use Rattle.std.proofs.{lemmas.Bool.{cases_eq}, lemmas.List.{get_or-set_same, get_or-set_other, length-set, take_more}}
 use Rattle.std.specs.Prelude.{slice_index_or, slice_set, ◌&&◌}
-use Rattle.sect_chains.specs.steps.{Keeping.{KeptView, step_of, keep_one, keep_each, IsMarkedAt}}
+use Rattle.sect_chains.specs.steps.Keeping.{KeptView, step_of, keep_one, keep_each, IsMarkedAt}
 use Rattle.sect_chains.specs.steps.Marking.{is_marked, with_mark}
 use Rattle.sect_chains.proofs.Marking.{mark_has}
 

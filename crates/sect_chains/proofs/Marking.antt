@@ -2,7 +2,7 @@
 use Rattle.std.proofs.Common.{◌≡◌, ◌↔◌, ◌⊎◌, inl, inr, ℕ, zero, suc, ◌-◌, ◌<◌, ◌≤◌, List, [], ◌∷◌, ◌++◌, Bool, true}
 use Rattle.std.proofs.Common.{false, nat_lt, length, get_or, set, replicate, refl, sym, ap, ◌∙◌, arith}
 use Rattle.std.proofs.{Common.{length-append, true≢false}, lemmas.Bool.{cases_eq}, lemmas.Bool.Decides.{nat_tests}}
-use Rattle.std.proofs.{lemmas.List.{get_or-set_same, get_or-set_other, length-replicate}}
+use Rattle.std.proofs.lemmas.List.{get_or-set_same, get_or-set_other, length-replicate}
 use Rattle.std.specs.{Prelude.{if◌then◌else◌, ◌||◌}, List.{list_any}}
 use Rattle.sect_lemmas.specs.Lists.{Has}
 use Rattle.sect_chains.specs.steps.Marking.{is_marked, with_room, with_mark}

@@ -1,6 +1,6 @@
 //! Whether each lock of an entry list has its chain.
 
-ghost use Rattle.std.specs.Prelude.{◌≡◌, ◌<◌, ℕ, MatchOption};
+ghost use Rattle.std.specs.Prelude.{◌≡◌, ◌<◌, MatchOption};
 ghost use Rattle.sect_lemmas.specs.Lists.{Has};
 ghost use Rattle.sect_names.specs.Needed.{end_locks};
 ghost use Rattle.sect_check.specs.declared.claims.ChainClaim.{ChainClaim};

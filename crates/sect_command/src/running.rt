@@ -1,6 +1,6 @@
 //! What the words of a command line say of a run: the fuel of its threads, and threads by number.
 
-ghost use Rattle.std.specs.Prelude.{◌≡◌, ◌≤◌, IfOk, length};
+ghost use Rattle.std.specs.Prelude.{◌≤◌, IfOk, length};
 ghost use Rattle.clap.specs.Matches.{first_value, found_of};
 ghost use Rattle.sect_command.specs.Saying.{SaysNumber};
 

@@ -1,7 +1,7 @@
 -- Where plans clash.
 use Rattle.std.proofs.Common.{◌≡◌, ◌⊎◌, ℕ, ◌<◌, List, [], length, false, Some, refl, sym, ap, ◌∙◌, subst, inl, inr}
 use Rattle.std.proofs.{Common.{arith}, lemmas.Option.{slice_get_within, slice_get-get_or}}
-use Rattle.std.specs.Prelude.{slice_get, slice_index_or, ◌↔◌}
+use Rattle.std.specs.Prelude.{slice_get, slice_index_or}
 use Rattle.sect_lemmas.specs.Lists.{Has}
 use Rattle.sect_lemmas.proofs.{Membership.{Has-cases, Has-left}, Options.{some_injective}}
 use Rattle.sect_types.specs.{Sections.{sections_of}, Store.{StoreView, ObjectView, object_at}, Meaning.{WorkView}}
@@ -20,9 +20,9 @@ use Rattle.sect_emit.proofs.shared.Plans.{gathered-all, fixed_part_keys, object_
 use Rattle.sect_emit.proofs.shared.PlanModes.{plan_gives_object, key_of-injective, class_or_object, all_or_object}
 use Rattle.sect_emit.proofs.shared.TypedPrograms.{typed_program}
 use Rattle.sect_conflicts.specs.declared.conflict.PathPair.{PathPair}
-use Rattle.sect_conflicts.specs.Conflicts.{Clash, AlwaysAsks, AlwaysClash, MayGoTogether, MayBeOne, paths_between}
+use Rattle.sect_conflicts.specs.Conflicts.{Clash, AlwaysAsks, MayGoTogether, MayBeOne, paths_between}
 use Rattle.sect_conflicts.specs.Conflicts.{set_at}
-use Rattle.sect_conflicts.specs.Laws.{IsSectionOver, Meets, PlansAlwaysClash, PlansClashWherePathsMeet, PlansNeverClash}
+use Rattle.sect_conflicts.specs.Laws.{IsSectionOver, PlansAlwaysClash, PlansClashWherePathsMeet, PlansNeverClash}
 use Rattle.sect_conflicts.specs.Laws.{PlansGoTogetherAtTheStart}
 use Rattle.sect_conflicts.specs.steps.Steady.{steady_at}
 use Rattle.sect_conflicts.proofs.shared.{Stronger.{both_stronger}, Selecting.{selected, all_selected}}

@@ -1,7 +1,7 @@
 -- What a section asks for in every state is its fixed part and the globals that its locks name.
 use Rattle.std.proofs.Common.{◌≡◌, ◌⊎◌, ℕ, List, [], ◌∷◌, ◌++◌, Option, Some, None, true, false, refl, sym, ap, ◌∙◌}
 use Rattle.std.proofs.Common.{subst, inl, inr}
-use Rattle.std.specs.Prelude.{slice_get, slice_index_or}
+use Rattle.std.specs.Prelude.{slice_index_or}
 use Rattle.sect_lemmas.specs.Lists.{Has}
 use Rattle.sect_lemmas.proofs.{Membership.{Has-cases, Has-left, Has-right}, Options.{some_injective}}
 use Rattle.sect_lemmas.proofs.Replaced.{slice_get-map}

@@ -1,7 +1,6 @@
 //! All pairs of sections of different threads, and whether they exclude each other.
 
 ghost use Rattle.std.specs.Prelude.{◌≡◌, ◌<◌, ◌+◌, ◌↔◌, [], length, IfOk, OnOk, IsTrue};
-ghost use Rattle.sect_types.specs.Sections.{sections_of};
 ghost use Rattle.sect_conflicts.specs.{Conflicts.{IsConflict}, Comparing.{AreConflicts}};
 ghost use Rattle.sect_conflicts.specs.steps.{Profiles.{AreProfiles}, Progress.{AreConflictsBefore}};
 

@@ -1,9 +1,8 @@
 //! What is gathered of each section once, before sections are compared.
 
-ghost use Rattle.std.specs.Prelude.{◌≡◌, ◌<◌, ◌≤◌, length, slice_get, Some, ℕ, IfOk};
-ghost use Rattle.sect_types.specs.Sections.{SectionView, sections_of};
+ghost use Rattle.std.specs.Prelude.{◌<◌, length, IfOk};
+ghost use Rattle.sect_types.specs.Sections.{sections_of};
 ghost use Rattle.sect_conflicts.specs.steps.Profiles.{AreSitesOfLock, AreSitesOfLocks, IsProfile, AreProfiles};
-ghost use Rattle.sect_conflicts.specs.declared.profile.Profile.{Profile as ProfileOf};
 
 use crate::always::always_asked;
 use sect_emit::{Compiled, Grip};

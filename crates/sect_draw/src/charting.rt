@@ -1,9 +1,9 @@
 //! Charts of turns.
 
-ghost use Rattle.std.specs.Prelude.{◌≡◌, ◌<◌, ◌+◌, ◌++◌, ℕ, drop, length, IfOk, OnOk, IfErr, vec_len};
+ghost use Rattle.std.specs.Prelude.{◌≡◌, ◌<◌, ◌+◌, length, IfOk, OnOk, IfErr, vec_len};
 ghost use Rattle.std.specs.String.{string_bytes};
 ghost use Rattle.sect_emit.specs.{Compiled.{program_of}, Labels.{thread_name}};
-ghost use Rattle.sect_world.specs.{Schedules.{IsUnrun}, Worlds.{IsTurned, IsRefused, WorldView}};
+ghost use Rattle.sect_world.specs.{Schedules.{IsUnrun}, Worlds.{IsRefused}};
 ghost use Rattle.sect_draw.specs.Chart.{TurnView, IsChart, turn_row as row_of, heading as heading_of};
 ghost use Rattle.sect_draw.specs.steps.{CellTexts.{texts}, Turning.{IsCharted}};
 

@@ -2,7 +2,7 @@
 
 ghost use Rattle.std.specs.Prelude.{◌≡◌, ◌<◌, ◌≤◌, ◌++◌, ℕ, List, length, slice_index_or, IfOk, OnOk, vec_len, []};
 ghost use Rattle.std.specs.{Prelude.{◌==◌}, List.{list_all}, String.{string_bytes}};
-ghost use Rattle.sect_draw.specs.Table.{widest, cells_text, row_line, table_text};
+ghost use Rattle.sect_draw.specs.Table.{widest, cells_text, table_text};
 ghost use Rattle.sect_draw.specs.steps.CellTexts.{texts, rows_of, HaveCells, HaveWidths};
 
 use sect_emit::put_blanks;

@@ -5,9 +5,9 @@ ghost use Rattle.serde_json.specs.View.{view};
 ghost use Rattle.sect_editor.specs.Completing.{is_thing as is_thing_by, is_named as is_named_by};
 ghost use Rattle.sect_editor.specs.Completing.{is_named_in as is_in_by, found_in, variable_of as variable_by};
 ghost use Rattle.sect_editor.specs.Completing.{record_named as record_named_by, record_of as record_by};
-ghost use Rattle.sect_editor.specs.Completing.{is_field_of as is_field_by, fields_in, item_kind as kind_by, item_json};
+ghost use Rattle.sect_editor.specs.Completing.{is_field_of as is_field_by, item_kind as kind_by, item_json};
 ghost use Rattle.sect_editor.specs.Completing.{declared_item, keyword_item, outer_keywords, inner_keywords};
-ghost use Rattle.sect_editor.specs.{Completing.{is_offered as is_offered_by, offers, IsCompletion}, Ranges.{list}};
+ghost use Rattle.sect_editor.specs.Completing.{is_offered as is_offered_by, offers, IsCompletion};
 ghost use Rattle.sect_places.specs.declared.name_use.Thing.TheVariants.{Local};
 
 use crate::declaring::{Declared, base_of, declared_in, scope_of};

@@ -98,8 +98,8 @@ fn are_equal(one: &Lock, other: &Lock) -> bool
     *one == *other
 }
 
-/// The first place between two at which a list in canonical order has no lock before this one; the second where there is
-/// none.
+/// The first place between two at which a list in canonical order has no lock before this one; the second where there
+/// is none.
 fn first_between(locks: &[&Lock], from: usize, end: usize, lock: &Lock) -> usize
     requires { end ≤ length locks.now }
 {

@@ -8,7 +8,7 @@ use Rattle.std.proofs.lemmas.{List.{take_more, take_all, take-take, get_or-take}
 use Rattle.std.proofs.{lemmas.List.Folds.{length-prefix_len, list_all_at}, Math.Dec.{leb}, Math.Bool.{and-false}}
 use Rattle.std.proofs.Math.Seq.{take-append_seam}
 use Rattle.std.specs.{Cmp.{unsigned_Decides}, List.{list_all, list_any, take_while, prefix_len, filter}, Str.{bytes_eq}}
-use Rattle.std.specs.{Prelude.{is_some, is_none, nat_eq, codes, bit_or, bit_xor, Decides}}
+use Rattle.std.specs.Prelude.{is_some, is_none, nat_eq, codes, bit_or, bit_xor, Decides}
 use Rattle.std.specs.Cmp.Lexicographic.{pointwise}
 use Rattle.sect_front.specs.{declared.token.Token.{Token}, Names.{IsPadded, zeros_from, length_back, bytes_back}}
 use Rattle.sect_front.specs.{Words.{is_name, is_letter, is_name_byte, is_keyword, begins}, Limits.{most_name_bytes}}

@@ -1,6 +1,6 @@
 //! Which tokens may follow those that have been read.
 
-ghost use Rattle.std.specs.Prelude.{◌≡◌, ℕ, List, IfOk, filter, is_some};
+ghost use Rattle.std.specs.Prelude.{◌≡◌, List, IfOk, filter, is_some};
 ghost use Rattle.sect_front.specs.{TreeView.{TreeView}, Syntax.{BlockView, StatementView}};
 ghost use Rattle.sect_front.specs.{declared.within.OpenBlock.{OpenBlock}, declared.within.Partial.{Partial}};
 ghost use Rattle.sect_front.specs.{declared.reader.Owner.{Owner}, declared.tree.Declaration.{Declaration}};

@@ -1,6 +1,6 @@
 //! The declarations of a text, token by token.
 
-ghost use Rattle.std.specs.{Prelude.{◌≡◌, ◌≤◌, [], Some, IfOk, true, false}, Option.{ForSome}};
+ghost use Rattle.std.specs.{Prelude.{◌≡◌, ◌≤◌, Some, IfOk, true, false}, Option.{ForSome}};
 ghost use Rattle.sect_front.specs.Limits.{most_depth};
 
 use crate::expecting::outside_takes;

@@ -1,6 +1,6 @@
 //! Kinds of tokens.
 
-ghost use Rattle.std.specs.Prelude.{◌≡◌, List};
+ghost use Rattle.std.specs.Prelude.{◌≡◌};
 ghost use Rattle.sect_front.specs.{Expected.{all_kinds as all_kinds_by}, Samples.{sample_of, kind_spelling}};
 
 use crate::literal::Literal;

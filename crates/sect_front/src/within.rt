@@ -1,6 +1,6 @@
 //! The statements of a procedure or a thread, token by token.
 
-ghost use Rattle.std.specs.Prelude.{◌≡◌, ◌∷◌, [], OnOk};
+ghost use Rattle.std.specs.Prelude.{◌≡◌, ◌∷◌, []};
 ghost use Rattle.sect_front.specs.Syntax.{End, If};
 
 use crate::expecting::{call_takes, then_takes};
@@ -99,7 +99,6 @@ impl Within {
     ghost use Rattle.sect_front.specs.Syntax.{BlockView};
     ghost use Rattle.sect_front.specs.steps.Step.{Steps, Stays, IsKept, LeadsTo, start_step, close_step, call_step};
     ghost use Rattle.sect_front.specs.steps.Step.{argument_step, after_then, moved, moved_if, stays, step_of};
-    ghost use Rattle.sect_front.specs.steps.Taking.{is_taken};
     ghost use Rattle.sect_front.specs.steps.Advance.{operand_of, advance_of, assign_step};
     ghost use Rattle.sect_front.specs.Trees.{append, statement_of};
 

@@ -1,6 +1,6 @@
 //! Numbers in the canonical order of their locks.
 
-ghost use Rattle.std.specs.Prelude.{◌≡◌, ◌<◌, ◌↔◌, ℕ, Some, length, map, slice_get, IfOk};
+ghost use Rattle.std.specs.Prelude.{◌≡◌, ◌<◌, Some, map, slice_get, IfOk};
 ghost use Rattle.sect_lemmas.specs.Lists.{Has};
 ghost use Rattle.sect_infer.specs.{Numbers.{AreApart}, Numberings.{AreNumbers, IsOrderOf}};
 ghost use Rattle.sect_infer.specs.declared.order.NumberedLock.{NumberedLock};

@@ -1,6 +1,6 @@
 //! The worklist: what is needed at a node because of what is needed where control may go on (Kildall).
 
-ghost use Rattle.std.specs.Prelude.{◌≡◌, ◌<◌, ◌++◌, ℕ, [], length, slice_index_or, IfOk, IsTrue, MatchOption, OnOk, ⊤};
+ghost use Rattle.std.specs.Prelude.{◌≡◌, ◌<◌, ℕ, [], length, slice_index_or, IfOk, IsTrue, MatchOption, OnOk, ⊤};
 ghost use Rattle.sect_lemmas.specs.Lists.{Has};
 ghost use Rattle.sect_graph.specs.Predecessors.{StaysWithin};
 ghost use Rattle.sect_infer.specs.steps.Needs.{need, IsSeed, AreLawful};

@@ -1,6 +1,6 @@
 //! The locks of all sections, by several workers.
 
-ghost use Rattle.std.specs.Prelude.{◌≡◌, ◌<◌, ◌↔◌, ℕ, Some, length, slice_set, IfOk, IfErr, OnOk, IsErrOf};
+ghost use Rattle.std.specs.Prelude.{◌≡◌, ◌<◌, ◌↔◌, Some, length, slice_set, IfOk, IfErr, OnOk, IsErrOf};
 ghost use Rattle.sect_infer.specs.{Sets.{AreAllInferred}, Workers.{most_workers, AreOffered, AreRefused}};
 ghost use Rattle.sect_infer.specs.declared.workers.InferFault.TheVariants.{BadWorkers};
 ghost use Rattle.sect_infer.specs.steps.Sharing.{AreFound, IsShare, AreInPlace, AreOf};

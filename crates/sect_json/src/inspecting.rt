@@ -1,6 +1,6 @@
 //! What is known of a program, as JSON.
 
-ghost use Rattle.std.specs.{Prelude.{◌≡◌, ◌<◌, ◌+◌, IfOk, OnOk, length, map}, String.{string_bytes}};
+ghost use Rattle.std.specs.Prelude.{◌≡◌, ◌<◌, ◌+◌, IfOk, OnOk, length, map};
 ghost use Rattle.std.specs.List.{range_with_len};
 ghost use Rattle.serde_json.specs.View.{view};
 ghost use Rattle.sect_front.specs.Front.{IsSpelled};

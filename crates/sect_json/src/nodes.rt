@@ -1,6 +1,6 @@
 //! Graphs as JSON.
 
-ghost use Rattle.std.specs.{Prelude.{◌≡◌, ◌≤◌, Some, IfOk, length, option_map, slice_get}, String.{string_bytes}};
+ghost use Rattle.std.specs.{Prelude.{◌≡◌, Some, IfOk, option_map, slice_get}, String.{string_bytes}};
 ghost use Rattle.serde_json.specs.View.{view};
 ghost use Rattle.sect_emit.specs.Graphed.{IsThere, graphed_nodes};
 ghost use Rattle.sect_json.specs.Nodes.{next_json, next_at, node_with, node_json, nodes_json};

@@ -1,16 +1,14 @@
 //! Sites and their classes as JSON, and the sites to whose objects locals and fields may refer.
 
-ghost use Rattle.std.specs.Prelude.{◌≡◌, ◌<◌, ◌≤◌, ◌++◌, IfOk, IfSome, OnOk, Some, length, map, filter, option_map};
+ghost use Rattle.std.specs.Prelude.{◌≡◌, ◌<◌, ◌≤◌, ◌++◌, IfOk, IfSome, OnOk, Some, length, map};
 ghost use Rattle.std.specs.{Prelude.{slice_get, slice_index_or, []}, String.{string_bytes}};
-ghost use Rattle.std.specs.List.{flat_map, range_with_len};
 ghost use Rattle.serde_json.specs.View.{view};
-ghost use Rattle.sect_front.specs.FaultPlaces.{IsWithin};
 ghost use Rattle.sect_types.specs.{Limits.{most_fields}, Sections.{sections_of}, Sight.{names_of_declared}};
 ghost use Rattle.sect_places.specs.{Declarations.{global_of as global_by}, NodeSpans.{IsCallWithin, IsNodeWithin}};
 ghost use Rattle.sect_lint.specs.Naming.{found};
 ghost use Rattle.sect_emit.specs.{Compiled.{program_of}, Graphed.{graphed_nodes}};
-ghost use Rattle.sect_json.specs.Values.{count, list, by_place};
-ghost use Rattle.sect_json.specs.Sites.{bytes_json, place_of, call_of, may_hold, held_json, holder_with, field_json};
+ghost use Rattle.sect_json.specs.Values.{list, by_place};
+ghost use Rattle.sect_json.specs.Sites.{bytes_json, place_of, call_of, held_json, holder_with, field_json};
 ghost use Rattle.sect_json.specs.Sites.{fields_json, local_json, locals_json, site_with, name_bytes, global_json};
 ghost use Rattle.sect_json.specs.Sites.{record_name as record_by, made_json, sites_at, section_sites, sites_json};
 ghost use Rattle.sect_json.specs.Sites.{class_json, AreClasses};

@@ -1,6 +1,6 @@
 //! Calls that lead back.
 
-ghost use Rattle.std.specs.Prelude.{◌≡◌, ◌<◌, ◌&&◌, ◌⊎◌, ◌++◌, ◌∷◌, [], ℕ, IfOk, OnOk, IfSome, Some, length, filter};
+ghost use Rattle.std.specs.Prelude.{◌≡◌, ◌<◌, ◌&&◌, ◌⊎◌, ℕ, IfOk, IfSome, Some, length, filter};
 ghost use Rattle.std.specs.Prelude.{map, position, nat_eq, slice_get};
 ghost use Rattle.sect_lemmas.specs.Lists.{Has};
 ghost use Rattle.sect_places.specs.Declarations.{is_procedure, is_call, is_called};

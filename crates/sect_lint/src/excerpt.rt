@@ -6,7 +6,7 @@ ghost use Rattle.sect_front.specs.{Front.{line_of}, FaultPlaces.{IsWithin}};
 ghost use Rattle.sect_places.specs.Positions.{column_of as column_by};
 ghost use Rattle.sect_lint.specs.Excerpts.{is_plain as plain_by, hexadecimal as hexadecimal_by, shown, under, in_line};
 ghost use Rattle.sect_lint.specs.Excerpts.{line_text, most_shown, left_out as left_out_by, shown_line, carets};
-ghost use Rattle.sect_lint.specs.Excerpts.{marked_line, blanks_under, excerpt_of, excerpt};
+ghost use Rattle.sect_lint.specs.Excerpts.{marked_line, excerpt_of, excerpt};
 
 use sect_front::Span;
 use std::alloc::AllocError;

@@ -1,9 +1,9 @@
 //! Whether a source text is refused, for which mistake, and where that stands.
 
 ghost use Rattle.std.specs.Prelude.{◌≡◌, ◌≢◌, ◌≤◌, ◌<◌, ℕ, true, Err, Some, IfOk, IfErr, MatchOption, length};
-ghost use Rattle.sect_front.specs.{TreeView.{TreeView}, Front.{IsSpelled, IsFault}};
+ghost use Rattle.sect_front.specs.Front.{IsSpelled};
 ghost use Rattle.sect_front.specs.{FaultPlaces.{IsFaultSpan, IsWithin, AreKindsFor}, LongGaps.{AreGaps}};
-ghost use Rattle.sect_types.specs.{Programs.{ProgramView}, Items.{items}};
+ghost use Rattle.sect_types.specs.Items.{items};
 ghost use Rattle.sect_names.specs.Sources.{IsTypedText};
 ghost use Rattle.sect_lint.specs.{Places.{of_types, item_number, marked_name}, Mistakes.{of_types as mistake_by}};
 ghost use Rattle.sect_lint.specs.Details.{IsFrontDetail, IsDetailWithin, IsToldOf, item_detail as item_detail_by};

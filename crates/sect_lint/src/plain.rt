@@ -1,6 +1,6 @@
 //! What is said beside the carets of a mistake, where that takes the place of no name but of those in the item.
 
-ghost use Rattle.std.specs.Prelude.{◌≡◌, ◌<◌, ◌&&◌, IfOk, IfSome, length, position, nat_eq, true};
+ghost use Rattle.std.specs.Prelude.{◌≡◌, ◌<◌, ◌&&◌, IfOk, IfSome, length, position, true};
 ghost use Rattle.sect_lint.specs.steps.Plain.{IsPlainBy, is_plain as is_plain_by, is_declared_there, use_limit};
 
 use crate::call_counts::opened_counts;

@@ -1,7 +1,7 @@
 //! The server: what it knows, and what comes of each message.
 
-ghost use Rattle.std.specs.Prelude.{◌≡◌, ◌≤◌, ◌∷◌, [], IfOk, IfSome, List, map, option_map, option_and_then};
-ghost use Rattle.serde_json.specs.{Find.{pointer as pointer_by, as_str, as_array}, View.{view, items_view}};
+ghost use Rattle.std.specs.Prelude.{◌≡◌, ◌≤◌, ◌∷◌, [], IfOk, IfSome, map, option_map};
+ghost use Rattle.serde_json.specs.{Find.{as_str, as_array}, View.{view, items_view}};
 ghost use Rattle.sect_lsp.specs.Protocol.{kind_of};
 ghost use Rattle.sect_lsp.specs.Server.{asked_by, told_by, has_text as has_text_by, encoding_of as encoding_by};
 ghost use Rattle.sect_lsp.specs.Server.{k_of as k_by, encoding_name, sync_json, completion_json, able_json};

@@ -1,6 +1,6 @@
 //! Which lock covers which.
 
-ghost use Rattle.std.specs.Prelude.{◌≡◌, ◌↔◌, IsTrue};
+ghost use Rattle.std.specs.Prelude.{◌↔◌, IsTrue};
 ghost use Rattle.sect_names.specs.{Schemes.{SchemeView}, Locks.{Allows, Grants, Includes, Covers, IsCoverOrder}};
 
 use crate::lock::{Effect, Lock, Right};

@@ -1,6 +1,6 @@
 //! Where the fault of a text stands.
 
-ghost use Rattle.std.specs.Prelude.{◌≡◌, ◌≢◌, ◌≤◌, IfOk, IfErr, length};
+ghost use Rattle.std.specs.Prelude.{◌≡◌, ◌≢◌, IfOk, IfErr, length};
 ghost use Rattle.sect_front.specs.{Front.{IsFault}, FaultPlaces.{IsFaultSpan, IsWithin}};
 
 use sect_front::{FrontFault, PlacedFault, Span, parse_placed};

@@ -1,7 +1,7 @@
 //! How many items the parts of a tree have. They are counted in a `usize`; at its end the answer is a want of memory,
 //! as no memory holds a tree of so many.
 
-ghost use Rattle.std.specs.Prelude.{◌≡◌, ◌+◌, IfOk, length};
+ghost use Rattle.std.specs.Prelude.{◌≡◌, ◌+◌, IfOk};
 ghost use Rattle.sect_front.specs.Trees.{statement_of};
 ghost use Rattle.sect_places.specs.ItemCounts.{items_in_statement, items_in_block, items_in_records};
 ghost use Rattle.sect_places.specs.ItemCounts.{items_in_procedure, items_in_procedures};

@@ -1,6 +1,6 @@
 //! The lines of the statements that nodes come from.
 
-ghost use Rattle.std.specs.{Prelude.{◌≡◌, ◌<◌, ℕ, length, map, All, IfOk}, Option.{option_map}};
+ghost use Rattle.std.specs.{Prelude.{◌≡◌, ◌<◌, length, map, All, IfOk}, Option.{option_map}};
 ghost use Rattle.sect_front.specs.Front.{IsSpelled};
 ghost use Rattle.sect_types.specs.Sections.{sections_of};
 ghost use Rattle.sect_places.specs.{Spans.{AreProper}, NodeLines.{item_line, node_line, beginnings, AreNodeLines}};

@@ -1,6 +1,6 @@
 //! The bytes of the statements that nodes come from, and those of sections.
 
-ghost use Rattle.std.specs.{Prelude.{◌≡◌, ◌<◌, ℕ, Some, length, map, slice_get, All, IfOk}, Option.{option_map}};
+ghost use Rattle.std.specs.{Prelude.{◌≡◌, ◌<◌, Some, length, map, slice_get, All, IfOk}, Option.{option_map}};
 ghost use Rattle.sect_front.specs.Front.{IsSpelled};
 ghost use Rattle.sect_places.specs.NodeSpans.{item_span, node_span, AreNodeSpans};
 ghost use Rattle.sect_places.specs.steps.Placed.{IsAmong, IsPlaced};

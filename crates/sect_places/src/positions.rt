@@ -1,7 +1,7 @@
 //! Lines and columns of many places.
 
 ghost use Rattle.std.specs.{Prelude.{◌≡◌, ◌≤◌, length, map, IfOk}, List.{All}};
-ghost use Rattle.sect_places.specs.{Positions.{position}};
+ghost use Rattle.sect_places.specs.Positions.{position};
 ghost use Rattle.sect_places.specs.steps.Passing.{IsAt};
 
 use crate::position::{Position, position_behind};

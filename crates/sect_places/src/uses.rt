@@ -1,6 +1,6 @@
 //! The names of a tree, in text order.
 
-ghost use Rattle.std.specs.Prelude.{◌≡◌, ◌+◌, ◌∷◌, IfOk, OnOk, List, length, filter, nat_eq};
+ghost use Rattle.std.specs.Prelude.{◌≡◌, ◌+◌, ◌∷◌, IfOk, OnOk, length, filter, nat_eq};
 ghost use Rattle.sect_front.specs.Trees.{statement_of};
 ghost use Rattle.sect_places.specs.ItemCounts.{items_in_statement, items_in_block, items_in_records};
 ghost use Rattle.sect_places.specs.ItemCounts.{items_in_procedure, items_in_procedures, items_in_thread};

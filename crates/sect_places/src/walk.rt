@@ -1,6 +1,6 @@
 //! Which tokens the parts of a tree have, one part after another.
 
-ghost use Rattle.std.specs.Prelude.{◌≡◌, ◌+◌, ◌*◌, ◌^◌, ◌<◌, ◌≤◌, ◌∷◌, OnOk, IfOk, length};
+ghost use Rattle.std.specs.Prelude.{◌≡◌, ◌+◌, ◌*◌, ◌^◌, ◌<◌, ◌∷◌, OnOk, IfOk, length};
 ghost use Rattle.sect_front.specs.Trees.{statement_of};
 ghost use Rattle.sect_places.specs.Ranges.{range, statement_ranges, block_ranges, declarations_ranges, record_ranges};
 ghost use Rattle.sect_places.specs.Ranges.{procedure_ranges, thread_ranges, records_ranges, globals_ranges};

@@ -1,7 +1,5 @@
 //! Points-to sets: which sites' objects each local and each field may refer to (Andersen's inclusions).
 
-ghost use Rattle.std.specs.Prelude.{◌≡◌, ◌<◌, length, IfOk, map};
-
 use sect_types::Action;
 
 /// What a path begins with.

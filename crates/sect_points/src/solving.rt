@@ -1,7 +1,7 @@
 //! The least sets: what grew is moved on by the statements that read it, until nothing grows.
 
 ghost use Rattle.std.specs.Prelude.{◌≡◌, ◌↔◌, ◌≤◌, ◌<◌, ℕ, length, true, false};
-ghost use Rattle.sect_points.specs.{Sites.{HasSite}, Flow.{ValueHas, BaseHas, Moved, Within, IsLeastFlow}};
+ghost use Rattle.sect_points.specs.{Sites.{HasSite}, Flow.{ValueHas, BaseHas, Within, IsLeastFlow}};
 ghost use Rattle.sect_points.specs.Sets.{InSets, IsEmpty, HasSet, SameHolders, sets_room, sites_for, spread_to};
 ghost use Rattle.sect_points.specs.{Sets.{AreSitesOf, AreBelow}, declared.holders.ThreadAction.{ThreadAction}};
 ghost use Rattle.sect_points.specs.declared.holders.Holder.{Holder};

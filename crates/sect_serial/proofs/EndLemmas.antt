@@ -1,6 +1,6 @@
 -- The ends of states.
-use Rattle.std.proofs.Common.{◌≡◌, ◌<◌, ◌+◌, inl, inr, ℕ, true, false, List, [], ◌∷◌, ◌++◌, Some, sym, ap, subst, ◌∙◌}
-use Rattle.std.proofs.{Common.{arith, length, slice_get}, lemmas.Bool.{cases_lt}}
+use Rattle.std.proofs.Common.{◌≡◌, ◌<◌, ◌+◌, inl, inr, ℕ, List, [], ◌∷◌, ◌++◌, Some, sym, ap, subst, ◌∙◌}
+use Rattle.std.proofs.{Common.{arith, slice_get}, lemmas.Bool.{cases_lt}}
 use Rattle.sect_lemmas.specs.Lists.{Has}
 use Rattle.sect_lemmas.proofs.{Membership.{Has-cases}, Options.{some_injective}}
 use Rattle.sect_types.specs.{Programs.{ProgramView}, Whole.{RunView, SerialEndView, RunsWhole, EndsAs}}

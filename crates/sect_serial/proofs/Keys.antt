@@ -1,6 +1,6 @@
 -- Keys that are kept once, each with a value, in order.
 use Rattle.std.proofs.Common.{true≢false, ◌≡◌, ◌⊎◌, inl, inr, Bool, true, false, List, [], ◌∷◌, ◌++◌, Some, cond, refl}
-use Rattle.std.proofs.{Common.{sym, ap, ◌∙◌, map, is_some, subst}, lemmas.List.{map-append}}
+use Rattle.std.proofs.{Common.{sym, ◌∙◌, map, is_some, subst}, lemmas.List.{map-append}}
 use Rattle.std.specs.{Bool.{Decides}, Map.{lookup}}
 use Rattle.sect_lemmas.specs.{Lists.{Has}, Distinct.{AreDistinct}}
 use Rattle.sect_lemmas.proofs.{Distinct.{distinct_push}, Membership.{Has-left, Has-right}}

@@ -1,14 +1,13 @@
 -- States that are kept while outcomes are sought, and all that whole sections lead to.
-use Rattle.std.proofs.Common.{◌≡◌, ◌<◌, ◌≤◌, ◌+◌, ◌⊎◌, inl, inr, ℕ, zero, suc, Bool, true, false, List, [], ◌∷◌, ◌++◌}
-use Rattle.std.proofs.Common.{Option, Some, None, refl, sym, ap, subst, ◌∙◌, arith, length, map, slice_get}
+use Rattle.std.proofs.Common.{◌≡◌, ◌<◌, ◌≤◌, ◌+◌, inl, inr, ℕ, zero, suc, false, List, [], ◌∷◌, ◌++◌}
+use Rattle.std.proofs.Common.{Option, Some, None, refl, sym, ap, subst, ◌∙◌, arith, length, slice_get}
 use Rattle.std.proofs.{Common.{length-append}, lemmas.Bool.{cases_lt}, lemmas.List.{length-map}}
 use Rattle.std.proofs.lemmas.Option.{slice_get_past, slice_get_within}
-use Rattle.sect_lemmas.specs.{Lists.{Has}, Distinct.{AreDistinct}}
-use Rattle.sect_lemmas.proofs.{Distinct.{distinct_none}, Membership.{Has-cases, Has-slice_get, Has-unmap}}
-use Rattle.sect_lemmas.proofs.{Options.{some_injective, none_or_some}, Places.{Has-index, told_at}}
+use Rattle.sect_lemmas.specs.Lists.{Has}
+use Rattle.sect_lemmas.proofs.{Distinct.{distinct_none}, Membership.{Has-cases, Has-unmap}}
+use Rattle.sect_lemmas.proofs.{Options.{some_injective, none_or_some}, Places.{Has-index}}
 use Rattle.sect_types.specs.Programs.{ProgramView}
-use Rattle.sect_types.specs.Whole.{RunView, SerialEndView, begun, in_order, run_section, section_of_thread, option_then}
-use Rattle.sect_types.specs.Whole.{RunsWhole, EndsAs}
+use Rattle.sect_types.specs.Whole.{RunView, begun, in_order, run_section, section_of_thread, option_then}
 use Rattle.sect_serial.specs.{Comparing.{run_eq}, Exploring.{Found, HasMoreThan, HasStates, IsReached, AreOutcomes}}
 use Rattle.sect_serial.specs.Trimming.{trimmed}
 use Rattle.sect_serial.specs.steps.Frames.{AreReady}

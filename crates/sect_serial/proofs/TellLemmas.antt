@@ -1,7 +1,7 @@
 -- The tests of states and ends tell equality.
-use Rattle.std.proofs.Common.{rules, ◌≡◌, ◌&&◌, Bool, true, false, List, [], ◌∷◌, map, refl, sym, ap, ◌∙◌, Option, Some}
+use Rattle.std.proofs.Common.{rules, ◌≡◌, ◌&&◌, Bool, true, false, List, [], ◌∷◌, map, refl, ap, Option, Some}
 use Rattle.std.proofs.Common.{None}
-use Rattle.std.specs.{Bool.{Decides}, Ordering.{int_eq}, Cmp.{unsigned_Decides, signed_Decides}}
+use Rattle.std.specs.{Bool.{Decides}, Cmp.{unsigned_Decides, signed_Decides}}
 use Rattle.std.specs.{Cmp.Lexicographic.{pointwise, pointwise_decides}, Option.{option_eq}}
 use Rattle.sect_types.specs.{Store.{ObjectView, StoreView}, Meaning.{WorkView}}
 use Rattle.sect_types.specs.{Whole.{FrameView, RunView, SerialEndView}, declared.meaning.store.ObjectName.{ObjectName}}

@@ -1,11 +1,11 @@
 -- What a thread that has ended has in its locals makes no difference to what comes.
-use Rattle.std.proofs.Common.{true≢false, ◌≡◌, ◌+◌, ◌∙◌, refl, sym, ap, ℕ, zero, suc, List, [], ◌∷◌, map, Option, Some}
+use Rattle.std.proofs.Common.{◌≡◌, ◌+◌, ◌∙◌, refl, sym, ap, ℕ, zero, suc, List, [], ◌∷◌, map, Option, Some}
 use Rattle.std.proofs.{Common.{None, true, ◌++◌, if◌then◌else◌}, lemmas.Option.{slice_get-map}}
 use Rattle.std.specs.{Prelude.{slice_get}, Option.{option_map}}
 use Rattle.sect_lemmas.specs.Lists.{put_at}
 use Rattle.sect_lemmas.proofs.Options.{some_injective, none_or_some}
 use Rattle.sect_types.specs.{declared.meaning.store.End.{End}, Programs.{ProgramView}}
-use Rattle.sect_types.specs.{Statements.{TextView, Stop, Do, Choose, Loop, Section}, Store.{StoreView}}
+use Rattle.sect_types.specs.Statements.{TextView, Stop, Do, Choose, Loop, Section}
 use Rattle.sect_types.specs.Meaning.{WorkView}
 use Rattle.sect_types.specs.Whole.{FrameView, RunView, SerialEndView, ahead, all_ahead, body_of, frame_left, store_left}
 use Rattle.sect_types.specs.Whole.{printed_left, run_section, section_of_thread, section_in, section_by, EndsAs, Left}

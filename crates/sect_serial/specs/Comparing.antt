@@ -1,5 +1,5 @@
 -- When texts, threads, runs and their ends are equal, and how they are hashed.
-use Rattle.std.specs.{Prelude.{◌≡◌, ◌&&◌, ◌++◌, ℕ, ℤ, Bool, true, false, List, [], nat_eq}, Option.{option_eq}}
+use Rattle.std.specs.{Prelude.{◌≡◌, ◌&&◌, ◌++◌, Bool, true, false, List, nat_eq}, Option.{option_eq}}
 use Rattle.std.specs.{Bool.{Decides}, Ordering.{on, eq_of_both, int_eq}}
 use Rattle.std.specs.Cmp.{IsEquivalence, and_equiv, on_equiv, nat_eq_equiv, int_eq_equiv, unsigned_Decides}
 use Rattle.std.specs.{Cmp.{signed_Decides}, Cmp.Lexicographic.{pointwise, lists_equiv, options_equiv}}
@@ -8,7 +8,6 @@ use Rattle.std.proofs.Common.{refl, ap, sym, ◌∙◌}
 use Rattle.std.specs.Hash as fed
 use base.Stored.{Gv, gnil, gnum, gcons}
 use Rattle.sect_types.specs.{Coding.{statements_code}, Statements.{TextView}, Whole.{FrameView, RunView, SerialEndView}}
-use Rattle.sect_types.specs.declared.meaning.store.End.{End}
 use Rattle.sect_types.specs.contracts.meaning.store.EndPartialEq.TheImpl.{ghosts as the_end_eq}
 use Rattle.sect_types.specs.contracts.meaning.store.EndEq.TheImpl.Laws.{laws-law as the_end_laws}
 use Rattle.sect_types.specs.contracts.meaning.store.EndHash.TheImpl.{ghosts as the_end_hash}

@@ -1,5 +1,5 @@
 -- How objects and stores are compared and hashed, and how far threads are: part by part.
-use Rattle.std.specs.{Prelude.{◌≡◌, ◌++◌, ℕ, Bool, List, nat_eq}, Ordering.{on, eq_of_both, int_eq}}
+use Rattle.std.specs.{Prelude.{◌++◌, ℕ, Bool, List, nat_eq}, Ordering.{on, eq_of_both, int_eq}}
 use Rattle.std.specs.Cmp.{IsEquivalence, and_equiv, on_equiv, nat_eq_equiv, int_eq_equiv}
 use Rattle.std.specs.Cmp.Lexicographic.{pointwise, lists_equiv}
 use Rattle.std.specs.Hash.{HashWrites, Alike, slice, and-Alike, on_Alike, items_Alike}

@@ -1,6 +1,6 @@
 -- An object that is taken back. `Store::unmake` cites it.
 use Rattle.std.specs.Prelude.{ℕ, ◌-◌, List, length, take}
-use Rattle.sect_types.specs.Store.{ObjectView, StoreView}
+use Rattle.sect_types.specs.Store.{StoreView}
 use Rattle.sect_lemmas.specs.Lists.{changed_at}
 
 -- the list without its last element

@@ -1,7 +1,7 @@
 //! The links alone: free functions over the fields, since between two steps a number stands in no list.
 
 ghost use Rattle.std.specs.{Prelude.{◌≡◌, ◌<◌, vec_len, vec_capacity}, Option.{ForSome}};
-ghost use Rattle.sect_table.specs.steps.Links.{IsDetached, IsAppended, link_at, ends_at};
+ghost use Rattle.sect_table.specs.steps.Links.{IsDetached, IsAppended, link_at};
 
 /// Where a number stands: in which list, and between which numbers.
 #[derive(Clone, Copy)]

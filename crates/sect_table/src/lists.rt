@@ -1,6 +1,6 @@
 //! Lists over the numbers below a bound, each number in one list, linked through one arena.
 
-ghost use Rattle.std.specs.Prelude.{◌≡◌, ◌<◌, ◌+◌, ◌++◌, ◌∷◌, [], ◌^◌, length, slice_set, OnOk, OnErr, IfSome, ℕ, List};
+ghost use Rattle.std.specs.Prelude.{◌≡◌, ◌<◌, ◌+◌, ◌++◌, ◌∷◌, [], ◌^◌, length, slice_set, OnOk, IfSome, ℕ, List};
 ghost use Rattle.std.specs.Prelude.{None};
 ghost use Rattle.sect_table.specs.steps.Links.{list_at, label_at, head_or, ArePlaced, Goes};
 

@@ -1,6 +1,6 @@
 -- Where warnings stand.
 use Rattle.std.proofs.Common.{◌≡◌, ◌<◌, ℕ, zero, suc, List, [], ◌∷◌, length, map, get_or, sym, ap, ◌∙◌, subst, arith}
-use Rattle.std.specs.{Prelude.{All}, List.{AllZip}}
+use Rattle.std.specs.List.{AllZip}
 use Rattle.sect_front.specs.{Front.{IsSpelled}, FaultPlaces.{IsWithin, token_span}, declared.span.Span.{Span}}
 use Rattle.sect_places.specs.{declared.name_use.NameSpan.{NameSpan}, declared.range.TokenRange.{TokenRange}}
 use Rattle.sect_places.specs.{Ranges.{AreAmong, item_tokens}, Spans.{AreInOrder, span_in}}

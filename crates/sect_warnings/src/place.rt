@@ -1,7 +1,7 @@
 //! Where warnings stand, and what is said there.
 
 ghost use Rattle.std.specs.Prelude.{◌≡◌, ◌<◌, IfOk, All, length, get_or};
-ghost use Rattle.sect_front.specs.{Front.{IsSpelled}, FaultPlaces.{IsWithin}};
+ghost use Rattle.sect_front.specs.Front.{IsSpelled};
 ghost use Rattle.sect_types.specs.Items.{items};
 ghost use Rattle.sect_places.specs.{NameSpans.{AreNameSpans}, Ranges.{AreAmong}, Spans.{span_in}};
 ghost use Rattle.sect_lint.specs.Places.{no_range};

@@ -1,8 +1,6 @@
 //! What is told of the declarations of a text.
 
-ghost use Rattle.std.specs.{Prelude.{◌≡◌, ◌++◌, IfOk, OnOk, length, map}, List.{flat_map}};
-ghost use Rattle.sect_places.specs.Spans.{AreProper};
-ghost use Rattle.sect_warnings.specs.Reports.{AreWithin};
+ghost use Rattle.std.specs.{Prelude.{◌≡◌, ◌++◌, IfOk, OnOk, map}, List.{flat_map}};
 ghost use Rattle.sect_warnings.specs.Spares.{spare_at as spare_at_by, unused_at, hint_at, AreSpares};
 
 use crate::placed::Placed;

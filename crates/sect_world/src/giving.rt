@@ -1,6 +1,6 @@
 //! A thread gives back what it holds, and others come to hold it.
 
-ghost use Rattle.std.specs.Prelude.{◌≡◌, ◌<◌, ◌≤◌, ◌+◌, ◌++◌, ◌∷◌, [], length, false, vec_len, vec_capacity, OnOk};
+ghost use Rattle.std.specs.Prelude.{◌≡◌, ◌<◌, ◌≤◌, ◌+◌, ◌++◌, ◌∷◌, length, false, vec_len, vec_capacity, OnOk};
 ghost use Rattle.std.specs.Prelude.{OnErr};
 ghost use Rattle.sect_graph.specs.Rests.{rest_at};
 ghost use Rattle.sect_table.specs.{Contents.{is_waiting, released}, Sound.{IsKept as IsTableKept}};

@@ -3,7 +3,7 @@
 ghost use Rattle.std.specs.Prelude.{◌≡◌, ◌<◌, ℕ, List, [], length, slice_get, Some, true, Option, IfOk, OnOk, OnErr};
 ghost use Rattle.sect_types.specs.{Statements.{TextView}, Programs.{ProgramView}, Sections.{sections_of}};
 ghost use Rattle.sect_types.specs.Store.{ObjectView};
-ghost use Rattle.sect_types.specs.Meaning.{next, found_at, looks, begins_step, one, fresh, Went, Added};
+ghost use Rattle.sect_types.specs.Meaning.{next, begins_step, one, Went, Added};
 ghost use Rattle.sect_types.specs.declared.expansion.action.Action.TheVariants.{New};
 ghost use Rattle.sect_types.specs.declared.meaning.store.ObjectName.TheVariants.{Made};
 ghost use Rattle.sect_graph.specs.{declared.flow.Node.{Node}, Rests.{Begins, rest_at}};

@@ -1,6 +1,6 @@
 //! Runs by schedule.
 
-ghost use Rattle.std.specs.Prelude.{◌≡◌, ◌<◌, ℕ, length, IfOk, OnOk, IfErr};
+ghost use Rattle.std.specs.Prelude.{◌<◌, ℕ, length, IfOk, OnOk, IfErr};
 ghost use Rattle.sect_lemmas.specs.Lists.{Has};
 ghost use Rattle.sect_emit.specs.Compiled.{program_of};
 ghost use Rattle.sect_world.specs.{Schedules.{IsProgress, IsUnrun}, Worlds.{IsRefused}};

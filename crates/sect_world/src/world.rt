@@ -1,6 +1,6 @@
 //! A moment of a run, with the events that led to it.
 
-ghost use Rattle.std.specs.Prelude.{◌≡◌, ◌≤◌, ◌↔◌, true, IsTrue, length, ◌<◌, IfOk, OnOk, IfErr, OnErr, false, []};
+ghost use Rattle.std.specs.Prelude.{◌≡◌, ◌↔◌, true, IsTrue, length, ◌<◌, IfOk, OnOk, IfErr, OnErr, false, []};
 ghost use Rattle.sect_types.specs.{Statements.{TextView, Section}, Sections.{sections_of}, Meaning.{begins_step}};
 ghost use Rattle.sect_types.specs.Whole.{SerialEndView, RunsWhole, has_ended};
 ghost use Rattle.sect_graph.specs.Rests.{rest_at};
@@ -83,7 +83,7 @@ impl Drop for World<'_> {
 }
 
 impl<'a> Model for World<'a> {
-    ghost use Rattle.std.specs.Prelude.{length, vec_capacity, ◌≡◌, ◌≤◌, []};
+    ghost use Rattle.std.specs.Prelude.{length, ◌≡◌, []};
     ghost use Rattle.std.specs.Coded.{codes};
     ghost use Rattle.sect_front.specs.Coding.{block_code};
     ghost use Rattle.sect_types.specs.Coding.{statements_code};

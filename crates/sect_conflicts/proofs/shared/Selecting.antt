@@ -1,5 +1,5 @@
 -- Elements that are chosen from a list.
-use Rattle.std.proofs.Common.{◌≡◌, ◌⊎◌, ℕ, ◌+◌, ◌<◌, List, [], ◌∷◌, ◌++◌, length, take, get_or, refl, sym, ap, ◌∙◌}
+use Rattle.std.proofs.Common.{◌≡◌, ℕ, ◌+◌, ◌<◌, List, [], ◌∷◌, ◌++◌, length, take, get_or, refl, sym, ap, ◌∙◌}
 use Rattle.std.proofs.{Common.{subst, inl, inr, arith}, lemmas.List.{append_assoc, append-nil, get_or_default}}
 use Rattle.sect_lemmas.proofs.Making.{last_of}
 use Rattle.sect_lemmas.specs.Lists.{Has}

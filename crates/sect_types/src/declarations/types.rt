@@ -1,6 +1,6 @@
 //! Types by number.
 
-ghost use Rattle.std.specs.Prelude.{◌≡◌, ◌++◌, ◌∷◌, [], true, IfOk, OnOk, OnErr, length};
+ghost use Rattle.std.specs.Prelude.{◌≡◌, ◌++◌, true, IfOk, length};
 ghost use Rattle.sect_types.specs.{Rules.{knows_kind}, Sight.{has_name}};
 ghost use Rattle.sect_types.specs.Environments.{record_number as record_number_by, type_of as type_by};
 ghost use Rattle.sect_types.specs.Environments.{types_of as types_by, field_types as field_types_by};

@@ -1,7 +1,7 @@
 //! The expanded texts of threads: a call is replaced by an assignment to each fresh variable and the body of the
 //! procedure.
 
-ghost use Rattle.std.specs.Prelude.{◌≡◌, ◌+◌, ◌≤◌, ◌<◌, ◌++◌, List, IfOk, OnOk, IsSome, Some, true, length, map};
+ghost use Rattle.std.specs.Prelude.{◌≡◌, ◌+◌, ◌≤◌, ◌<◌, ◌++◌, IfOk, OnOk, IsSome, Some, true, length, map};
 ghost use Rattle.std.specs.Prelude.{slice_get};
 ghost use Rattle.sect_front.specs.{Trees.{statement_of}, declared.tree.Procedure.{Procedure as Spec}, Syntax.{Call}};
 ghost use Rattle.sect_types.specs.{Statements.{TextView, joined}, Sight.{names_of_declared}};

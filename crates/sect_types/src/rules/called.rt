@@ -1,7 +1,7 @@
 //! The procedures of a text by name, and which of them call which.
 
-ghost use Rattle.std.specs.Prelude.{◌≡◌, ◌<◌, ◌++◌, ◌+◌, IfOk, OnOk, OnErr, List, ℕ, [], ◌∷◌, length, slice_get};
-ghost use Rattle.std.specs.{Prelude.{nat_eq, option_copied}, Cmp.Lexicographic.{pointwise}};
+ghost use Rattle.std.specs.Prelude.{◌≡◌, ◌<◌, ◌++◌, ◌+◌, IfOk, OnOk, List, ℕ, length};
+ghost use Rattle.std.specs.{Prelude.{nat_eq}, Cmp.Lexicographic.{pointwise}};
 ghost use Rattle.indexmap.specs.IndexMap.{get};
 ghost use Rattle.sect_front.specs.Trees.{statement_of};
 ghost use Rattle.sect_types.specs.Sums.{number_of as number_by, statement_calls, block_calls};

@@ -1,7 +1,7 @@
 //! What names and operands denote, by numbers and with their types.
 
 ghost use Rattle.std.specs.Prelude.{◌≡◌};
-ghost use Rattle.sect_types.specs.Sight.{kind_of as kind_by, same_name};
+ghost use Rattle.sect_types.specs.Sight.{kind_of as kind_by};
 ghost use Rattle.sect_types.specs.Kinds.{same_kind as same_kind_by, accepts as accepts_by};
 ghost use Rattle.sect_types.specs.Kinds.{of_one_kind as of_one_kind_by, comparable as comparable_by};
 ghost use Rattle.sect_types.specs.Numbered.{base_by, value_at as value_at_by, value_by};

@@ -1,7 +1,6 @@
 //! How far a walk through the items has come.
 
 ghost use Rattle.std.specs.Prelude.{◌≡◌, ◌+◌, ◌<◌, ◌≤◌, OnOk, OnErr, false, nat_le};
-ghost use Rattle.sect_types.specs.Items.{PrimitiveHead, TestHead, AtomicHead};
 ghost use Rattle.sect_types.specs.Rules.{passes_by, after_item, after_primitive, plus_sums};
 ghost use Rattle.sect_types.specs.Limits.{most_sections, most_sites, most_statements};
 ghost use Rattle.sect_types.specs.steps.{Spots.{full_for, full_for_section}, Capped.{IsSmall}};

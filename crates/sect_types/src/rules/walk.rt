@@ -6,7 +6,7 @@ ghost use Rattle.sect_types.specs.Items.{PrimitiveHead, TestHead, AtomicHead, Ca
 ghost use Rattle.sect_types.specs.Items.{statement_items, block_items};
 ghost use Rattle.sect_types.specs.Rules.{shares, by_place, depth_at, knows_primitive, primitive_agrees, knows_test};
 ghost use Rattle.sect_types.specs.Rules.{test_agrees};
-ghost use Rattle.sect_types.specs.steps.{Judging.{rule_of}, Spots.{full_for, full_for_section}};
+ghost use Rattle.sect_types.specs.steps.{Judging.{rule_of}, Spots.{full_for}};
 ghost use Rattle.sect_types.specs.steps.{Walks.{Walks, rule_in, of_types, then_rest}, Standing.{declared_by}};
 ghost use Rattle.sect_front.specs.{Depth.{statement_depth, block_depth}, Trees.{statement_of}, Limits.{most_depth}};
 

@@ -1,4 +1,4 @@
-use Rattle.std.proofs.Common.{◌≡◌, ℕ, ◌<◌, ◌≤◌, ◌∷◌, ◌++◌, [], length, get_or, refl, sym, ap, ◌∙◌, arith}
+use Rattle.std.proofs.Common.{◌≡◌, ℕ, ◌<◌, ◌∷◌, ◌++◌, [], length, get_or, refl, sym, ap, ◌∙◌, arith}
 use Rattle.sect_lemmas.proofs.Places.{at_of}
 use Rattle.sect_types.specs.{Programs.{ProgramView}, Sections.{sections_of}}
 use Rattle.sect_names.specs.Schemes.{SchemeView}

@@ -1,7 +1,6 @@
-use Rattle.std.proofs.Common.{◌≡◌, length, [], sym, ◌∙◌, subst, true≢false}
-use Rattle.sect_lemmas.specs.Lists.{Has}
+use Rattle.std.proofs.Common.{sym, ◌∙◌, subst, true≢false}
 use Rattle.sect_conflicts.specs.Conflicts.{MayGoTogether}
-use Rattle.sect_conflicts.specs.steps.Profiles.{AreSitesOfLock, IsProfile}
+use Rattle.sect_conflicts.specs.steps.Profiles.{AreSitesOfLock}
 use Rattle.sect_conflicts.proofs.PathPairs.{zipped_many}
 use Rattle.sect_conflicts.proofs.Profiling.{profile_here, sites_of_set, told_always, told_together}
 use Rattle.sect_conflicts.proofs.shared.Selecting.{some_item}

@@ -1,4 +1,4 @@
-use Rattle.std.proofs.{Common.{◌<◌, length, take, arith, subst}, lemmas.List.{take_all}}
+use Rattle.std.proofs.{Common.{◌<◌, length, arith, subst}, lemmas.List.{take_all}}
 use Rattle.sect_conflicts.specs.{Conflicts.{MayBeOne, paths_with}, Selecting.{Adds}}
 use Rattle.sect_conflicts.specs.steps.Profiles.{AreSitesOfLock}
 use Rattle.sect_conflicts.proofs.shared.Selecting.{adds_nothing}

@@ -1,4 +1,4 @@
-use Rattle.std.proofs.{Common.{◌≡◌, ◌∙◌, ◌<◌, ◌≤◌, get_or, inl, inr, length, refl, sym, subst, true, false, arith}}
+use Rattle.std.proofs.Common.{◌≡◌, ◌∙◌, ◌<◌, ◌≤◌, get_or, inl, inr, length, refl, sym, subst, true, false, arith}
 use Rattle.std.proofs.lemmas.List.{get_or_default, take_all}
 use Rattle.sect_lemmas.specs.Lists.{Has}
 use Rattle.sect_lemmas.proofs.{Making.{last_of}, Membership.{Has-get_or}}

@@ -1,5 +1,5 @@
-use Rattle.std.proofs.Common.{◌≡◌, sym, ap, subst, arith, ◌≤◌, ℕ}
-use Rattle.sect_serial.specs.Exploring.{Explores, HasStates, OutcomesView}
+use Rattle.std.proofs.Common.{sym, subst, arith}
+use Rattle.sect_serial.specs.Exploring.{Explores, HasStates}
 use Rattle.sect_serial.proofs.StateLemmas.{all_outcomes, all_states}
 use Rattle.sect_serial.proofs.exploring.outcomes.Goals as goal
 

@@ -1,4 +1,4 @@
-use Rattle.std.proofs.Common.{◌≡◌, ◌∙◌, ◌<◌, ◌≤◌, refl, sym, ap, arith, true≢false}
+use Rattle.std.proofs.Common.{◌≡◌, ◌∙◌, refl, sym, ap, arith, true≢false}
 use Rattle.sect_types.specs.{Statements.{Stop, weight, statement_count}, Texts.{step_then}}
 use Rattle.sect_serial.specs.steps.Rests.{after_first}
 use Rattle.sect_serial.proofs.Comparing.{not_stop, same_firsts, same_rests, same_together, first_lighter, rest_lighter}

@@ -1,4 +1,4 @@
-use Rattle.std.proofs.{Common.{◌≡◌, ◌++◌, ◌∙◌, ap, take, drop, codes}, lemmas.List.{take_rest}}
+use Rattle.std.proofs.{Common.{◌++◌, ◌∙◌, ap, take, drop, codes}, lemmas.List.{take_rest}}
 use Rattle.sect_warnings.proofs.hinting.hinted.Goals as goal
 
 pub returns : goal.returns

@@ -1,4 +1,4 @@
-use Rattle.std.proofs.{Common.{◌≡◌, ◌++◌, refl, sym, ◌∙◌, ap, inl, inr, arith, codes}, lemmas.List.{append_assoc}}
+use Rattle.std.proofs.{Common.{◌≡◌, ◌++◌, refl, ◌∙◌, ap, inr, arith, codes}, lemmas.List.{append_assoc}}
 use Rattle.std.specs.String.{string_bytes}
 use Rattle.sect_warnings.proofs.remedy.put_deep.Goals as goal
 

@@ -37,4 +37,5 @@ returns-clause-order c =
     let first : Trail =
     record { numbering = c.in_ok-numbering.numbering; found = c.in_ok-found.found; steps = c.in_ok-steps.steps } in
     begins a.scheme.now a.thread a.last.now a.flow.now first c.put_by_nodes.new.trail
-    c.put_at_end.new.trail c.in_ok-steps.ensures.items c.in_ok-put_by_nodes.ensures.order c.in_ok-put_at_end.ensures.order
+    c.put_at_end.new.trail c.in_ok-steps.ensures.items c.in_ok-put_by_nodes.ensures.order
+    c.in_ok-put_at_end.ensures.order

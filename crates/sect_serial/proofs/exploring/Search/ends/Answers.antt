@@ -1,4 +1,4 @@
-use Rattle.std.proofs.Common.{◌≡◌, ◌∙◌, ap, sym, subst, length, List, ℕ, Some, Err, slice_get}
+use Rattle.std.proofs.Common.{◌∙◌, ap, sym, subst, length, List, ℕ, Err, slice_get}
 use Rattle.std.specs.Map.Iter.{deref_pair}
 use Rattle.sect_lemmas.proofs.Membership.{Has-slice_get}
 use Rattle.sect_types.specs.Whole.{RunView, EndsAs}

@@ -1,4 +1,4 @@
-use Rattle.std.proofs.Common.{◌≡◌, ◌<◌, ◌∙◌, [], ap, sym, subst, arith, inl, inr, length, List, ℕ}
+use Rattle.std.proofs.Common.{◌≡◌, sym, subst, arith, inl, inr, ℕ}
 use Rattle.std.proofs.{lemmas.Bool.{cases_lt}, lemmas.Option.{slice_get_within}}
 use Rattle.sect_lemmas.specs.Lists.{Has}
 use Rattle.sect_types.specs.Whole.{begun}

@@ -27,7 +27,11 @@ pub struct Numbering {
     locks: IndexSet<Lock>,
     above: Vec<SmallVec<usize, 4>>,
     last: LastOfClass,
+
+    /// Whether there may be locks to write paths.
     writes: bool,
+
+    /// The greatest number that is told above another lock, or 0.
     highest: usize,
 }
 

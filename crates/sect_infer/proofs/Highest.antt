@@ -1,6 +1,6 @@
 -- The greatest number that is told above a lock.
 use Rattle.std.proofs.Common.{◌≡◌, ◌≤◌, ◌<◌, ℕ, zero, suc, List, [], ◌∷◌, ◌++◌, Bool, true, false, not, set, refl}
-use Rattle.std.proofs.Common.{sym, ap, ◌∙◌, subst, arith, inl, inr}
+use Rattle.std.proofs.Common.{sym, ap, ◌∙◌, arith, inl, inr}
 use Rattle.std.specs.{Prelude.{cond, ◌||◌}, List.{list_any}}
 use Rattle.sect_lemmas.specs.Lists.{Has}
 use Rattle.sect_infer.specs.{Numbers.{has_number}, Numberings.{is_under, fresh_from}}

@@ -1,6 +1,6 @@
-use Rattle.std.proofs.{Common.{refl, sym, subst}, lemmas.Result.{on_ok_weaker}}
+use Rattle.std.proofs.{Common.{refl, subst}, lemmas.Result.{on_ok_weaker}}
 use Rattle.sect_names.specs.Carrying.{LockOn}
-use Rattle.sect_infer.specs.steps.Putting.{AreOn, IsOnOneOf}
+use Rattle.sect_infer.specs.steps.Putting.{IsOnOneOf}
 use Rattle.sect_names.specs.declared.carry.Earlier.TheVariants as earlier
 use Rattle.sect_infer.proofs.Carrying.{finds_none, finds_as}
 use Rattle.sect_infer.proofs.carry.Transfer.find_each_on.Goals as goal

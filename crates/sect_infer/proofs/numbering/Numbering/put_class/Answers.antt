@@ -26,6 +26,7 @@ returns-in-Make c = λ s is.
     let l = lock.Class c.args.class right.Make in
     let coverers = lock.All ∷ lock.Class c.args.class right.Write ∷ [] in
     let numbers = c.in_ok-over.over.all ∷ c.in_ok-over.over.write ∷ [] in
-    rw c.in-Make.is (put_after s c.args.self.now b c.put_on_class-in-Make.new.self l c.put_on_class-in-Make.result over.0.longer
+    rw c.in-Make.is (put_after s c.args.self.now b c.put_on_class-in-Make.new.self l c.put_on_class-in-Make.result
+    over.0.longer
     (c.put_on_class-in-Make.ensures s over.0.numbering (above_placed s b.keys l coverers
     numbers (class_coverers s c.args.class right.Make) (over.0.there, (over.1.there, tt)))))

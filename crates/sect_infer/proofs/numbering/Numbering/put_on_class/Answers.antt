@@ -7,7 +7,8 @@ use Rattle.sect_infer.proofs.numbering.Numbering.put_on_class.Goals as goal
 pub returns-in-Some : goal.returns-in-Some
 returns-in-Some c = λ s is above.
     let n = c.in-Some.number in
-    numbered_there s c.args.self.now (lock.Class c.args.class c.args.right) n is (c.last_on_class.ensures n c.in-Some.is)
+    numbered_there s c.args.self.now (lock.Class c.args.class c.args.right) n is
+    (c.last_on_class.ensures n c.in-Some.is)
 
 pub returns : goal.returns
 returns c = λ s is above.

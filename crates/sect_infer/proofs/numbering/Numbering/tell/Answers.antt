@@ -2,7 +2,6 @@ use Rattle.std.proofs.Common.{inl, inr, ◌≡◌, ◌<◌, ℕ, List, [], ◌�
 use Rattle.std.proofs.lemmas.List.{get_or-map, length-map}
 use Rattle.std.specs.Prelude.{slice_index_or}
 use Rattle.sect_lemmas.proofs.Elements.{map-set}
-use Rattle.sect_lemmas.specs.Lists.{Has}
 use Rattle.sect_lemmas.proofs.Membership.{Has-cases}
 use Rattle.sect_infer.specs.{Numberings.{NumberingView}, steps.Putting.{AreWithin}}
 use Rattle.sect_infer.proofs.Highest.{within_set}

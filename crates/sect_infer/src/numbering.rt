@@ -1,7 +1,7 @@
 //! Locks by their numbers.
 
-ghost use Rattle.std.specs.Prelude.{◌≡◌, ◌↔◌, ◌<◌, ◌≤◌, ◌||◌, ℕ, ◌++◌, ◌∷◌, length, slice_get, [], Some};
-ghost use Rattle.std.specs.Prelude.{IfOk, OnOk, IsTrue, IsFalse, MatchOption, false, slice_index_or};
+ghost use Rattle.std.specs.Prelude.{◌≡◌, ◌↔◌, ◌<◌, ◌≤◌, ◌||◌, ℕ, ◌++◌, ◌∷◌, length, slice_get, [], Some, IfOk, OnOk};
+ghost use Rattle.std.specs.Prelude.{IsTrue, IsFalse, MatchOption, false, slice_index_or};
 ghost use Rattle.sect_lemmas.specs.Lists.{Has};
 ghost use Rattle.sect_points.specs.Partitions.{HasClass};
 ghost use Rattle.sect_names.specs.{declared.lock.Lock.{Lock}, Schemes.{SchemeView}};
@@ -27,7 +27,11 @@ pub struct Numbering {
     locks: IndexSet<Lock>,
     above: Vec<SmallVec<usize, 4>>,
     last: LastOfClass,
+
+    /// Whether there may be locks to write paths.
     writes: bool,
+
+    /// The greatest number that is told above another lock, or 0.
     highest: usize,
 }
 

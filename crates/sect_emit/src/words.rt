@@ -98,24 +98,6 @@ fn are_equal(one: &Lock, other: &Lock) -> bool
     *one == *other
 }
 
-/// The first place between two at which a list in canonical order has no lock before this one; the second where there
-/// is none.
-fn first_between(locks: &[&Lock], from: usize, end: usize, lock: &Lock) -> usize
-    requires { end ≤ length locks.now }
-{
-    let mut low = from;
-    let mut high = end;
-    while low < high {
-        let middle = low + (high - low) / 2;
-        if precedes(locks[middle], lock) {
-            low = middle + 1;
-        } else {
-            high = middle;
-        }
-    }
-    low
-}
-
 /// The first place from one on at which a list in canonical order has no lock before this one. Mostly it is near.
 #[inline(never)]
 fn first_from(locks: &[&Lock], from: usize, lock: &Lock) -> usize {
@@ -125,7 +107,7 @@ fn first_from(locks: &[&Lock], from: usize, lock: &Lock) -> usize {
             return place;
         }
     }
-    first_between(locks, near, locks.len(), lock)
+    near + locks[near..].partition_point(|other| precedes(other, lock))
 }
 
 /// Whether a list has a lock at a place.

@@ -17,7 +17,7 @@ use Rattle.sect_chains.specs.declared.keep.KeptLink.{KeptLink}
 use Rattle.sect_chains.specs.steps.Keeping.{KeptView, kept, step_of, IsMarkedAt, is_outdone, is_new, keep_one}
 use Rattle.sect_chains.specs.steps.Keeping.{keep_each}
 use Rattle.sect_chains.specs.steps.Marking.{is_marked, with_mark}
-use Rattle.sect_chains.proofs.Marking.{any_has}
+use Rattle.sect_infer.proofs.shared.Undone.{any_has}
 use Rattle.sect_chains.specs.steps.Trails.{HasTrail, LeadOn}
 use Rattle.sect_chains.specs.steps.Working.{link_of, links_of, nexts_of, IsFoundAt, IsCoveredAt, IsKept, IsReason}
 use Rattle.sect_chains.specs.steps.Working.{Grows}

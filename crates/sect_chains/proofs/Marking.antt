@@ -1,10 +1,9 @@
 -- Marks of numbers.
 use Rattle.std.proofs.Common.{◌≡◌, ◌↔◌, ◌⊎◌, inl, inr, ℕ, zero, suc, ◌-◌, ◌<◌, ◌≤◌, List, [], ◌∷◌, ◌++◌, Bool, true}
 use Rattle.std.proofs.Common.{false, nat_lt, length, get_or, set, replicate, refl, sym, ap, ◌∙◌, arith}
-use Rattle.std.proofs.{Common.{length-append, true≢false}, lemmas.Bool.{cases_eq}, lemmas.Bool.Decides.{nat_tests}}
+use Rattle.std.proofs.{Common.{length-append}, lemmas.Bool.{cases_eq}, lemmas.Bool.Decides.{nat_tests}}
 use Rattle.std.proofs.lemmas.List.{get_or-set_same, get_or-set_other, length-replicate}
-use Rattle.std.specs.{Prelude.{if◌then◌else◌, ◌||◌}, List.{list_any}}
-use Rattle.sect_lemmas.specs.Lists.{Has}
+use Rattle.std.specs.Prelude.{if◌then◌else◌}
 use Rattle.sect_chains.specs.steps.Marking.{is_marked, with_room, with_mark}
 
 no_mark : (k n : ℕ) → get_or (replicate k false) n false ≡ false
@@ -52,13 +51,3 @@ module _ (marks : List Bool) (count n : ℕ) (below : n < count) where
               λ h. elim h [ inl a ↦ here ∙ a | inr e ↦ absurd (other e) ],
             )
       ]
-
--- what passes a test that some element passes
-pub any_has : {X : Type 0} (p : X → Bool) (xs : List X) → list_any p xs ≡ true → (x : X) × Has xs x × (p x ≡ true)
-any_has p [] e = absurd (true≢false (sym e))
-any_has {X} p (x ∷ xs) e = go (p x) refl e (any_has p xs)
-  where
-    go : (b : Bool) → p x ≡ b → (b || list_any p xs) ≡ true → (list_any p xs ≡ true → (y : X) × Has xs y × (p y ≡ true))
-        → (y : X) × Has (x ∷ xs) y × (p y ≡ true)
-    go true is e rest = (x, inl refl, is)
-    go false is e rest = (let r = rest e in (r.0, inr r.1, r.2))

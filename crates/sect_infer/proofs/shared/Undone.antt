@@ -9,7 +9,7 @@ use Rattle.sect_infer.specs.{Numbers.{has_number}, Numberings.{NumberingView, Ha
 use Rattle.sect_infer.proofs.shared.Apart.{apart_one, number_tells}
 
 -- what passes a test that some element passes
-any_has : {X : Type 0} (p : X → Bool) (xs : List X) → list_any p xs ≡ true → (x : X) × Has xs x × (p x ≡ true)
+pub any_has : {X : Type 0} (p : X → Bool) (xs : List X) → list_any p xs ≡ true → (x : X) × Has xs x × (p x ≡ true)
 any_has p [] e = absurd (true≢false (sym e))
 any_has {X} p (x ∷ xs) e = go (p x) refl e (any_has p xs)
   where

@@ -39,11 +39,12 @@ added_is added true b is e = sym (ap not (sym e ∙ is))
 added_is added false b is e = sym (ap not (sym e ∙ is))
 
 -- it is told whether there may be locks to write paths, whether one more was there or comes behind the others
-pub writes_added : (keys new : List Lock) (l : Lock) (there writes : Bool)
-    → new ≡ (if there then keys else keys ++ l ∷ []) → AreWritesTold writes keys
-    → AreWritesTold writes (keys ++ l ∷ []) → AreWritesTold writes new
-writes_added keys new l true writes is here behind = subst (AreWritesTold writes) (sym is) here
-writes_added keys new l false writes is here behind = subst (AreWritesTold writes) (sym is) behind
+pub writes_added : (keys now new : List Lock) (l : Lock) (there writes : Bool) → keys ≡ now
+    → new ≡ (if there then keys else keys ++ l ∷ []) → AreWritesTold writes now
+    → AreWritesTold writes (now ++ l ∷ []) → AreWritesTold writes new
+writes_added keys now new l true writes was is here behind = subst (AreWritesTold writes) (sym (is ∙ was)) here
+writes_added keys now new l false writes was is here behind =
+    subst (AreWritesTold writes) (sym (is ∙ ap (λ ks. ks ++ l ∷ []) was)) behind
 
 -- one that is no lock to write a path adds none
 pub writes_other : (keys : List Lock) (l : Lock) → ((p : PathView) → Has keys (lock.Path p effect.Write) → ⊥)

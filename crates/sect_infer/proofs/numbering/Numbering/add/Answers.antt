@@ -4,7 +4,7 @@ use Rattle.std.specs.{Prelude.{if◌then◌else◌}, List.{list_any}}
 use Rattle.sect_lemmas.proofs.Finding.{any_tells}
 use Rattle.sect_names.specs.contracts.lock.LockPartialEq.TheImpl.{ghosts as the_lock_eq}
 use Rattle.sect_names.proofs.shared.Telling.{lock_tells}
-use Rattle.sect_infer.specs.{Numberings.{NumberingView}, steps.Putting.{AreWritesTold, AreWithin}}
+use Rattle.sect_infer.specs.{Numberings.{NumberingView}, steps.Putting.{AreWithin}}
 use Rattle.sect_infer.proofs.{Extending.{added_is, writes_added}, Highest.{within_behind}}
 use Rattle.sect_lemmas.specs.Lists.{Has}
 use Rattle.sect_infer.proofs.numbering.Numbering.add.Goals as goal
@@ -43,15 +43,11 @@ pub invariant_of-self-in_err-from_slice : goal.invariant_of-self-in_err-from_sli
 invariant_of-self-in_err-from_slice c =
     let keys = c.self.inside.locks.keys in
     let l = c.args.lock in
-    let writes = c.has_writes_with-self-inside.result in
-    let was : keys ≡ c.args.self.now.keys = ap (λ (v : NumberingView). v.keys) c.self.view_is in
-    let highest = c.highest_with-self-inside.result in
-    let lists : List (List ℕ) = map (λ v. v.items) c.self.inside.above.items in
     record {
-      writes_told = writes_added keys c.insert_full.new.self.keys l (list_any (the_lock_eq.eq l) keys) writes
-          c.in_ok-number.ensures.keys (subst (AreWritesTold writes) (sym was)
-          c.has_writes_with-self-inside.ensures.there)
-          (subst (λ ks. AreWritesTold writes (ks ++ l ∷ [])) (sym was) c.has_writes_with-self-inside.ensures.behind);
+      writes_told = writes_added keys c.args.self.now.keys c.insert_full.new.self.keys l (list_any (the_lock_eq.eq l) keys)
+          c.has_writes_with-self-inside.result (ap (λ (v : NumberingView). v.keys) c.self.view_is)
+          c.in_ok-number.ensures.keys c.has_writes_with-self-inside.ensures.there
+          c.has_writes_with-self-inside.ensures.behind;
       within = c.highest_with-self-inside.ensures.there;
     }
 
@@ -59,15 +55,12 @@ pub invariant_of-self-in_err-push : goal.invariant_of-self-in_err-push
 invariant_of-self-in_err-push c =
     let keys = c.self.inside.locks.keys in
     let l = c.args.lock in
-    let writes = c.has_writes_with-self-inside.result in
-    let was : keys ≡ c.args.self.now.keys = ap (λ (v : NumberingView). v.keys) c.self.view_is in
     let highest = c.highest_with-self-inside.result in
-    let lists : List (List ℕ) = map (λ v. v.items) c.self.inside.above.items in
     record {
-      writes_told = writes_added keys c.insert_full.new.self.keys l (list_any (the_lock_eq.eq l) keys) writes
-          c.in_ok-number.ensures.keys (subst (AreWritesTold writes) (sym was)
-          c.has_writes_with-self-inside.ensures.there)
-          (subst (λ ks. AreWritesTold writes (ks ++ l ∷ [])) (sym was) c.has_writes_with-self-inside.ensures.behind);
+      writes_told = writes_added keys c.args.self.now.keys c.insert_full.new.self.keys l (list_any (the_lock_eq.eq l) keys)
+          c.has_writes_with-self-inside.result (ap (λ (v : NumberingView). v.keys) c.self.view_is)
+          c.in_ok-number.ensures.keys c.has_writes_with-self-inside.ensures.there
+          c.has_writes_with-self-inside.ensures.behind;
       within = subst (AreWithin highest) (sym (ap (map (λ v. v.items)) c.in_err-push.ensures.items))
           c.highest_with-self-inside.ensures.there;
     }
@@ -76,18 +69,16 @@ pub invariant_of-self-in_ok-push : goal.invariant_of-self-in_ok-push
 invariant_of-self-in_ok-push c =
     let keys = c.self.inside.locks.keys in
     let l = c.args.lock in
-    let writes = c.has_writes_with-self-inside.result in
-    let was : keys ≡ c.args.self.now.keys = ap (λ (v : NumberingView). v.keys) c.self.view_is in
     let highest = c.highest_with-self-inside.result in
     let lists : List (List ℕ) = map (λ v. v.items) c.self.inside.above.items in
     let pushed : map (λ v. v.items) c.push.new.self.items ≡ lists ++ c.in_ok-from_slice.field-0.items ∷ [] =
     ap (map (λ v. v.items)) c.in_ok-push.ensures.items
     ∙ map-append (λ v. v.items) c.self.inside.above.items (c.in_ok-from_slice.field-0 ∷ []) in
     record {
-      writes_told = writes_added keys c.insert_full.new.self.keys l (list_any (the_lock_eq.eq l) keys) writes
-          c.in_ok-number.ensures.keys (subst (AreWritesTold writes) (sym was)
-          c.has_writes_with-self-inside.ensures.there)
-          (subst (λ ks. AreWritesTold writes (ks ++ l ∷ [])) (sym was) c.has_writes_with-self-inside.ensures.behind);
+      writes_told = writes_added keys c.args.self.now.keys c.insert_full.new.self.keys l (list_any (the_lock_eq.eq l) keys)
+          c.has_writes_with-self-inside.result (ap (λ (v : NumberingView). v.keys) c.self.view_is)
+          c.in_ok-number.ensures.keys c.has_writes_with-self-inside.ensures.there
+          c.has_writes_with-self-inside.ensures.behind;
       within = subst (AreWithin highest) (sym pushed) (within_behind highest lists
           c.in_ok-from_slice.field-0.items c.highest_with-self-inside.ensures.there
           (subst (λ ns. (n : ℕ) → Has ns n → n ≤ highest) (sym c.in_ok-from_slice.ensures.ok)

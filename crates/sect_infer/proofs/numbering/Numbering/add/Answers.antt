@@ -44,10 +44,10 @@ invariant_of-self-in_err-from_slice c =
     let keys = c.self.inside.locks.keys in
     let l = c.args.lock in
     record {
-      writes_told = writes_added keys c.args.self.now.keys c.insert_full.new.self.keys l (list_any (the_lock_eq.eq l) keys)
-          c.has_writes_with-self-inside.result (ap (λ (v : NumberingView). v.keys) c.self.view_is)
-          c.in_ok-number.ensures.keys c.has_writes_with-self-inside.ensures.there
-          c.has_writes_with-self-inside.ensures.behind;
+      writes_told = writes_added keys c.args.self.now.keys c.insert_full.new.self.keys l
+          (list_any (the_lock_eq.eq l) keys) c.has_writes_with-self-inside.result
+          (ap (λ (v : NumberingView). v.keys) c.self.view_is) c.in_ok-number.ensures.keys
+          c.has_writes_with-self-inside.ensures.there c.has_writes_with-self-inside.ensures.behind;
       within = c.highest_with-self-inside.ensures.there;
     }
 
@@ -57,10 +57,10 @@ invariant_of-self-in_err-push c =
     let l = c.args.lock in
     let highest = c.highest_with-self-inside.result in
     record {
-      writes_told = writes_added keys c.args.self.now.keys c.insert_full.new.self.keys l (list_any (the_lock_eq.eq l) keys)
-          c.has_writes_with-self-inside.result (ap (λ (v : NumberingView). v.keys) c.self.view_is)
-          c.in_ok-number.ensures.keys c.has_writes_with-self-inside.ensures.there
-          c.has_writes_with-self-inside.ensures.behind;
+      writes_told = writes_added keys c.args.self.now.keys c.insert_full.new.self.keys l
+          (list_any (the_lock_eq.eq l) keys) c.has_writes_with-self-inside.result
+          (ap (λ (v : NumberingView). v.keys) c.self.view_is) c.in_ok-number.ensures.keys
+          c.has_writes_with-self-inside.ensures.there c.has_writes_with-self-inside.ensures.behind;
       within = subst (AreWithin highest) (sym (ap (map (λ v. v.items)) c.in_err-push.ensures.items))
           c.highest_with-self-inside.ensures.there;
     }
@@ -75,10 +75,10 @@ invariant_of-self-in_ok-push c =
     ap (map (λ v. v.items)) c.in_ok-push.ensures.items
     ∙ map-append (λ v. v.items) c.self.inside.above.items (c.in_ok-from_slice.field-0 ∷ []) in
     record {
-      writes_told = writes_added keys c.args.self.now.keys c.insert_full.new.self.keys l (list_any (the_lock_eq.eq l) keys)
-          c.has_writes_with-self-inside.result (ap (λ (v : NumberingView). v.keys) c.self.view_is)
-          c.in_ok-number.ensures.keys c.has_writes_with-self-inside.ensures.there
-          c.has_writes_with-self-inside.ensures.behind;
+      writes_told = writes_added keys c.args.self.now.keys c.insert_full.new.self.keys l
+          (list_any (the_lock_eq.eq l) keys) c.has_writes_with-self-inside.result
+          (ap (λ (v : NumberingView). v.keys) c.self.view_is) c.in_ok-number.ensures.keys
+          c.has_writes_with-self-inside.ensures.there c.has_writes_with-self-inside.ensures.behind;
       within = subst (AreWithin highest) (sym pushed) (within_behind highest lists
           c.in_ok-from_slice.field-0.items c.highest_with-self-inside.ensures.there
           (subst (λ ns. (n : ℕ) → Has ns n → n ≤ highest) (sym c.in_ok-from_slice.ensures.ok)

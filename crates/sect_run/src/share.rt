@@ -2,7 +2,7 @@
 
 ghost use Rattle.std.specs.Prelude.{◌≡◌, ◌<◌, ◌≤◌, Some, OnOk, IfOk, OnErr, vec_capacity};
 ghost use Rattle.sect_run.specs.steps.Shares.{AreBelow, threads_in};
-ghost use Rattle.sect_run.specs.steps.Turns.{AreTurnsAside, AreBrokenOffAside, HasLetIn, IsAsideOf};
+ghost use Rattle.sect_run.specs.steps.Turns.{AreTurnsAside, AreBrokenOffAside, IsAsideOf};
 
 use crate::fault::RunFault;
 use crate::turn::waking_turns_of;
@@ -78,8 +78,8 @@ impl<J: Naming> SharedRun<J> {
         }
     }
 
-    /// Turns of a thread, one at least and at most so many: until it can't move, or lets others in. The numbers of
-    /// those take the place of those that stood in `woken`.
+    /// Turns of a thread, one at least and at most so many, until it can't move. The numbers of those whom they let in
+    /// take the place of those that stood in `woken`.
     pub fn turns(
         &mut self,
         compiled: &Compiled,
@@ -89,10 +89,9 @@ impl<J: Naming> SharedRun<J> {
     ) -> Result<Turned, RunFault>
         requires compiled { J.compiled ≡ Some compiled.now }
         requires thread { thread < threads_in compiled.now }
-        ensures turned { IfOk result (λ turned. AreTurnsAside thread most turned self.old self.new) }
+        ensures turned { IfOk result (λ turned. AreTurnsAside thread most turned woken.new.items self.old self.new) }
         ensures err { OnErr result (AreBrokenOffAside thread most self.old self.new) }
         ensures same { IsAsideOf compiled.now J.fuel self.new }
-        ensures woken { OnOk result (HasLetIn self.new woken.new.items) }
         ensures below { OnOk result (AreBelow (threads_in compiled.now) woken.new.items) }
     {
         let mut world = match self.moment.take() {

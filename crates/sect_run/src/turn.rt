@@ -1,6 +1,6 @@
 //! Turns of threads that are there.
 
-ghost use Rattle.std.specs.Prelude.{◌≡◌, ◌<◌, ◌↔◌, IsTrue, IfOk, OnOk, OnErr};
+ghost use Rattle.std.specs.Prelude.{◌≡◌, ◌<◌, ◌↔◌, ◌++◌, IsTrue, IfOk, OnOk, OnErr};
 ghost use Rattle.sect_world.specs.Worlds.{IsTurned};
 ghost use Rattle.sect_run.specs.steps.Shares.{AreBelow, IsSameRun, threads_in};
 ghost use Rattle.sect_run.specs.steps.Turns.{AreBrokenOff, AreTurns, IsBrokenOff, MayGoOn};
@@ -25,7 +25,7 @@ pub fn turn_of(world: &mut World<'_>, thread: u16) -> Result<Turned, RunFault>
     }
 }
 
-/// The turn of a thread, and whom it lets in. Their numbers take the place of those that stood in `woken`.
+/// The turn of a thread, and whom it lets in. Their numbers come behind those that stand in `woken`.
 pub fn waking_turn_of(
     world: &mut World<'_>,
     thread: u16,
@@ -35,24 +35,23 @@ pub fn waking_turn_of(
     ensures turned { IfOk result (λ turned. IsTurned thread turned world.old world.new) }
     ensures err { OnErr result (IsBrokenOff thread world.old world.new) }
     ensures same { IsSameRun world.old world.new }
-    ensures woken { OnOk result (woken.new.items ≡ world.new.granted) }
-    ensures below { OnOk result (AreBelow (threads_in world.old.compiled) woken.new.items) }
+    ensures woken { OnOk result (woken.new.items ≡ woken.old.items ++ world.new.granted) }
+    ensures below { OnOk result (AreBelow (threads_in world.old.compiled) world.new.granted) }
 {
     let turned = turn_of(world, thread)?;
-    woken.clear();
     woken.extend_from_slice(world.granted())?;
     Ok(turned)
 }
 
-/// Whether a thread whose turn came to this may make another at once: it has moved, and lets nobody in.
-fn may_go_on(turned: &Turned, woken: &[u16]) -> bool
-    ensures { IsTrue result ↔ MayGoOn turned.now woken.now }
+/// Whether a thread whose turn came to this may make another at once: it has moved.
+fn may_go_on(turned: &Turned) -> bool
+    ensures { IsTrue result ↔ MayGoOn turned.now }
 {
-    matches!(turned, Turned::Moved(_)) && woken.is_empty()
+    matches!(turned, Turned::Moved(_))
 }
 
-/// Turns of a thread, one at least and at most so many: until it can't move, or lets others in. The answer is what the
-/// last turn came to, and the numbers of those whom it lets in take the place of those that stood in `woken`.
+/// Turns of a thread, one at least and at most so many, until it can't move. The answer is what the last turn came to,
+/// and the numbers of those whom they let in take the place of those that stood in `woken`.
 pub fn waking_turns_of(
     world: &mut World<'_>,
     thread: u16,
@@ -60,15 +59,15 @@ pub fn waking_turns_of(
     woken: &mut Vec<u16>,
 ) -> Result<Turned, RunFault>
     requires { thread < threads_in world.old.compiled }
-    ensures turned { IfOk result (λ turned. AreTurns thread most turned world.old world.new) }
+    ensures turned { IfOk result (λ turned. AreTurns thread most turned woken.new.items world.old world.new) }
     ensures err { OnErr result (AreBrokenOff thread most world.old world.new) }
     ensures same { IsSameRun world.old world.new }
-    ensures woken { OnOk result (woken.new.items ≡ world.new.granted) }
     ensures below { OnOk result (AreBelow (threads_in world.old.compiled) woken.new.items) }
 {
+    woken.clear();
     let mut turned = waking_turn_of(world, thread, woken)?;
     for _made in 1..most {
-        if !may_go_on(&turned, woken.as_slice()) {
+        if !may_go_on(&turned) {
             break;
         }
         turned = waking_turn_of(world, thread, woken)?;

@@ -84,14 +84,15 @@ fn work<J: Naming, R: Wait, G: Gate>(
         if shared.refused.load(Ordering::SeqCst) {
             return;
         }
-        match turns_under(rt, shared.run, compiled, most, &mut post) {
-            Ok(Turned::Moved(kind)) => {
-                wake(shared.unparkers, post.woken.as_slice());
-                tell(gate, post.thread, kind);
-            }
-            Ok(Turned::Waits) => post.parker.park(rt),
-            Ok(Turned::Ended) => return,
+        let turned = match turns_under(rt, shared.run, compiled, most, &mut post) {
+            Ok(turned) => turned,
             Err(RunFault::Memory) => return stop(shared.unparkers, shared.refused),
+        };
+        wake(shared.unparkers, post.woken.as_slice());
+        match turned {
+            Turned::Moved(kind) => tell(gate, post.thread, kind),
+            Turned::Waits => post.parker.park(rt),
+            Turned::Ended => return,
         }
     }
 }

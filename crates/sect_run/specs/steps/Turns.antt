@@ -1,32 +1,34 @@
 -- Turns of one thread in a row. The private functions of the crate cite it.
-use Rattle.std.specs.Prelude.{◌≡◌, ◌≤◌, ◌-◌, ◌⊎◌, ⊤, ℕ, zero, suc, List, [], ◌∷◌, Option, Some, None}
+use Rattle.std.specs.Prelude.{◌≡◌, ◌≤◌, ◌-◌, ◌⊎◌, ⊤, ℕ, zero, suc, List, [], ◌++◌, Option, Some, None}
 use Rattle.sect_emit.specs.Compiled.{CompiledView}
 use Rattle.sect_world.specs.{declared.turned.Turned.{Turned}, declared.turned.Turned.TheVariants.{Moved, Waits, Ended}}
 use Rattle.sect_world.specs.{declared.world.Moment.{Moment}, Moments.{world_at}, Worlds.{WorldView, IsTurned}}
 
--- a thread whose turn came to this may make another at once: it has moved, and these, whom it has let in, are nobody
-abbrev pub MayGoOn : Turned → List ℕ → Type 0
-MayGoOn (Moved k) [] = ⊤
-MayGoOn (Moved k) (t ∷ ts) = ⊥
-MayGoOn Waits ts = ⊥
-MayGoOn Ended ts = ⊥
+-- a thread whose turn came to this may make another at once: it has moved
+abbrev pub MayGoOn : Turned → Type 0
+MayGoOn (Moved k) = ⊤
+MayGoOn Waits = ⊥
+MayGoOn Ended = ⊥
 
--- so many turns of thread t, behind each of which it may make another, lead from one world to the other
-abbrev pub GoesOn : ℕ → ℕ → WorldView → WorldView → Type 0
-GoesOn t zero old new = old ≡ new
-GoesOn t (suc made) old new =
-    (between : WorldView) × (turned : Turned) × GoesOn t made old between × IsTurned t turned between new
-    × MayGoOn turned new.granted
+-- so many turns of thread t, behind each of which it may make another, lead from one world to the other and let these
+-- in, in order
+abbrev pub GoesOn : ℕ → ℕ → WorldView → WorldView → List ℕ → Type 0
+GoesOn t zero old new ts = (old ≡ new) × (ts ≡ [])
+GoesOn t (suc made) old new ts =
+    (between : WorldView) × (turned : Turned) × (earlier : List ℕ) × GoesOn t made old between earlier
+    × IsTurned t turned between new × MayGoOn turned × (ts ≡ earlier ++ new.granted)
 
 -- turns of thread t, one at least and at most so many, lead from one world to the other: it makes another wherever it
--- may, and the last comes to this
-pub record AreTurns (t most : ℕ) (turned : Turned) (old new : WorldView) : Type 0 where
+-- may, the last comes to this, and all of them let these in, in order
+pub record AreTurns (t most : ℕ) (turned : Turned) (ts : List ℕ) (old new : WorldView) : Type 0 where
   pub before : WorldView
   pub made : ℕ
-  pub goes : GoesOn t made old before
+  pub earlier : List ℕ
+  pub goes : GoesOn t made old before earlier
   pub last : IsTurned t turned before new
+  pub let_in : ts ≡ earlier ++ new.granted
   pub few : made ≤ most - 1
-  pub all : MayGoOn turned new.granted → made ≡ most - 1
+  pub all : MayGoOn turned → made ≡ most - 1
 
 -- a turn of thread t was broken off: it is made or not
 abbrev pub IsBrokenOff : ℕ → WorldView → WorldView → Type 0
@@ -36,7 +38,8 @@ IsBrokenOff t old new = (new ≡ old) ⊎ ((turned : Turned) × IsTurned t turne
 -- may make another
 abbrev pub AreBrokenOff : ℕ → ℕ → WorldView → WorldView → Type 0
 AreBrokenOff t most old new =
-    (before : WorldView) × (made : ℕ) × GoesOn t made old before × (made ≤ most - 1) × IsBrokenOff t before new
+    (before : WorldView) × (made : ℕ) × (earlier : List ℕ) × GoesOn t made old before earlier × (made ≤ most - 1)
+    × IsBrokenOff t before new
 
 -- the world of a moment that was put aside, with the compiled program that is named
 abbrev pub world_aside : Option Moment → Option CompiledView → Option WorldView
@@ -45,10 +48,10 @@ world_aside (Some m) None = None
 world_aside (Some m) (Some c) = Some (world_at c m)
 
 -- both are there, and such turns lead from one to the other
-abbrev pub AreTurnsAside : ℕ → ℕ → Turned → Option WorldView → Option WorldView → Type 0
-AreTurnsAside t most turned None new = ⊥
-AreTurnsAside t most turned (Some old) None = ⊥
-AreTurnsAside t most turned (Some old) (Some new) = AreTurns t most turned old new
+abbrev pub AreTurnsAside : ℕ → ℕ → Turned → List ℕ → Option WorldView → Option WorldView → Type 0
+AreTurnsAside t most turned ts None new = ⊥
+AreTurnsAside t most turned ts (Some old) None = ⊥
+AreTurnsAside t most turned ts (Some old) (Some new) = AreTurns t most turned ts old new
 
 -- both are there, and such turns lead from one to the other
 abbrev pub AreBrokenOffAside : ℕ → ℕ → Option WorldView → Option WorldView → Type 0
@@ -61,12 +64,7 @@ abbrev pub IsAsideOf : CompiledView → ℕ → Option WorldView → Type 0
 IsAsideOf c fuel None = ⊥
 IsAsideOf c fuel (Some w) = (w.compiled ≡ c) × (w.fuel ≡ fuel)
 
--- it is there, and its last turn has let these in
-abbrev pub HasLetIn : Option WorldView → List ℕ → Type 0
-HasLetIn None ts = ⊥
-HasLetIn (Some w) ts = ts ≡ w.granted
-
--- in a run of this compiled program with this fuel such turns of thread t were made, and these were let in
+-- in a run of this compiled program with this fuel such turns of thread t were made, which let these in
 abbrev pub WereTurns : CompiledView → ℕ → ℕ → ℕ → Turned → List ℕ → Type 0
 WereTurns c fuel t most turned ts =
-    (old new : WorldView) × AreTurns t most turned old new × (new.compiled ≡ c) × (new.fuel ≡ fuel) × (ts ≡ new.granted)
+    (old new : WorldView) × AreTurns t most turned ts old new × (new.compiled ≡ c) × (new.fuel ≡ fuel)

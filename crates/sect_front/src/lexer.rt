@@ -64,13 +64,29 @@ fn after_comment(bytes: &[u8]) -> &[u8]
     after_line(rest)
 }
 
+/// What follows the spaces at the front, but for the last few: eight are passed at once.
+#[inline(always)]
+fn after_spaces(bytes: &[u8]) -> &[u8]
+    ensures same { skip false result.now ≡ skip false bytes.now }
+    ensures less { length result.now ≤ length bytes.now }
+{
+    let mut rest = bytes;
+    while let [b' ', b' ', b' ', b' ', b' ', b' ', b' ', b' ', others @ ..] = rest {
+        rest = others;
+    }
+    rest
+}
+
 /// What follows the blanks and comments at the front.
 pub fn after_gap(bytes: &[u8]) -> &[u8]
     ensures { result.now ≡ gap_of bytes.now }
 {
-    let mut rest = bytes;
+    let mut rest = after_spaces(bytes);
     while let Some((first, others)) = rest.split_first() {
-        rest = if is_blank(*first) {
+        rest = if *first == b'\n' {
+            // lines of a long gap are mostly spaces
+            after_spaces(others)
+        } else if is_blank(*first) {
             others
         } else if *first == b'/' && begins_with(others, b'/') {
             after_comment(others)

@@ -3,3 +3,4 @@ pub mod Labels
 pub mod Solving
 pub mod Marks
 pub mod Readers
+pub mod Places

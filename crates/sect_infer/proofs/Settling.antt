@@ -31,7 +31,9 @@ module _ (s : SchemeView) (t : ℕ) (g : List Node) where
     numbered = record {
       numbering = record {
         count = ap length b.above ∙ sym (ap length b.keys);
+        counted = ap length b.classes ∙ sym (ap length b.keys);
         apart = subst AreApart (sym b.keys) tt;
+        classed = λ n l at. absurd (let w = slice_get_within a.keys n l at in omega (arith, w, ap length b.keys));
         told = λ n l at. absurd (let w = slice_get_within a.keys n l at in omega (arith, w, ap length b.keys));
       };
       count = b.count;

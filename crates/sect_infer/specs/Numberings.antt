@@ -1,6 +1,6 @@
 -- Locks by their numbers in a numbering.
-use Rattle.std.specs.Prelude.{◌≡◌, ◌↔◌, ◌<◌, ◌⊎◌, ⊤, ℕ, Bool, not, List, [], filter, ◌++◌, Some, length, map, slice_get}
-use Rattle.std.specs.{Prelude.{slice_index_or}, List.{list_any}}
+use Rattle.std.specs.Prelude.{◌≡◌, ◌↔◌, ◌<◌, ◌⊎◌, ⊤, ℕ, Bool, not, List, [], filter, ◌++◌, Option, Some, None}
+use Rattle.std.specs.{Prelude.{length, map, slice_get, slice_index_or}, List.{list_any}}
 use Rattle.sect_lemmas.specs.Lists.{Has}
 use Rattle.sect_points.specs.{Paths.{PathView}, Partitions.{ClassesView, HasClass}}
 use Rattle.sect_names.specs.{declared.lock.Lock.{Lock}, Schemes.{SchemeView}, Climbing.{IsAbove}, Order.{AreInOrder}}
@@ -8,10 +8,12 @@ use Rattle.sect_infer.specs.Numbers.{has_number, AreApart}
 use Rattle.sect_names.specs.declared.lock.Effect.TheVariants as effect
 use Rattle.sect_names.specs.declared.lock.Lock.TheVariants as lock
 
--- a lock's number is its place among the keys; for each, the numbers of those that are above it
+-- a lock's number is its place among the keys; for each, the numbers of those that are above it, and the class of its
+-- path
 pub record NumberingView : Type 0 where
   pub keys : List Lock
   pub above : List (List ℕ)
+  pub classes : List (Option ℕ)
 
 -- the lock has one of these numbers
 abbrev pub HasLock : List Lock → List ℕ → Lock → Type 0
@@ -25,31 +27,38 @@ AreNumbers keys ns = (n : ℕ) → Has ns n → n < length keys
 abbrev pub IsToWrite : Lock → Type 0
 IsToWrite l = (p : PathView) × (l ≡ lock.Path p effect.Write)
 
+-- this is the class of the lock's path, if it is on one
+abbrev pub ClassIs : SchemeView → Lock → Option ℕ → Type 0
+ClassIs s lock.All o = ⊤
+ClassIs s (lock.Class m r) o = ⊤
+ClassIs s (lock.Path p e) o = (n : ℕ) → (o ≡ Some n) ↔ HasClass s.classes p n
+
 -- the lock isn't on a path, or on one of this class alone
 abbrev pub IsOfClass : ClassesView → Lock → ℕ → Type 0
 IsOfClass c lock.All n = ⊤
 IsOfClass c (lock.Class m r) n = ⊤
 IsOfClass c (lock.Path p e) n = (m : ℕ) → (Some n ≡ Some m) ↔ HasClass c p m
 
+-- the class of each lock's path is told
+abbrev pub AreClassed : SchemeView → NumberingView → Type 0
+AreClassed s t =
+    (n : ℕ) (l : Lock) → slice_get t.keys n ≡ Some l → ClassIs s l (slice_index_or t.classes n None)
+
 -- the numbers are those of locks above one
 abbrev pub AreOver : SchemeView → List Lock → Lock → List ℕ → Type 0
 AreOver s keys l ns = (n : ℕ) → Has ns n → (big : Lock) × (slice_get keys n ≡ Some big) × IsAbove s big l
 
--- these are the numbers of all locks above one, of which none may be missing but one to write a path
+-- these are the numbers of all locks above one that are there
 pub record AreAbove (s : SchemeView) (keys : List Lock) (l : Lock) (ns : List ℕ) : Type 0 where
   pub cover : AreOver s keys l ns
-  pub all : (big : Lock) → IsAbove s big l → HasLock keys ns big ⊎ (IsToWrite big × (Has keys big → ⊥))
+  pub all : (big : Lock) → IsAbove s big l → HasLock keys ns big ⊎ (Has keys big → ⊥)
 
--- these are the numbers of all locks above the one to read a path, but for the one to write it
-pub record AreAboveRead (s : SchemeView) (keys : List Lock) (p : PathView) (ns : List ℕ) : Type 0 where
-  pub cover : AreOver s keys (lock.Path p effect.Read) ns
-  pub all : (big : Lock) → IsAbove s big (lock.Path p effect.Read)
-      → HasLock keys ns big ⊎ (big ≡ lock.Path p effect.Write)
-
--- each lock has one number, and those of the locks above it are told
+-- each lock has one number, and those of the locks above it are told, and the class of its path
 pub record IsNumbering (s : SchemeView) (t : NumberingView) : Type 0 where
   pub count : length t.above ≡ length t.keys
+  pub counted : length t.classes ≡ length t.keys
   pub apart : AreApart t.keys
+  pub classed : AreClassed s t
   pub told : (n : ℕ) (l : Lock) → slice_get t.keys n ≡ Some l → AreAbove s t.keys l (slice_index_or t.above n [])
 
 -- they are numbered so for some scheme

@@ -94,7 +94,7 @@ impl Transfer<'_> {
             None => Ok(()),
             Some(class) => {
                 let lock = lock_in(self.scheme, class, effect, path);
-                let number = numbering.number_in(alloc, class, &lock)?;
+                let number = numbering.number_in(alloc, class, lock)?;
                 found.insert(number)?;
                 Ok(())
             }

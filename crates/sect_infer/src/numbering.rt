@@ -1,14 +1,15 @@
 //! Locks by their numbers.
 
 ghost use Rattle.std.specs.Prelude.{◌≡◌, ◌↔◌, ◌<◌, ◌≤◌, ◌||◌, ℕ, ◌++◌, ◌∷◌, length, slice_get, [], Some, IfOk, OnOk};
-ghost use Rattle.std.specs.Prelude.{IsTrue, IsFalse, MatchOption, false, slice_index_or};
+ghost use Rattle.std.specs.Prelude.{List, IsTrue, IsFalse, MatchOption, false, slice_index_or};
 ghost use Rattle.sect_lemmas.specs.Lists.{Has};
-ghost use Rattle.sect_points.specs.Partitions.{HasClass};
 ghost use Rattle.sect_names.specs.{declared.lock.Lock.{Lock}, Schemes.{SchemeView}};
-ghost use Rattle.sect_infer.specs.Numbers.{has_number};
-ghost use Rattle.sect_infer.specs.Numberings.{AreAbove, AreAboveRead, IsToWrite, IsNumbering, IsNumberingOfSome};
-ghost use Rattle.sect_infer.specs.Numberings.{IsNumbered, IsOfClass, is_under};
-ghost use Rattle.sect_infer.specs.steps.Putting.{IsPut, IsTold, AreWritesTold, AreWithin};
+ghost use Rattle.sect_names.specs.{Climbing.{IsAbove}, Above.{over_class}};
+ghost use Rattle.sect_infer.specs.Numbers.{has_number, AreApart};
+ghost use Rattle.sect_infer.specs.Numberings.{IsToWrite, ClassIs, IsOfClass, AreClassed, AreAbove, IsNumbering};
+ghost use Rattle.sect_infer.specs.Numberings.{IsNumberingOfSome, IsNumbered, is_under};
+ghost use Rattle.sect_infer.specs.steps.Putting.{IsBroad, AreWritesTold, AreBroadTold, AreWithin, AreThere};
+ghost use Rattle.sect_infer.specs.steps.Putting.{over_writes, over_reads, IsPut, IsSame, IsTold, IsToldBelow};
 ghost use Rattle.sect_names.specs.declared.lock.Effect.TheVariants as effect;
 ghost use Rattle.sect_names.specs.declared.lock.Right.TheVariants as right;
 ghost use Rattle.sect_names.specs.declared.lock.Lock.TheVariants as lock;
@@ -21,26 +22,23 @@ use std::alloc::{AllocError, Global};
 use std::marker::Model;
 
 /// Locks, numbered from 0 in the order in which they came, and for each the numbers of the other locks there that cover
-/// it. All that cover it have come before it, but for the lock to write its path, which comes when it is needed. These
-/// are at most four, so they are kept inline.
+/// it: mostly none, at most four, so two are kept inline. None of those has to be there. One that comes behind a lock
+/// that it covers is told then.
 pub struct Numbering {
     locks: IndexSet<Lock>,
-    above: Vec<SmallVec<usize, 4>>,
-    last: LastOfClass,
+    above: Vec<SmallVec<usize, 2>>,
+
+    /// For each lock on a path, the class of the path.
+    classes: Vec<Option<u16>>,
 
     /// Whether there may be locks to write paths.
     writes: bool,
 
+    /// Whether there may be the lock on all, or locks on a class that cover locks on paths.
+    broad: bool,
+
     /// The greatest number that is told above another lock, or 0.
     highest: usize,
-}
-
-/// The numbers of the locks on a class that were asked for last, to write its objects and to read them. Others may have
-/// these numbers, or none.
-#[derive(Clone, Copy)]
-struct LastOfClass {
-    write: usize,
-    read: usize,
 }
 
 impl Drop for Numbering {
@@ -48,8 +46,9 @@ impl Drop for Numbering {
         let Numbering {
             locks: _,
             above: _,
-            last: _,
+            classes: _,
             writes: _,
+            broad: _,
             highest: _,
         } = self;
     }
@@ -68,16 +67,10 @@ impl Model for Numbering {
     ghost view = { λ t. record {
       keys = t.locks.keys;
       above = map (λ v. v.items) t.above.items;
+      classes = t.classes.items;
     } };
 
-    ghost invariant = { λ t. IsKept t.writes t.highest t.locks.keys (map (λ v. v.items) t.above.items) };
-}
-
-/// The numbers of the locks over all that is of a class: that on all, and that to write all objects of the class.
-#[derive(Clone, Copy)]
-struct OverClass {
-    all: usize,
-    write: usize,
+    ghost invariant = { λ t. IsKept t.writes t.broad t.highest t.locks.keys (map (λ v. v.items) t.above.items) };
 }
 
 /// What became of a lock that was to be put behind the others.
@@ -90,19 +83,6 @@ struct Added {
     is_new: bool,
 }
 
-/// Numbers, and one behind them.
-fn with_last(
-    alloc: Global,
-    numbers: &[usize],
-    last: usize,
-) -> Result<SmallVec<usize, 4>, AllocError>
-    ensures { IfOk result (λ all. all.items ≡ numbers.now ++ last ∷ []) }
-{
-    let mut all = SmallVec::from_slice(alloc, numbers)?;
-    all.push(last)?;
-    Ok(all)
-}
-
 /// Whether a lock is one to write a path.
 fn is_to_write(lock: &Lock) -> bool
     ensures { IsTrue result ↔ IsToWrite lock.now }
@@ -110,13 +90,56 @@ fn is_to_write(lock: &Lock) -> bool
     matches!(lock, Lock::Path(_, Effect::Write))
 }
 
-/// Whether a lock is the one with this right over a class.
-fn is_on_class(one: &Lock, class: u16, right: Right) -> bool
-    ensures { IsTrue result ↔ (one.now ≡ lock.Class class right) }
+/// Whether a lock is the one on all, or one on a class that covers locks on paths.
+fn is_broad(lock: &Lock) -> bool
+    ensures { IsTrue result ↔ IsBroad lock.now }
 {
-    match one {
-        Lock::Class(other, its) => *other == class && *its == right,
-        Lock::All | Lock::Path(_, _) => false,
+    match lock {
+        Lock::All => true,
+        Lock::Class(_, right) => *right != Right::Make,
+        Lock::Path(_, _) => false,
+    }
+}
+
+/// The class of a lock's path, if it is on one that has a class.
+fn class_in(scheme: &Scheme, lock: &Lock) -> Option<u16>
+    ensures { ClassIs scheme.now lock.now result }
+{
+    match lock {
+        Lock::All | Lock::Class(_, _) => None,
+        Lock::Path(path, _) => scheme.class_of(path),
+    }
+}
+
+/// Whether the class that is told is this one.
+fn is_of(its: Option<u16>, class: u16) -> bool
+    ensures { IsTrue result ↔ (its ≡ Some class) }
+{
+    its == Some(class)
+}
+
+/// Whether the lock with this right over a class covers another, which isn't it, and of whose path the class is
+/// told.
+fn is_over_class(class: u16, right: Right, other: &Lock, its: Option<u16>) -> bool
+    ensures { (s : SchemeView) → ClassIs s other.now its
+        → IsTrue result ↔ IsAbove s (lock.Class class right) other.now }
+{
+    match other {
+        Lock::All => false,
+        Lock::Class(number, part) => { *number == class && *part != right && right.includes(*part) }
+        Lock::Path(_, effect) => is_of(its, class) && right.grants(*effect),
+    }
+}
+
+/// Whether a broad lock covers another, which isn't it, and of whose path the class is told.
+fn is_over(big: &Lock, other: &Lock, its: Option<u16>) -> bool
+    ensures { (s : SchemeView) → IsBroad big.now → ClassIs s other.now its
+        → IsTrue result ↔ IsAbove s big.now other.now }
+{
+    match big {
+        Lock::All => !matches!(other, Lock::All),
+        Lock::Class(class, right) => is_over_class(*class, *right, other, its),
+        Lock::Path(_, _) => false,
     }
 }
 
@@ -133,12 +156,14 @@ impl Numbering {
     pub fn new(alloc: Global) -> Numbering
         ensures keys { result.keys ≡ [] }
         ensures above { result.above ≡ [] }
+        ensures classes { result.classes ≡ [] }
     {
         Numbering {
             locks: IndexSet::new(alloc),
             above: Vec::new(alloc),
-            last: LastOfClass { write: 0, read: 0 },
+            classes: Vec::new(alloc),
             writes: false,
+            broad: false,
             highest: 0,
         }
     }
@@ -147,12 +172,14 @@ impl Numbering {
     pub fn with_room(alloc: Global, count: usize) -> Result<Numbering, AllocError>
         ensures keys { IfOk result (λ t. t.keys ≡ []) }
         ensures above { IfOk result (λ t. t.above ≡ []) }
+        ensures classes { IfOk result (λ t. t.classes ≡ []) }
     {
         Ok(Numbering {
             locks: IndexSet::with_capacity(alloc, count)?,
             above: Vec::with_capacity(alloc, count)?,
-            last: LastOfClass { write: 0, read: 0 },
+            classes: Vec::with_capacity(alloc, count)?,
             writes: false,
+            broad: false,
             highest: 0,
         })
     }
@@ -263,45 +290,22 @@ impl Numbering {
         true
     }
 
-    /// Whether the lock on all is the first.
-    fn begins_with_all(&self) -> bool
-        ensures { IsTrue result → slice_get self.now.keys 0 ≡ Some lock.All }
+    /// Whether there may be the lock on all, or locks on a class that cover locks on paths.
+    fn has_broad(&self) -> bool
+        ensures { AreBroadTold result self.now.keys }
     {
-        self.len() > 0 && matches!(self.lock(0), Lock::All)
+        self.broad
     }
 
-    /// The number that a lock with this right over a class has most likely.
-    fn likely(&self, right: Right) -> usize {
-        match right {
-            Right::Write => self.last.write,
-            Right::Read => self.last.read,
-            Right::Make => 0,
-        }
-    }
-
-    /// The number of a lock on a class, if it is the one that was asked for last.
-    fn last_on_class(&self, class: u16, right: Right) -> Option<usize>
-        ensures { (n : ℕ) → result ≡ Some n → slice_get self.now.keys n ≡ Some (lock.Class class right) }
+    /// Whether there may be such locks among those that are there and this one.
+    fn has_broad_with(&self, lock: &Lock) -> bool
+        ensures there { AreBroadTold result self.now.keys }
+        ensures behind { AreBroadTold result (self.now.keys ++ lock.now ∷ []) }
     {
-        let number = self.likely(right);
-        if number < self.len() && is_on_class(self.lock(number), class, right) {
-            return Some(number);
-        }
-        None
+        self.has_broad() || is_broad(lock)
     }
 
-    /// Keeps the number of the lock on a class that was asked for last.
-    fn keep_last(&mut self, right: Right, number: usize)
-        ensures { self.new ≡ self.old }
-    {
-        match right {
-            Right::Write => self.last.write = number,
-            Right::Read => self.last.read = number,
-            Right::Make => {}
-        }
-    }
-
-    /// The number of a lock, which comes now unless it is there, and before it the locks above it.
+    /// The number of a lock, which comes now unless it is there.
     pub fn number(
         &mut self,
         alloc: Global,
@@ -314,229 +318,231 @@ impl Numbering {
         if let Some(number) = self.find(lock) {
             return Ok(number);
         }
-        match lock {
-            Lock::All => self.put_all(alloc),
-            Lock::Class(class, right) => self.put_class(alloc, *class, *right),
-            Lock::Path(path, effect) => self.put_path(alloc, scheme, path, *effect),
-        }
+        let class = class_in(scheme, lock);
+        self.put(alloc, class, lock.try_clone()?)
     }
 
-    /// The number of a lock, which comes now unless it is there, and before it the locks above it. If it is on a path,
-    /// that is one of this class.
-    pub fn number_in(&mut self, alloc: Global, class: u16, lock: &Lock) -> Result<usize, AllocError>
+    /// The number of a lock, which comes now unless it is there. If it is on a path, that is one of this class.
+    pub fn number_in(&mut self, alloc: Global, class: u16, lock: Lock) -> Result<usize, AllocError>
         requires { IsNumberingOfSome self.old }
-        ensures { (s : SchemeView) → IsNumbering s self.old → IsOfClass s.classes lock.now class
-            → IfOk result (IsNumbered s self.old self.new lock.now) }
+        ensures { (s : SchemeView) → IsNumbering s self.old → IsOfClass s.classes lock class
+            → IfOk result (IsNumbered s self.old self.new lock) }
     {
-        match lock {
-            Lock::All => self.put_all(alloc),
-            Lock::Class(class, right) => self.put_class(alloc, *class, *right),
-            Lock::Path(path, effect) => self.put_classed(alloc, class, path, *effect),
-        }
-    }
-
-    /// The number of a lock on a path, which comes now unless it is there, and before it the locks above it.
-    fn put_path(
-        &mut self,
-        alloc: Global,
-        scheme: &Scheme,
-        path: &Path,
-        effect: Effect,
-    ) -> Result<usize, AllocError>
-        requires { IsNumbering scheme.now self.old }
-        ensures { IfOk result (IsNumbered scheme.now self.old self.new (lock.Path path.now effect)) }
-    {
-        match scheme.class_of(path) {
-            None => self.put_bare(alloc, path, effect),
-            Some(class) => self.put_classed(alloc, class, path, effect),
-        }
-    }
-
-    /// The number of a lock on a path that has no class, as `put_path` gives it.
-    fn put_bare(&mut self, alloc: Global, path: &Path, effect: Effect) -> Result<usize, AllocError>
-        requires { IsNumberingOfSome self.old }
-        ensures { (s : SchemeView) → IsNumbering s self.old → ((n : ℕ) → HasClass s.classes path.now n → ⊥)
-            → IfOk result (IsNumbered s self.old self.new (lock.Path path.now effect)) }
-    {
-        let all = self.put_all(alloc)?;
-        match effect {
-            Effect::Write => self.put_write(alloc, path, &[all]),
-            Effect::Read => self.put_read(alloc, path, &[all]),
-        }
-    }
-
-    /// The number of a lock on a path of this class, as `put_path` gives it.
-    fn put_classed(
-        &mut self,
-        alloc: Global,
-        class: u16,
-        path: &Path,
-        effect: Effect,
-    ) -> Result<usize, AllocError>
-        requires { IsNumberingOfSome self.old }
-        ensures { (s : SchemeView) → IsNumbering s self.old
-            → ((n : ℕ) → (Some class ≡ Some n) ↔ HasClass s.classes path.now n)
-            → IfOk result (IsNumbered s self.old self.new (lock.Path path.now effect)) }
-    {
-        let OverClass { all, write } = self.over_class(alloc, class)?;
-        match effect {
-            Effect::Write => self.put_write(alloc, path, &[all, write]),
-            Effect::Read => {
-                let read = self.put_on_class(alloc, class, Right::Read, &[all, write])?;
-                self.put_read(alloc, path, &[all, write, read])
+        if self.has_broad() {
+            // What stands above it takes longer to find than it.
+            if let Some(number) = self.find(&lock) {
+                return Ok(number);
             }
         }
+        self.put(alloc, Some(class), lock)
     }
 
-    /// The number of the lock to read a path, which comes now unless it is there. Those above it that don't depend on
-    /// the path have these numbers.
-    fn put_read(&mut self, alloc: Global, path: &Path, above: &[usize]) -> Result<usize, AllocError>
-        ensures { (s : SchemeView) → IsNumbering s self.old
-            → AreAboveRead s self.old.keys path.now above.now
-            → IfOk result (IsNumbered s self.old self.new (lock.Path path.now effect.Read)) }
+    /// The number of a lock, which comes now unless it is there. If it is on a path, this is the path's class.
+    fn put(&mut self, alloc: Global, class: Option<u16>, lock: Lock) -> Result<usize, AllocError>
+        requires { IsNumberingOfSome self.old }
+        ensures { (s : SchemeView) → IsNumbering s self.old → ClassIs s lock class
+            → IfOk result (IsNumbered s self.old self.new lock) }
     {
-        if self.has_writes() {
-            self.put_beside_write(alloc, path, above)
-        } else {
-            self.put_behind(alloc, Lock::Path(path.try_clone()?, Effect::Read), above)
+        match lock {
+            Lock::All => self.put_all(alloc),
+            Lock::Class(number, Right::Make) => self.put_make(alloc, number),
+            Lock::Class(number, right) => self.put_class(alloc, number, right),
+            Lock::Path(path, Effect::Read) => self.put_read(alloc, class, path),
+            Lock::Path(path, Effect::Write) => self.put_write(alloc, class, path),
         }
     }
 
-    /// The number of the lock to read a path, as `put_read` gives it, where the lock to write the path may be there.
-    fn put_beside_write(
+    /// The number of the lock to read a path of this class, which comes now unless it is there.
+    fn put_read(
         &mut self,
         alloc: Global,
-        path: &Path,
-        above: &[usize],
+        class: Option<u16>,
+        path: Path,
     ) -> Result<usize, AllocError>
-        ensures { (s : SchemeView) → IsNumbering s self.old
-            → AreAboveRead s self.old.keys path.now above.now
-            → IfOk result (IsNumbered s self.old self.new (lock.Path path.now effect.Read)) }
+        ensures { (s : SchemeView) → IsNumbering s self.old → ClassIs s (lock.Path path effect.Read) class
+            → IfOk result (IsNumbered s self.old self.new (lock.Path path effect.Read)) }
     {
-        match self.find(&Lock::Path(path.try_clone()?, Effect::Write)) {
-            None => self.put_behind(alloc, Lock::Path(path.try_clone()?, Effect::Read), above),
-            Some(write) => {
-                let over = with_last(alloc, above, write)?;
-                self.put_behind(
-                    alloc,
-                    Lock::Path(path.try_clone()?, Effect::Read),
-                    over.as_slice(),
-                )
-            }
-        }
+        let mut above = self.over_reads(alloc, class)?;
+        self.push_write(&mut above, &path)?;
+        Ok(
+            self.add(Lock::Path(path, Effect::Read), class, above)?
+                .number,
+        )
     }
 
-    /// The number of the lock to write a path, which comes now unless it is there, and then stands above the lock to
-    /// read the path. The numbers of those above it are these.
+    /// The number of the lock to write a path of this class, which comes now unless it is there, and then stands above
+    /// the lock to read the path.
     fn put_write(
         &mut self,
         alloc: Global,
-        path: &Path,
-        above: &[usize],
+        class: Option<u16>,
+        path: Path,
     ) -> Result<usize, AllocError>
         requires { IsNumberingOfSome self.old }
-        ensures { (s : SchemeView) → IsNumbering s self.old
-            → AreAbove s self.old.keys (lock.Path path.now effect.Write) above.now
-            → IfOk result (IsNumbered s self.old self.new (lock.Path path.now effect.Write)) }
+        ensures { (s : SchemeView) → IsNumbering s self.old → ClassIs s (lock.Path path effect.Write) class
+            → IfOk result (IsNumbered s self.old self.new (lock.Path path effect.Write)) }
     {
-        let Added { number, is_new } = self.add(
-            alloc,
-            Lock::Path(path.try_clone()?, Effect::Write),
-            above,
-        )?;
-        if is_new {
-            let read = self.find(&Lock::Path(path.try_clone()?, Effect::Read));
-            if let Some(read) = read {
-                self.tell(read, number)?;
-            }
-        }
-        Ok(number)
+        let above = self.over_writes(alloc, class)?;
+        let read = Lock::Path(path.try_clone()?, Effect::Read);
+        let added = self.add(Lock::Path(path, Effect::Write), class, above)?;
+        self.tell_one(&read, added)?;
+        Ok(added.number)
     }
 
-    /// The number of a lock on a class, which comes now unless it is there, and before it the locks above it.
-    fn put_class(&mut self, alloc: Global, class: u16, right: Right) -> Result<usize, AllocError>
+    /// The number of the lock to make objects of a class, which comes now unless it is there.
+    fn put_make(&mut self, alloc: Global, class: u16) -> Result<usize, AllocError>
         ensures { (s : SchemeView) → IsNumbering s self.old
+            → IfOk result (IsNumbered s self.old self.new (lock.Class class right.Make)) }
+    {
+        let above = self.over_class(alloc, class, Right::Make)?;
+        Ok(
+            self.add(Lock::Class(class, Right::Make), None, above)?
+                .number,
+        )
+    }
+
+    /// The number of a lock on a class that covers locks on paths. It comes now unless it is there.
+    fn put_class(&mut self, alloc: Global, class: u16, right: Right) -> Result<usize, AllocError>
+        requires numbering { IsNumberingOfSome self.old }
+        ensures { (s : SchemeView) → IsNumbering s self.old → IsBroad (lock.Class class right)
             → IfOk result (IsNumbered s self.old self.new (lock.Class class right)) }
     {
-        let over = self.over_class(alloc, class)?;
-        let above = [over.all, over.write];
-        match right {
-            Right::Write => Ok(over.write),
-            Right::Read => self.put_on_class(alloc, class, Right::Read, &above),
-            Right::Make => self.put_on_class(alloc, class, Right::Make, &above),
-        }
-    }
-
-    /// The numbers of the lock on all and of that to write all objects of a class, which come now unless they are
-    /// there.
-    fn over_class(&mut self, alloc: Global, class: u16) -> Result<OverClass, AllocError>
-        ensures { (s : SchemeView) → IsNumbering s self.old → IfOk result (λ over.
-            IsNumbered s self.old self.new lock.All over.all
-            × IsNumbered s self.old self.new (lock.Class class right.Write) over.write) }
-    {
-        let all = self.put_all(alloc)?;
-        let write = self.put_on_class(alloc, class, Right::Write, &[all])?;
-        Ok(OverClass { all, write })
+        let above = self.over_class(alloc, class, right)?;
+        self.put_over(&Lock::Class(class, right), above)
     }
 
     /// The number of the lock on all, which comes now unless it is there.
     fn put_all(&mut self, alloc: Global) -> Result<usize, AllocError>
+        requires { IsNumberingOfSome self.old }
         ensures { (s : SchemeView) → IsNumbering s self.old
             → IfOk result (IsNumbered s self.old self.new lock.All) }
     {
-        if self.begins_with_all() {
-            return Ok(0);
-        }
-        self.put_behind(alloc, Lock::All, &[])
+        self.put_over(&Lock::All, SmallVec::new(alloc))
     }
 
-    /// The number of a lock on a class, which comes now unless it is there. The numbers of those above it are these.
-    fn put_on_class(
-        &mut self,
-        alloc: Global,
-        class: u16,
-        right: Right,
-        above: &[usize],
-    ) -> Result<usize, AllocError>
-        ensures { (s : SchemeView) → IsNumbering s self.old
-            → AreAbove s self.old.keys (lock.Class class right) above.now
-            → IfOk result (IsNumbered s self.old self.new (lock.Class class right)) }
+    /// The number of a broad lock, which comes now unless it is there, and then stands above those that it covers. The
+    /// numbers of those above it are these.
+    fn put_over(&mut self, lock: &Lock, above: SmallVec<usize, 2>) -> Result<usize, AllocError>
+        requires { IsNumberingOfSome self.old }
+        ensures { (s : SchemeView) → IsNumbering s self.old → IsBroad lock.now
+            → AreAbove s self.old.keys lock.now above.items
+            → IfOk result (IsNumbered s self.old self.new lock.now) }
     {
-        if let Some(number) = self.last_on_class(class, right) {
-            return Ok(number);
+        let Added { number, is_new } = self.add(lock.try_clone()?, None, above)?;
+        if is_new {
+            self.tell_below(lock, number)?;
         }
-        let number = self.put_behind(alloc, Lock::Class(class, right), above)?;
-        self.keep_last(right, number);
         Ok(number)
     }
 
-    /// The number of a lock that isn't one to write a path, which comes now unless it is there. The numbers of those
-    /// above it are these.
-    fn put_behind(
-        &mut self,
+    /// The numbers of the lock on all and of that to write this class, where they are there.
+    fn over_writes(
+        &self,
         alloc: Global,
-        lock: Lock,
-        above: &[usize],
-    ) -> Result<usize, AllocError>
-        ensures { (s : SchemeView) → IsNumbering s self.old → (IsToWrite lock → ⊥)
-            → AreAbove s self.old.keys lock above.now → IfOk result (IsNumbered s self.old self.new lock) }
+        class: Option<u16>,
+    ) -> Result<SmallVec<usize, 2>, AllocError>
+        ensures { IfOk result (λ above. AreThere self.now.keys (over_writes class) above.items) }
     {
-        Ok(self.add(alloc, lock, above)?.number)
+        let mut above = SmallVec::new(alloc);
+        if !self.has_broad() {
+            return Ok(above);
+        }
+        self.push_found(&mut above, &Lock::All)?;
+        match class {
+            None => Ok(above),
+            Some(number) => {
+                self.push_found(&mut above, &Lock::Class(number, Right::Write))?;
+                Ok(above)
+            }
+        }
     }
 
-    /// Puts a lock behind the others unless it is there, with the numbers of those above it.
-    fn add(&mut self, alloc: Global, lock: Lock, above: &[usize]) -> Result<Added, AllocError>
+    /// The numbers of the lock on all and of those to write and to read this class, where they are there.
+    fn over_reads(
+        &self,
+        alloc: Global,
+        class: Option<u16>,
+    ) -> Result<SmallVec<usize, 2>, AllocError>
+        ensures { IfOk result (λ above. AreThere self.now.keys (over_reads class) above.items) }
+    {
+        let mut above = self.over_writes(alloc, class)?;
+        match class {
+            None => Ok(above),
+            Some(number) => {
+                self.push_read(&mut above, number)?;
+                Ok(above)
+            }
+        }
+    }
+
+    /// The numbers of the locks above one on a class, where they are there.
+    fn over_class(
+        &self,
+        alloc: Global,
+        class: u16,
+        right: Right,
+    ) -> Result<SmallVec<usize, 2>, AllocError>
+        ensures { IfOk result (λ above. AreThere self.now.keys (over_class class right) above.items) }
+    {
+        match right {
+            Right::Write => self.over_writes(alloc, None),
+            Right::Read | Right::Make => self.over_writes(alloc, Some(class)),
+        }
+    }
+
+    /// Puts the number of a lock behind others, if it is there.
+    fn push_found(&self, above: &mut SmallVec<usize, 2>, lock: &Lock) -> Result<(), AllocError>
+        ensures { OnOk result ((locks : List Lock) → AreThere self.now.keys locks above.old.items
+            → AreThere self.now.keys (locks ++ lock.now ∷ []) above.new.items) }
+    {
+        if let Some(number) = self.find(lock) {
+            above.push(number)?;
+        }
+        Ok(())
+    }
+
+    /// Puts the number of the lock to read a class behind others, if it is there.
+    fn push_read(&self, above: &mut SmallVec<usize, 2>, class: u16) -> Result<(), AllocError>
+        ensures { OnOk result ((locks : List Lock) → AreThere self.now.keys locks above.old.items
+            → AreThere self.now.keys (locks ++ lock.Class class right.Read ∷ []) above.new.items) }
+    {
+        if self.has_broad() {
+            self.push_found(above, &Lock::Class(class, Right::Read))?;
+        }
+        Ok(())
+    }
+
+    /// Puts the number of the lock to write a path behind others, if it is there.
+    fn push_write(&self, above: &mut SmallVec<usize, 2>, path: &Path) -> Result<(), AllocError>
+        ensures { OnOk result ((locks : List Lock) → AreThere self.now.keys locks above.old.items
+            → AreThere self.now.keys (locks ++ lock.Path path.now effect.Write ∷ []) above.new.items) }
+    {
+        if self.has_writes() {
+            self.push_found(above, &Lock::Path(path.try_clone()?, Effect::Write))?;
+        }
+        Ok(())
+    }
+
+    /// Puts a lock behind the others unless it is there, with the numbers of those above it, and its path's class.
+    fn add(
+        &mut self,
+        lock: Lock,
+        class: Option<u16>,
+        above: SmallVec<usize, 2>,
+    ) -> Result<Added, AllocError>
         ensures there { IfOk result (λ added. slice_get self.new.keys added.number ≡ Some lock) }
-        ensures new { IfOk result (λ added. IsTrue added.is_new → IsPut self.old self.new lock above.now) }
-        ensures old { IfOk result (λ added. IsFalse added.is_new
-            → (self.new.keys ≡ self.old.keys) × (self.new.above ≡ self.old.above)) }
+        ensures new { IfOk result (λ added. IsTrue added.is_new → IsPut self.old self.new lock class above.items) }
+        ensures old { IfOk result (λ added. IsFalse added.is_new → IsSame self.old self.new) }
     {
         self.writes = self.has_writes_with(&lock);
-        self.highest = self.highest_with(above);
+        self.broad = self.has_broad_with(&lock);
+        self.highest = self.highest_with(above.as_slice());
         let (number, is_new) = self.locks.insert_full(lock)?;
-        if is_new {
-            self.above.push(SmallVec::from_slice(alloc, above)?)?;
+        if !is_new {
+            return Ok(Added { number, is_new });
         }
+        self.above.push(above)?;
+        self.classes.push(class)?;
         Ok(Added { number, is_new })
     }
 
@@ -547,6 +553,51 @@ impl Numbering {
     {
         self.highest = self.highest_with(&[above]);
         self.above[number].push(above)?;
+        Ok(())
+    }
+
+    /// Puts the number of a lock, if that is new, behind those above another, if that is there.
+    fn tell_one(&mut self, lock: &Lock, added: Added) -> Result<(), AllocError>
+        requires { length self.old.above ≡ length self.old.keys }
+        ensures there { OnOk result (IsTrue added.is_new → (number : ℕ) → slice_get self.old.keys number ≡ Some lock.now
+            → AreApart self.old.keys → IsTold self.old self.new number added.number) }
+        ensures absent { OnOk result ((Has self.old.keys lock.now → ⊥) → self.new ≡ self.old) }
+        ensures old { OnOk result (IsFalse added.is_new → self.new ≡ self.old) }
+    {
+        if !added.is_new {
+            return Ok(());
+        }
+        if let Some(number) = self.find(lock) {
+            self.tell(number, added.number)?;
+        }
+        Ok(())
+    }
+
+    /// Puts a number behind those above another, if that is to be told.
+    fn tell_if(&mut self, tells: bool, number: usize, above: usize) -> Result<(), AllocError>
+        requires { number < length self.old.above }
+        ensures told { OnOk result (IsTrue tells → IsTold self.old self.new number above) }
+        ensures same { OnOk result (IsFalse tells → self.new ≡ self.old) }
+    {
+        if tells {
+            self.tell(number, above)?;
+        }
+        Ok(())
+    }
+
+    /// Puts the number of a broad lock behind those above each lock that it covers.
+    #[cold]
+    #[inline(never)]
+    fn tell_below(&mut self, big: &Lock, number: usize) -> Result<(), AllocError>
+        requires count { length self.old.above ≡ length self.old.keys }
+        requires classes { length self.old.classes ≡ length self.old.keys }
+        ensures { OnOk result ((s : SchemeView) → IsBroad big.now → AreClassed s self.old
+            → IsToldBelow s self.old self.new big.now number) }
+    {
+        for other in 0..self.len() {
+            let tells = is_over(big, self.lock(other), self.classes[other]);
+            self.tell_if(tells, other, number)?;
+        }
         Ok(())
     }
 }

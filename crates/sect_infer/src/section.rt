@@ -21,7 +21,7 @@ use sect_names::{
 use std::alloc::{AllocError, Global};
 
 /// For how many nodes there is room for locks from the first.
-const MOST_NODES_WITH_ROOM: usize = 30;
+const MOST_NODES_WITH_ROOM: usize = 60;
 
 /// The locks of a section: at each node of its graph, the exit too, the maximal ones of those that are needed from
 /// there on, over all control paths; at its entry the least set that protects all that the section does. A section that
@@ -74,11 +74,11 @@ fn only_the_programs(scheme: &Scheme, section: u16)
     steps_of_sections();
 }
 
-/// For how many locks there is room from the first: two for each node and four more, as many as short sections mostly
-/// have with those above them. In longer ones most statements name locks again.
+/// For how many locks there is room from the first: one for each node and four more, at least as many as short sections
+/// mostly have. In longer ones most statements name locks again.
 pub fn room_for(flow: &Flow) -> usize {
     let nodes = flow.exit() as usize;
-    2 * nodes.min(MOST_NODES_WITH_ROOM) + 4
+    nodes.min(MOST_NODES_WITH_ROOM) + 4
 }
 
 /// The locks of a graph whose nodes need locks of the program alone: at each node the maximal ones of those that are

@@ -44,7 +44,7 @@ module _ (s : SchemeView) (t : NumberingView) (is : IsNumbering s t) (ns : List 
   is_under_is out =
       let m : HasLock t.keys (slice_index_or t.above n []) out.0 = elim ((is.told n l at).all out.0 (out.2, out.3)) [
         | inl one ↦ one
-        | inr w ↦ absurd (w.1 (Has-slice_get t.keys out.1.0 out.0 out.1.2))
+        | inr absent ↦ absurd (absent (Has-slice_get t.keys out.1.0 out.0 out.1.2))
       ] in
       let same = apart_one t.keys m.0 out.1.0 out.0 is.apart m.2 out.1.2 in
       any_is (has_number ns) (slice_index_or t.above n []) m.0 m.1

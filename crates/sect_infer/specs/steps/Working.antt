@@ -110,6 +110,7 @@ pub record IsWorking (s : SchemeView) (t : ℕ) (g : List Node) (numbering : Num
 pub record IsBegun (g : List Node) (numbering : NumberingView) (lists : List (List ℕ)) : Type 0 where
   pub keys : numbering.keys ≡ []
   pub above : numbering.above ≡ []
+  pub classes : numbering.classes ≡ []
   pub count : length lists ≡ length g + 1
   pub none : (j : ℕ) → slice_index_or lists j [] ≡ []
 

@@ -1,18 +1,15 @@
-use Rattle.std.proofs.Common.{ap}
-use Rattle.sect_infer.specs.Numberings.{IsNumbered}
-use Rattle.std.specs.Prelude.{IfOk}
-use Rattle.sect_infer.proofs.Extending.{put_equal, read_alone, read_other}
+use Rattle.sect_infer.specs.steps.Putting.{over_reads}
+use Rattle.sect_infer.proofs.Extending.{numbered_added, read_above, read_over}
 use Rattle.sect_names.specs.declared.lock.Effect.TheVariants as effect
 use Rattle.sect_names.specs.declared.lock.Lock.TheVariants as lock
 use Rattle.sect_infer.proofs.numbering.Numbering.put_read.Goals as goal
 
-pub returns-in_ok-try_clone : goal.returns-in_ok-try_clone
-returns-in_ok-try_clone c = λ s is above.
+pub returns : goal.returns
+returns c = λ s is told.
     let t = c.args.self.now in
-    let p = c.args.path.now in
-    let f = c.in_ok-try_clone.field-0 in
-    let r = c.put_behind.result in
-    put_equal s t.keys c.args.above.now (lock.Path f effect.Read) (lock.Path p effect.Read)
-    (λ l. IfOk r (IsNumbered s t c.put_behind.new.self l))
-    (ap (λ q. lock.Path q effect.Read) c.in_ok-try_clone.ensures) (c.put_behind.ensures s is (read_other f))
-    (read_alone s t.keys p c.args.above.now above (c.has_writes.ensures c.if-has_writes.false p))
+    let p = c.args.path in
+    let above = c.push_write.new.above.items in
+    numbered_added s t c.add.new.self (lock.Path p effect.Read) c.args.class above c.in_ok-add.field-0.number
+    c.in_ok-add.field-0.is_new is (read_above s t.keys p c.args.class above told
+    (c.in_ok-push_write.ensures (over_reads c.args.class) c.in_ok-above.ensures))
+    told (read_over s p) c.in_ok-add.ensures.new c.in_ok-add.ensures.old c.in_ok-add.ensures.there

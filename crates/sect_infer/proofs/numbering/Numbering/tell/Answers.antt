@@ -25,6 +25,7 @@ returns c =
       keys = ap (λ (v : NumberingView). v.keys) c.self.view_is;
       above = subst (λ (old : List (List ℕ)). map (λ v. v.items) (set vs n c.push.new.self)
           ≡ set old n (slice_index_or old n [] ++ c.args.above ∷ [])) is new;
+      classes = ap (λ (v : NumberingView). v.classes) c.self.view_is;
     }
 
 pub invariant_of-self-2 : goal.invariant_of-self-2
@@ -45,6 +46,7 @@ invariant_of-self-2 c =
     ∙ ap (set lists n) (c.in_ok-push.ensures.ok ∙ ap (λ l. l ++ c.args.above ∷ []) (sym was)) in
     record {
       writes_told = c.self.invariant.writes_told;
+      broad_told = c.self.invariant.broad_told;
       within = subst (AreWithin highest) (sym new) (within_set highest lists n ns there (λ m h.
           elim (Has-cases (slice_index_or lists n []) (c.args.above ∷ []) m h) [
             | inl old ↦ there n m old

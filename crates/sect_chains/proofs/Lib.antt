@@ -13,4 +13,5 @@ mod Listing
 mod Staying
 mod Starting
 mod Chaining
+mod Linking
 pub mod shared

@@ -4,10 +4,12 @@
 mod chain;
 mod keep;
 mod marks;
+mod numbered;
 mod section;
 mod starts;
 mod trail;
 mod work;
 
 pub use chain::Chain;
-pub use section::chains;
+pub use numbered::{NumberedChains, NumberedStep};
+pub use section::{chains, numbered_chains};

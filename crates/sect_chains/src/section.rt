@@ -8,12 +8,14 @@ ghost use Rattle.sect_names.specs.{declared.lock.Lock.{Lock}, Needed.{end_locks,
 ghost use Rattle.sect_names.specs.Laws.{AreLawful};
 ghost use Rattle.sect_infer.specs.{Sets.{AreLocksOf}, Numbers.{AreApart}};
 ghost use Rattle.sect_chains.specs.{Chains.{AreChains}, declared.keep.KeptLink.{KeptLink}};
+ghost use Rattle.sect_chains.specs.Numbered.{chains_in, links_by, HaveLocks};
 ghost use Rattle.sect_chains.specs.steps.{Trails.{RespectCover, AreTops, GoBack, AreFromEntry}, Starting.{AreStarts}};
 ghost use Rattle.sect_chains.specs.steps.Working.{links_of, nexts_of};
 
 use crate::chain::Chain;
+use crate::numbered::{NumberedChains, NumberedStep};
 use crate::starts::starts_of;
-use crate::trail::{links_from, trail_of};
+use crate::trail::{steps_from, trail_of};
 use crate::work::{Searched, Trail};
 use sect_front::Locking;
 use sect_infer::Locks;
@@ -42,6 +44,28 @@ pub fn chains(
         → slice_get scheme.now.graphs.sections section ≡ Some g
         → IfOk result (λ chains.
         AreChains scheme.now of.thread (end_of scheme.now section) g locks.now.entry chains.items) }
+{
+    let numbered = numbered_chains(alloc, scheme, locks, section)?;
+    numbered.linked(alloc)
+}
+
+/// The chains of a section's locks, as `chains` gives them, with the locks of their steps by number.
+pub fn numbered_chains(
+    alloc: Global,
+    scheme: &Scheme,
+    locks: &Locks,
+    section: u16,
+) -> Result<NumberedChains, AllocError>
+    requires section { section < length (sections_of scheme.now.program.texts) }
+    requires locks { (of : SectionView) (g : List Node)
+        → slice_get (sections_of scheme.now.program.texts) section ≡ Some of
+        → slice_get scheme.now.graphs.sections section ≡ Some g
+        → AreLocksOf scheme.now (end_of scheme.now section) of g locks.now }
+    ensures { (of : SectionView) (g : List Node)
+        → slice_get (sections_of scheme.now.program.texts) section ≡ Some of
+        → slice_get scheme.now.graphs.sections section ≡ Some g
+        → IfOk result (λ chains.
+        AreChains scheme.now of.thread (end_of scheme.now section) g locks.now.entry (chains_in chains)) }
 {
     scheme.facts();
     scheme.program().facts();
@@ -108,7 +132,7 @@ fn needed_locks_have_trails(scheme: &Scheme, locks: &Locks, section: u16)
 }
 
 /// The first chain of each of these locks.
-fn found(alloc: Global, section: Searched<'_>, locks: &[Lock]) -> Result<Vec<Chain>, AllocError>
+fn found(alloc: Global, section: Searched<'_>, locks: &[Lock]) -> Result<NumberedChains, AllocError>
     requires within { StaysWithin section.flow.now }
     requires lawful { AreLawful section.scheme.now section.thread section.last.now section.flow.now }
     requires respects { RespectCover section.scheme.now section.thread section.flow.now }
@@ -116,7 +140,7 @@ fn found(alloc: Global, section: Searched<'_>, locks: &[Lock]) -> Result<Vec<Cha
     requires few { length section.last.now ≤ 1 }
     ensures { IfOk result (λ chains.
         AreChains section.entry.scheme.now section.entry.thread section.entry.last.now section.entry.flow.now
-        locks.now chains.items) }
+        locks.now (chains_in chains)) }
 {
     let trail = trail_of(alloc, section)?;
     let starts = starts_of(alloc, &trail)?;
@@ -124,7 +148,7 @@ fn found(alloc: Global, section: Searched<'_>, locks: &[Lock]) -> Result<Vec<Cha
     for lock in locks {
         chains.push(chain_of(alloc, &trail, &starts, lock)?)?;
     }
-    Ok(chains)
+    Ok(NumberedChains::of(trail.numbering, chains))
 }
 
 /// The chain of a lock that is needed at the entry.
@@ -133,18 +157,18 @@ fn chain_of(
     trail: &Trail,
     starts: &Vec<Option<usize>>,
     lock: &Lock,
-) -> Result<Chain, AllocError>
+) -> Result<Vec<NumberedStep>, AllocError>
     requires back { GoBack (links_of trail.now.numbering.keys trail.now.steps.items) (nexts_of trail.now.steps.items) }
     requires numbers { (x : KeptLink) → Has trail.now.steps.items x → x.number < length trail.now.numbering.keys }
     requires apart { AreApart trail.now.numbering.keys }
     requires starts { AreStarts (length trail.now.numbering.keys) trail.now.steps.items (length trail.now.steps.items)
         starts.now.items }
     requires there { Has (links_of trail.now.numbering.keys trail.now.steps.items) (link 0 lock.now) }
-    ensures { IfOk result (AreFromEntry (links_of trail.now.numbering.keys trail.now.steps.items)
-        (nexts_of trail.now.steps.items) lock.now) }
+    ensures steps { IfOk result (λ steps. AreFromEntry (links_of trail.now.numbering.keys trail.now.steps.items)
+        (nexts_of trail.now.steps.items) lock.now (links_by trail.now.numbering.keys steps.items)) }
+    ensures locks { IfOk result (λ steps. HaveLocks trail.now.numbering.keys steps.items) }
 {
     let number = trail.numbering.find(lock).unwrap();
     let start = starts[number].unwrap();
-    let links = links_from(alloc, trail, start)?;
-    Ok(Chain::of(links))
+    steps_from(alloc, trail, start)
 }

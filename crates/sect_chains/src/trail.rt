@@ -6,12 +6,13 @@ ghost use Rattle.sect_chains.specs.declared.keep.KeptLink.{KeptLink};
 ghost use Rattle.sect_names.specs.Laws.{AreLawful};
 ghost use Rattle.sect_chains.specs.steps.{Trails.{RespectCover, GoBack, AreFrom}, Working.{links_of, nexts_of}};
 ghost use Rattle.sect_chains.specs.steps.Ordering.{IsSearched};
+ghost use Rattle.sect_chains.specs.Numbered.{step_link, links_by, HaveLocks};
 ghost use Rattle.sect_graph.specs.Predecessors.{StaysWithin};
 
+use crate::numbered::NumberedStep;
 use crate::work::{Searched, Trail};
 use sect_graph::predecessors_of;
 use sect_infer::Numbers;
-use sect_names::Link;
 use std::alloc::{AllocError, Global};
 
 /// What is needed from each node of a section's graph on, and why: what the nodes and the section's end generate, and
@@ -38,17 +39,18 @@ pub fn trail_of(alloc: Global, section: Searched<'_>) -> Result<Trail, AllocErro
 }
 
 /// The step at an index.
-fn link_at(trail: &Trail, index: usize) -> Result<Link, AllocError>
+fn step_at(trail: &Trail, index: usize) -> NumberedStep
     requires index { index < length trail.now.steps.items }
     requires numbers { (x : KeptLink) → Has trail.now.steps.items x → x.number < length trail.now.numbering.keys }
-    ensures { IfOk result (λ link.
-        slice_get (links_of trail.now.numbering.keys trail.now.steps.items) index ≡ Some link) }
+    ensures link { slice_get (links_of trail.now.numbering.keys trail.now.steps.items) index
+        ≡ Some (step_link trail.now.numbering.keys result) }
+    ensures lock { result.number < length trail.now.numbering.keys }
 {
     let step = trail.steps[index];
-    Ok(Link {
-        node: u32::from(step.node),
-        lock: trail.numbering.lock(step.number).try_clone()?,
-    })
+    NumberedStep {
+        node: step.node,
+        number: step.number,
+    }
 }
 
 /// How many steps stand behind the one at an index, up to where a lock is generated.
@@ -67,19 +69,24 @@ fn steps_behind(trail: &Trail, start: usize) -> usize
 }
 
 /// The steps from the one at an index on, to where a lock is generated.
-pub fn links_from(alloc: Global, trail: &Trail, start: usize) -> Result<Vec<Link>, AllocError>
+pub fn steps_from(
+    alloc: Global,
+    trail: &Trail,
+    start: usize,
+) -> Result<Vec<NumberedStep>, AllocError>
     requires back { GoBack (links_of trail.now.numbering.keys trail.now.steps.items) (nexts_of trail.now.steps.items) }
     requires numbers { (x : KeptLink) → Has trail.now.steps.items x → x.number < length trail.now.numbering.keys }
     requires there { start < length trail.now.steps.items }
-    ensures { IfOk result (λ links. AreFrom (links_of trail.now.numbering.keys trail.now.steps.items)
-        (nexts_of trail.now.steps.items) start links.items) }
+    ensures steps { IfOk result (λ steps. AreFrom (links_of trail.now.numbering.keys trail.now.steps.items)
+        (nexts_of trail.now.steps.items) start (links_by trail.now.numbering.keys steps.items)) }
+    ensures locks { IfOk result (λ steps. HaveLocks trail.now.numbering.keys steps.items) }
 {
-    let mut links = Vec::with_capacity(alloc, steps_behind(trail, start) + 1)?;
+    let mut steps = Vec::with_capacity(alloc, steps_behind(trail, start) + 1)?;
     let mut at = start;
     while let Some(next) = trail.steps[at].next {
-        links.push(link_at(trail, at)?)?;
+        steps.push(step_at(trail, at))?;
         at = next;
     }
-    links.push(link_at(trail, at)?)?;
-    Ok(links)
+    steps.push(step_at(trail, at))?;
+    Ok(steps)
 }

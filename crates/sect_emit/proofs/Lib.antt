@@ -8,6 +8,7 @@ mod Wholes
 mod Adding
 mod Counting
 mod Spelling
+mod Stepping
 mod Renaming
 mod Chained
 mod Validity

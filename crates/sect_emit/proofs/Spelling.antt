@@ -60,6 +60,15 @@ next_list t at i locks made old new there words before pushed =
     ∙ ap (map (list_words t)) (sym
     (take_next at i locks (slice_get_within at i locks there) (sym (get_or_from_slice_get at i locks locks there))))
 
+-- the list of the first node is that of the entry
+pub first_words : (t : TreeView) (at : List (List Lock)) (entry : List Lock) (lists : List (List CertLock))
+    (first : List CertLock) → lists ≡ map (list_words t) at → slice_get at 0 ≡ Some entry
+    → slice_get lists 0 ≡ Some first → first ≡ list_words t entry
+first_words t at entry lists first words there taken =
+    let named : slice_get lists 0 ≡ Some (list_words t entry) = ap (λ (ls : List (List CertLock)). slice_get ls 0) words
+    ∙ slice_get-map (list_words t) at 0 ∙ ap (option_map (list_words t)) there in
+    one_at lists 0 first (list_words t entry) taken named
+
 -- lists that are related element by element have as many
 pub zip_length : {A B : Type 0} (R : A → B → Type 0) (xs : List A) (ys : List B) → AllZip R xs ys
     → length xs ≡ length ys

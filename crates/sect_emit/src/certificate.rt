@@ -5,19 +5,44 @@ ghost use Rattle.sect_lemmas.specs.Lists.{Has};
 ghost use Rattle.sect_types.specs.Sections.{SectionView, sections_of};
 ghost use Rattle.sect_graph.specs.declared.flow.Node.{Node};
 ghost use Rattle.sect_names.specs.{declared.link.Link.{Link}, Needed.{end_of}};
-ghost use Rattle.sect_chains.specs.Chains.{AreChains};
-ghost use Rattle.sect_cert.specs.Texts.{IsChain, AreRising, IsSection, HasText};
+ghost use Rattle.sect_chains.specs.{Chains.{AreChains}, Numbered.{chains_in}};
+ghost use Rattle.sect_cert.specs.Texts.{IsLock, IsChain, AreRising, IsSection, HasText};
 ghost use Rattle.sect_infer.specs.Sets.{AreInferredAt, AreAllInferred};
-ghost use Rattle.sect_emit.specs.Words.{IsChainNamed};
+ghost use Rattle.sect_emit.specs.Words.{IsChainNamed, list_words};
 ghost use Rattle.sect_emit.specs.steps.Spelled.{AreChainsSpelled, IsSectionSpelled, IsSpelled};
 
 use crate::words::{chains_of, entry_of, lists_of};
-use sect_cert::{Cert, CertChain, CertSection};
-use sect_chains::{Chain, chains};
+use sect_cert::{Cert, CertChain, CertLock, CertSection};
+use sect_chains::{Chain, NumberedChains, numbered_chains};
 use sect_front::Items;
 use sect_infer::Locks;
 use sect_names::{Scheme, locks_stay_the_programs, steps_of_sections};
 use std::alloc::{AllocError, Global};
+
+/// The chains of a section, which are fewer than there are numbers, with their locks by number.
+fn numbered(
+    alloc: Global,
+    scheme: &Scheme,
+    locks: &Locks,
+    section: u16,
+) -> Result<NumberedChains, AllocError>
+    requires section { section < length (sections_of scheme.now.program.texts) }
+    requires inferred { AreInferredAt scheme.now section locks.now }
+    ensures chains { (of : SectionView) (g : List Node)
+        → slice_get (sections_of scheme.now.program.texts) section ≡ Some of
+        → slice_get scheme.now.graphs.sections section ≡ Some g
+        → IfOk result (λ chains.
+        AreChains scheme.now of.thread (end_of scheme.now section) g locks.now.entry (chains_in chains)) }
+    ensures few { IfOk result (λ chains. length chains.chains ≤ 4294967296) }
+    ensures named { IfOk result (λ chains. (links : List Link) → Has (chains_in chains) links
+        → IsChainNamed scheme.now.program links) }
+{
+    scheme.facts();
+    scheme.program().facts();
+    locks_stay_the_programs();
+    steps_of_sections();
+    numbered_chains(alloc, scheme, locks, section)
+}
 
 /// The chains of a section, which are fewer than there are numbers.
 pub fn found(
@@ -37,22 +62,23 @@ pub fn found(
     ensures named { IfOk result (λ chains. (links : List Link) → Has chains.items links
         → IsChainNamed scheme.now.program links) }
 {
-    scheme.facts();
-    scheme.program().facts();
-    locks_stay_the_programs();
-    steps_of_sections();
-    chains(alloc, scheme, locks, section)
+    let chains = numbered(alloc, scheme, locks, section)?;
+    chains.linked(alloc)
 }
 
-/// The chains of a section, by the names of the text. Their steps are let go with the answer.
+/// The chains of a section, by the names of the text, where those of the entry's locks are given. Their steps are let
+/// go with the answer.
 fn named_chains(
     alloc: Global,
     scheme: &Scheme,
     locks: &Locks,
     section: u16,
+    entry: &[CertLock],
 ) -> Result<Items<CertChain>, AllocError>
     requires section { section < length (sections_of scheme.now.program.texts) }
     requires inferred { AreInferredAt scheme.now section locks.now }
+    requires entry { entry.now ≡ list_words scheme.now.program.source locks.now.entry }
+    requires good { AllByRecursion IsLock entry.now }
     ensures words { (of : SectionView) (g : List Node)
         → slice_get (sections_of scheme.now.program.texts) section ≡ Some of
         → slice_get scheme.now.graphs.sections section ≡ Some g
@@ -60,8 +86,9 @@ fn named_chains(
     ensures good { IfOk result (AllByRecursion IsChain) }
     ensures rising { IfOk result AreRising }
 {
-    let chains = found(alloc, scheme, locks, section)?;
-    chains_of(alloc, scheme.program(), chains.as_slice())
+    scheme.facts();
+    let chains = numbered(alloc, scheme, locks, section)?;
+    chains_of(alloc, scheme.program(), &chains, entry)
 }
 
 /// What is inferred of a section, by the names of the text.
@@ -77,11 +104,11 @@ fn section_of(
     ensures good { IfOk result IsSection }
 {
     scheme.facts();
-    let chains = named_chains(alloc, scheme, locks, section)?;
     let program = scheme.program();
     let count = scheme.graph().section(section).exit() + 1;
     let nodes = lists_of(alloc, program, locks, count)?;
     let entry = entry_of(alloc, &nodes)?;
+    let chains = named_chains(alloc, scheme, locks, section, entry.as_slice())?;
     Ok(CertSection {
         nodes,
         entry,

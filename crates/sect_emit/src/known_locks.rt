@@ -1,78 +1,86 @@
 //! Locks that many steps have.
 
-ghost use Rattle.std.specs.Prelude.{◌≡◌, [], IfOk, OnOk};
-ghost use Rattle.sect_names.specs.Printing.{IsNamed};
-ghost use Rattle.sect_cert.specs.Texts.{IsLock};
+ghost use Rattle.std.specs.Prelude.{◌≡◌, ◌<◌, ℕ, Option, None, length, IfOk, OnOk};
+ghost use Rattle.sect_lemmas.specs.Lists.{Has};
+ghost use Rattle.sect_names.specs.{declared.lock.Lock.{Lock}, Printing.{IsNamed}};
+ghost use Rattle.sect_infer.specs.Numberings.{lock_at};
+ghost use Rattle.sect_cert.specs.{declared.lock.CertLock.{CertLock}, Texts.{IsLock}};
 ghost use Rattle.sect_emit.specs.{Words.{lock_words}, steps.Known.{AreKnown}};
 
 use crate::words::lock_of;
-use indexmap::IndexMap;
 use sect_cert::CertLock;
-use sect_names::Lock;
+use sect_chains::NumberedChains;
 use sect_types::Program;
 use std::alloc::{AllocError, Global};
 use std::marker::Model;
 
-/// Locks, and what they are by their names. A path that is named again is the one that is kept.
+/// For the number of each lock what it is by its names, none where it wasn't named yet. A path that is named again is
+/// the one that is kept.
 #[derive(Drop)]
 pub struct KnownLocks {
-    locks: IndexMap<Lock, CertLock>,
+    named: Vec<Option<CertLock>>,
 }
 
 impl Model for KnownLocks {
-    ghost use Rattle.std.specs.Prelude.{List};
-    ghost use Rattle.std.specs.Coded.{codes};
-    ghost use Rattle.sect_points.specs.Paths.{path_code};
-    ghost use Rattle.sect_names.specs.declared.lock.Lock.{Lock};
+    ghost use Rattle.std.specs.Prelude.{List, Option};
     ghost use Rattle.sect_cert.specs.declared.lock.CertLock.{CertLock};
 
-    ghost Value = { List (Lock × CertLock) };
+    ghost Value = { List (Option CertLock) };
 
-    ghost coded = { Prim.hlevel (codes, path_code) };
-
-    ghost view = { λ k. k.locks.entries };
+    ghost view = { λ k. k.named.items };
 }
 
 impl KnownLocks {
-    /// None.
-    pub fn new(alloc: Global) -> KnownLocks
-        ensures { result ≡ [] }
+    /// None, for so many numbers.
+    pub fn new(alloc: Global, count: usize) -> Result<KnownLocks, AllocError>
+        ensures count { IfOk result (λ known. length known ≡ count) }
+        ensures none { IfOk result (λ known. (o : Option CertLock) → Has known o → o ≡ None) }
     {
-        KnownLocks {
-            locks: IndexMap::new(alloc),
+        let mut named = Vec::with_capacity(alloc, count)?;
+        for _ in 0..count {
+            named.push(None)?;
         }
+        Ok(KnownLocks { named })
     }
 
-    /// A lock by its names, which isn't known yet.
-    fn put(&mut self, alloc: Global, program: &Program, lock: &Lock) -> Result<CertLock, AllocError>
-        requires named { IsNamed program.now lock.now }
-        requires known { AreKnown program.now.source self.old }
-        ensures words { IfOk result (λ words. words ≡ lock_words program.now.source lock.now) }
+    /// The lock with a number, by its names, which isn't known yet.
+    fn put(
+        &mut self,
+        alloc: Global,
+        program: &Program,
+        chains: &NumberedChains,
+        number: usize,
+    ) -> Result<CertLock, AllocError>
+        requires there { number < length chains.now.keys }
+        requires named { IsNamed program.now (lock_at chains.now.keys number) }
+        requires known { AreKnown program.now.source chains.now.keys self.old }
+        ensures words { IfOk result (λ words. words ≡ lock_words program.now.source (lock_at chains.now.keys number)) }
         ensures good { IfOk result IsLock }
-        ensures known { OnOk result (AreKnown program.now.source self.new) }
+        ensures known { OnOk result (AreKnown program.now.source chains.now.keys self.new) }
     {
-        let named = lock_of(alloc, program, lock)?;
-        let known = named.share()?;
-        self.locks.insert(lock.try_clone()?, known)?;
+        let named = lock_of(alloc, program, chains.lock(number))?;
+        self.named[number] = Some(named.share()?);
         Ok(named)
     }
 
-    /// A lock by its names.
+    /// The lock with a number, by its names.
     pub fn named(
         &mut self,
         alloc: Global,
         program: &Program,
-        lock: &Lock,
+        chains: &NumberedChains,
+        number: usize,
     ) -> Result<CertLock, AllocError>
-        requires named { IsNamed program.now lock.now }
-        requires known { AreKnown program.now.source self.old }
-        ensures words { IfOk result (λ words. words ≡ lock_words program.now.source lock.now) }
+        requires there { number < length chains.now.keys }
+        requires named { IsNamed program.now (lock_at chains.now.keys number) }
+        requires known { AreKnown program.now.source chains.now.keys self.old }
+        ensures words { IfOk result (λ words. words ≡ lock_words program.now.source (lock_at chains.now.keys number)) }
         ensures good { IfOk result IsLock }
-        ensures known { OnOk result (AreKnown program.now.source self.new) }
+        ensures known { OnOk result (AreKnown program.now.source chains.now.keys self.new) }
     {
-        if let Some(known) = self.locks.get(lock) {
+        if let Some(known) = &self.named[number] {
             return known.share();
         }
-        self.put(alloc, program, lock)
+        self.put(alloc, program, chains, number)
     }
 }

@@ -1,7 +1,8 @@
 //! Locks and chains by the names that stand in a program's text.
 
 ghost use Rattle.std.specs.Prelude.{◌≡◌, ◌≢◌, ◌≤◌, ◌<◌, ◌+◌, ◌-◌, List, [], ◌∷◌, ◌++◌, map, take, length, Some};
-ghost use Rattle.std.specs.{Prelude.{slice_get, IfOk, IfSome, OnOk, IsTrue}, List.{AllByRecursion}, Map.Iter.{deref}};
+ghost use Rattle.std.specs.{Prelude.{slice_get, IfOk, IfSome, OnOk, IsTrue}, List.{AllByRecursion, AllZip}};
+ghost use Rattle.std.specs.Map.Iter.{deref};
 ghost use Rattle.sect_cert.specs.declared.certificate.CertStep.{CertStep};
 ghost use Rattle.sect_cert.specs.Texts.{IsBase, IsPath, IsLock, IsStep, IsChain};
 ghost use Rattle.sect_lemmas.specs.Lists.{Has};
@@ -10,15 +11,16 @@ ghost use Rattle.sect_names.specs.Printing.{IsNamed, AreNamed};
 ghost use Rattle.sect_front.specs.TreeView.{TreeView};
 ghost use Rattle.sect_check.specs.Names.{words_of_variable};
 ghost use Rattle.sect_emit.specs.Words.{path_words, lock_words, list_words, step_words, chain_words, chains_words};
+ghost use Rattle.sect_chains.specs.Numbered.{links_by, chains_in, HaveLocks};
 ghost use Rattle.sect_emit.specs.Words.{IsChainNamed};
-ghost use Rattle.sect_emit.specs.steps.{Spelled.{IsLastNamed}, Known.{AreKnown}};
+ghost use Rattle.sect_emit.specs.steps.{Spelled.{IsLastNamed}, Known.{AreKnown, IsFirstNamed}};
 
 use crate::known_locks::KnownLocks;
-use sect_cert::{CertBase, CertLock, CertPath, CertStep, ChainSteps, Runs, SharedPath};
-use sect_chains::Chain;
+use sect_cert::{CertBase, CertChain, CertLock, CertPath, CertStep, ChainSteps, Runs, SharedPath};
+use sect_chains::{NumberedChains, NumberedStep};
 use sect_front::Items;
 use sect_infer::Locks;
-use sect_names::{Effect, Link, Lock, Path, Right, field_name, precedes};
+use sect_names::{Effect, Lock, Path, Right, field_name, precedes};
 use sect_points::Variable;
 use sect_types::Program;
 use std::alloc::{AllocError, Global};
@@ -202,27 +204,42 @@ fn step(node: u32, lock: CertLock) -> CertStep
     CertStep { node, lock }
 }
 
-/// The step at an index of a chain, by its names. No two chains of a section begin with one lock, so that of the first
-/// step isn't sought.
+/// A chain that is spelled: the chains of a section with their locks by number, its steps, and by its names the lock of
+/// the first step, which the entry has.
+#[derive(Clone, Copy)]
+struct Spelled<'a> {
+    chains: &'a NumberedChains,
+    steps: &'a [NumberedStep],
+    first: &'a CertLock,
+}
+
+/// The step at an index of a chain, by its names.
 fn step_of(
     alloc: Global,
     program: &Program,
     known: &mut KnownLocks,
+    chain: Spelled<'_>,
     index: usize,
-    link: &Link,
 ) -> Result<CertStep, AllocError>
-    requires named { IsNamed program.now link.now.lock }
-    requires known { AreKnown program.now.source known.old }
-    ensures words { IfOk result (λ step. step ≡ step_words program.now.source link.now) }
+    requires there { index < length chain.steps.now }
+    requires locks { HaveLocks chain.chains.now.keys chain.steps.now }
+    requires named { IsChainNamed program.now (links_by chain.chains.now.keys chain.steps.now) }
+    requires first { IsFirstNamed program.now.source chain.first.now (links_by chain.chains.now.keys chain.steps.now) }
+    requires good { IsLock chain.first.now }
+    requires known { AreKnown program.now.source chain.chains.now.keys known.old }
+    ensures words { IfOk result (λ step. (link : Link)
+        → slice_get (links_by chain.entry.chains.now.keys chain.entry.steps.now) index ≡ Some link
+        → step ≡ step_words program.now.source link) }
     ensures good { IfOk result IsStep }
-    ensures known { OnOk result (AreKnown program.now.source known.new) }
+    ensures known { OnOk result (AreKnown program.now.source chain.entry.chains.now.keys known.new) }
 {
+    let NumberedStep { node, number } = chain.steps[index];
     if index == 0 {
-        let lock = lock_of(alloc, program, &link.lock)?;
-        return Ok(step(link.node, lock));
+        let lock = chain.first.share()?;
+        return Ok(step(u32::from(node), lock));
     }
-    let lock = known.named(alloc, program, &link.lock)?;
-    Ok(step(link.node, lock))
+    let lock = known.named(alloc, program, chain.chains, number)?;
+    Ok(step(u32::from(node), lock))
 }
 
 /// Adds a step at a node with the lock of the last one.
@@ -237,36 +254,34 @@ fn step_again(steps: &mut ChainSteps, node: u32) -> Result<(), AllocError>
     Ok(())
 }
 
-/// Whether the locks of two steps are equal.
-fn have_one_lock(one: &Link, other: &Link) -> bool
-    ensures { IsTrue result → one.now.lock ≡ other.now.lock }
-{
-    are_equal(&one.lock, &other.lock)
-}
-
 /// Puts a step of a chain by its names behind those before it. Mostly its lock is the one before.
 fn next_step(
     alloc: Global,
     program: &Program,
     known: &mut KnownLocks,
-    links: &[Link],
+    chain: Spelled<'_>,
     index: usize,
     steps: &mut ChainSteps,
 ) -> Result<(), AllocError>
-    requires there { index < length links.now }
-    requires named { IsChainNamed program.now links.now }
-    requires known { AreKnown program.now.source known.old }
-    requires words { steps.old ≡ map (step_words program.now.source) (take index links.now) }
+    requires there { index < length chain.steps.now }
+    requires locks { HaveLocks chain.chains.now.keys chain.steps.now }
+    requires named { IsChainNamed program.now (links_by chain.chains.now.keys chain.steps.now) }
+    requires first { IsFirstNamed program.now.source chain.first.now (links_by chain.chains.now.keys chain.steps.now) }
+    requires good_first { IsLock chain.first.now }
+    requires known { AreKnown program.now.source chain.chains.now.keys known.old }
+    requires words { steps.old
+        ≡ map (step_words program.now.source) (take index (links_by chain.chains.now.keys chain.steps.now)) }
     requires good { AllByRecursion IsStep steps.old }
-    ensures known { OnOk result (AreKnown program.now.source known.new) }
-    ensures words { OnOk result (steps.new ≡ map (step_words program.now.source) (take (index + 1) links.now)) }
+    ensures known { OnOk result (AreKnown program.now.source chain.entry.chains.now.keys known.new) }
+    ensures words { OnOk result (steps.new ≡ map (step_words program.now.source)
+        (take (index + 1) (links_by chain.entry.chains.now.keys chain.entry.steps.now))) }
     ensures good { OnOk result (AllByRecursion IsStep steps.new) }
 {
-    let link = &links[index];
-    if 0 < index && have_one_lock(&links[index - 1], link) {
-        return step_again(steps, link.node);
+    let NumberedStep { node, number } = chain.steps[index];
+    if 0 < index && chain.steps[index - 1].number == number {
+        return step_again(steps, u32::from(node));
     }
-    let step = step_of(alloc, program, known, index, link)?;
+    let step = step_of(alloc, program, known, chain, index)?;
     steps.push(step)
 }
 
@@ -276,38 +291,48 @@ fn chain_of(
     program: &Program,
     known: &mut KnownLocks,
     lock: u32,
-    chain: &Chain,
-) -> Result<sect_cert::CertChain, AllocError>
-    requires named { IsChainNamed program.now chain.now }
-    requires known { AreKnown program.now.source known.old }
-    ensures known { OnOk result (AreKnown program.now.source known.new) }
-    ensures words { IfOk result (λ words. words ≡ chain_words program.now.source lock chain.now) }
+    chain: Spelled<'_>,
+) -> Result<CertChain, AllocError>
+    requires locks { HaveLocks chain.chains.now.keys chain.steps.now }
+    requires named { IsChainNamed program.now (links_by chain.chains.now.keys chain.steps.now) }
+    requires first { IsFirstNamed program.now.source chain.first.now (links_by chain.chains.now.keys chain.steps.now) }
+    requires good { IsLock chain.first.now }
+    requires known { AreKnown program.now.source chain.chains.now.keys known.old }
+    ensures known { OnOk result (AreKnown program.now.source chain.entry.chains.now.keys known.new) }
+    ensures words { IfOk result (λ words. words
+        ≡ chain_words program.now.source lock (links_by chain.entry.chains.now.keys chain.entry.steps.now)) }
     ensures good { IfOk result IsChain }
 {
-    let links = chain.links();
-    let mut steps = ChainSteps::with_capacity(alloc, links.len())?;
-    for index in 0..links.len() {
-        next_step(alloc, program, known, links, index, &mut steps)?;
+    let mut steps = ChainSteps::with_capacity(alloc, chain.steps.len())?;
+    for index in 0..chain.steps.len() {
+        next_step(alloc, program, known, chain, index, &mut steps)?;
     }
-    Ok(sect_cert::CertChain { lock, steps })
+    Ok(CertChain { lock, steps })
 }
 
-/// The chains of locks, in order, by their names.
+/// The chains of the locks of an entry, in order, by their names, where those of the entry's locks are given.
 pub fn chains_of(
     alloc: Global,
     program: &Program,
-    chains: &[Chain],
-) -> Result<Items<sect_cert::CertChain>, AllocError>
-    requires few { length chains.now ≤ 4294967296 }
-    requires named { (links : List Link) → Has chains.now links → IsChainNamed program.now links }
-    ensures words { IfOk result (λ list. list ≡ chains_words program.now.source 0 chains.now) }
+    chains: &NumberedChains,
+    entry: &[CertLock],
+) -> Result<Items<CertChain>, AllocError>
+    requires few { length chains.now.chains ≤ 4294967296 }
+    requires named { (links : List Link) → Has (chains_in chains.now) links → IsChainNamed program.now links }
+    requires first { AllZip (IsFirstNamed program.now.source) entry.now (chains_in chains.now) }
+    requires good { AllByRecursion IsLock entry.now }
+    ensures words { IfOk result (λ list. list ≡ chains_words program.now.source 0 (chains_in chains.now)) }
     ensures good { IfOk result (λ list. AllByRecursion IsChain list) }
 {
-    let mut known = KnownLocks::new(alloc);
+    let mut known = KnownLocks::new(alloc, chains.lock_count())?;
     let mut list = Vec::with_capacity(alloc, chains.len())?;
     for lock in 0..chains.len() {
-        let chain = chain_of(alloc, program, &mut known, lock as u32, &chains[lock])?;
-        list.push(chain)?;
+        let chain = Spelled {
+            chains,
+            steps: chains.chain(lock),
+            first: &entry[lock],
+        };
+        list.push(chain_of(alloc, program, &mut known, lock as u32, chain)?)?;
     }
     Ok(Items::from_vec(list))
 }

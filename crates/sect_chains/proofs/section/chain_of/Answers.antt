@@ -1,8 +1,8 @@
-use Rattle.std.proofs.Common.{◌≡◌, ◌<◌, Some, length, sym, ap, ◌∙◌, subst, arith}
+use Rattle.std.proofs.Common.{◌≡◌, ◌<◌, Some, length, ap, ◌∙◌, arith}
 use Rattle.std.proofs.lemmas.Option.{slice_get_within, get_or_from_slice_get}
 use Rattle.std.specs.{Prelude.{slice_get}, Option.{is_some}}
 use Rattle.sect_lemmas.specs.Lists.{Has}
-use Rattle.sect_chains.specs.steps.{Trails.{AreFrom}, Working.{links_of, nexts_of}}
+use Rattle.sect_lemmas.proofs.Results.{if_ok}
 use Rattle.sect_chains.proofs.{Places.{read_at}, Chaining.{some_found, found_is, lock_there, start_there, start_is}}
 use Rattle.sect_chains.proofs.section.chain_of.Goals as goal
 
@@ -35,8 +35,8 @@ unwrap-start-requires c =
     c.requires.apart n at in
     ap is_some (c.index.ensures ∙ get_or_from_slice_get starts n (Some k.0) c.index.result.now k.1)
 
-pub links_from-requires-clause-there : goal.links_from-requires-clause-there
-links_from-requires-clause-there c =
+pub steps_from-requires-clause-there : goal.steps_from-requires-clause-there
+steps_from-requires-clause-there c =
     let trail = c.args.trail.now in
     let keys = trail.numbering.keys in
     let l = c.args.lock.now in
@@ -50,8 +50,8 @@ links_from-requires-clause-there c =
     (start_is keys trail.steps.items l c.requires.numbers c.requires.there starts c.requires.starts c.requires.apart n
     at c.unwrap-start.result got).0
 
-pub returns : goal.returns
-returns c =
+pub returns-clause-steps : goal.returns-clause-steps
+returns-clause-steps c =
     let trail = c.args.trail.now in
     let keys = trail.numbering.keys in
     let l = c.args.lock.now in
@@ -63,9 +63,5 @@ returns c =
     let within : n < length starts = omega (arith, slice_get_within keys n l at, c.requires.starts.counted) in
     let got = read_at starts n c.index.result.now (Some i) within c.index.ensures c.unwrap-start.ensures in
     let is = start_is keys trail.steps.items l c.requires.numbers c.requires.there starts c.requires.starts
-    c.requires.apart n at i got in (
-      i,
-      is.1,
-      subst (AreFrom (links_of keys trail.steps.items) (nexts_of trail.steps.items) i) (sym c.of.ensures)
-          c.in_ok-links.ensures,
-    )
+    c.requires.apart n at i got in
+    if_ok c.steps_from.result (λ steps from. (i, is.1, from)) c.steps_from.ensures.steps

@@ -1,9 +1,11 @@
-use Rattle.std.proofs.Common.{◌<◌, length, subst, sym, arith}
+use Rattle.std.proofs.{Common.{◌≡◌, ◌<◌, ◌+◌, length, take, map, subst, sym, arith}, lemmas.List.{take_all}}
+use Rattle.std.specs.List.{AllZip}
 use Rattle.sect_lemmas.specs.Lists.{Has}
 use Rattle.sect_lemmas.proofs.{Membership.{Has-get_or}, Places.{zip_more}}
 use Rattle.sect_names.specs.Chains.{link}
-use Rattle.sect_chains.specs.Chains.{IsFirstChain}
+use Rattle.sect_chains.specs.{Chains.{IsFirstChain}, Numbered.{links_by}}
 use Rattle.sect_chains.proofs.{Firsts.{first_chain}, Growing.{kept_numbers, kept_trail}, Trails.{go_back}}
+use Rattle.sect_chains.proofs.Linking.{linked_more, all_locks_more}
 use Rattle.sect_chains.specs.steps.Working.{links_of, nexts_of, kept_of}
 use Rattle.sect_chains.proofs.section.found.Goals as goal
 
@@ -44,6 +46,9 @@ chain_of-requires-clause-there c =
     subst (λ big. Has (links_of trail.numbering.keys trail.steps.items) (link 0 big))
     (c.requires.tops.alone l top.0 has needed top.2) top.1
 
+pub loop-lock-init : goal.loop-lock-init
+loop-lock-init c = rw c.in_ok-chains.ensures.items (record { chains = tt; locks = λ steps none. absurd none })
+
 pub loop-lock-preserved : goal.loop-lock-preserved
 loop-lock-preserved c =
     let a = c.args.section in
@@ -52,13 +57,36 @@ loop-lock-preserved c =
     let locks = c.args.locks.now in
     let l = c.lock-item.result in
     let trail = c.in_ok-trail.trail in
+    let keys = trail.numbering.keys in
     let within : c.loop-lock.lock-index < length locks = omega arith in
     let searched = c.in_ok-trail.ensures in
     let has = subst (Has locks) (sym c.lock-item.is) (Has-get_or locks c.loop-lock.lock-index l within) in
-    let chain = first_chain s a.thread a.last.now g (links_of trail.numbering.keys trail.steps.items)
+    let old = c.loop-lock.chains.items in
+    let made = c.in_ok-chain_of.field-0 in
+    let chain = first_chain s a.thread a.last.now g (links_of keys trail.steps.items)
     (nexts_of trail.steps.items) searched.work.leads searched.sorted c.requires.respects searched.generated
-    searched.carried searched.work.apart l (λ big. c.requires.tops.alone l big has) c.in_ok-chain_of.field-0
-    c.in_ok-chain_of.ensures in
-    rw c.in_ok-push.ensures.items (zip_more (IsFirstChain s a.thread a.last.now g) locks c.loop-lock.lock-index l
-    c.loop-lock.chains.items
-    c.in_ok-chain_of.field-0 within c.lock-item.is c.loop-lock.invariant chain)
+    searched.carried searched.work.apart l (λ big. c.requires.tops.alone l big has) (links_by keys made.items)
+    c.in_ok-chain_of.ensures.steps in
+    let first = IsFirstChain s a.thread a.last.now g in
+    rw c.in_ok-push.ensures.items (record {
+      chains = subst (AllZip first (take (c.loop-lock.lock-index + 1) locks))
+          (sym (linked_more (λ v. v.items) keys old made))
+          (zip_more first locks c.loop-lock.lock-index l (map (links_by keys) (map (λ v. v.items) old))
+          (links_by keys made.items) within c.lock-item.is c.loop-lock.invariant.chains chain);
+      locks = all_locks_more (λ v. v.items) keys old made c.loop-lock.invariant.locks c.in_ok-chain_of.ensures.locks;
+    })
+
+pub of-requires : goal.of-requires
+of-requires c = c.loop-lock.invariant.locks
+
+pub returns : goal.returns
+returns c =
+    let a = c.args.section in
+    let locks = c.args.locks.now in
+    let all : take c.loop-lock.lock-index locks ≡ locks = take_all c.loop-lock.lock-index locks
+    (omega (arith, c.loop-lock-test.false)) in
+    let keys = c.in_ok-trail.trail.numbering.keys in
+    let linked = map (links_by keys) (map (λ v. v.items) c.loop-lock.chains.items) in
+    let first = IsFirstChain a.scheme.now a.thread a.last.now a.flow.now in
+    rw (c.of.ensures.keys, c.of.ensures.chains)
+    (subst (λ ls. AllZip first ls linked) all c.loop-lock.invariant.chains)

@@ -1,13 +1,13 @@
 use Rattle.std.proofs.{Common.{◌≡◌, Some, length, map, arith, refl, sym, ap, ◌∙◌, subst}, lemmas.List.{length-map}}
 use Rattle.std.proofs.lemmas.Option.{slice_get_within}
 use Rattle.std.specs.{Prelude.{slice_get}, List.{AllByRecursion}}
-use Rattle.sect_lemmas.proofs.{Places.{each_at, one_at}, Replaced.{slice_get-map}}
+use Rattle.sect_lemmas.proofs.Places.{each_at}
 use Rattle.sect_types.specs.Programs.{ProgramView}
 use Rattle.sect_graph.specs.Graphs.{GraphView}
 use Rattle.sect_names.specs.Printing.{AreNamed}
 use Rattle.sect_cert.specs.Texts.{IsLock}
 use Rattle.sect_emit.specs.Words.{list_words}
-use Rattle.sect_emit.proofs.Wholes.{all_named, entry_first, nodes_counted}
+use Rattle.sect_emit.proofs.{Wholes.{all_named, entry_first, nodes_counted}, Spelling.{first_words}}
 use Rattle.sect_emit.proofs.certificate.section_of.Goals as goal
 
 pub lists_of-requires-clause-count : goal.lists_of-requires-clause-count
@@ -33,6 +33,21 @@ entry_of-requires c =
     let some = slice_get_within at 0 c.args.locks.now.entry first in
     let f = ap length c.in_ok-nodes.ensures.words ∙ length-map at (list_words c.program-program.result.now.source) in
     omega (arith, some, f)
+
+pub named_chains-requires-clause-entry : goal.named_chains-requires-clause-entry
+named_chains-requires-clause-entry c =
+    let locks = c.args.locks.now in
+    let lists = c.in_ok-nodes.ensures.words
+    ∙ ap (λ (p : ProgramView). map (list_words p.source) locks.at) c.program-program.ensures in
+    let first = entry_first c.args.scheme.now c.facts.ensures c.args.section locks c.requires.section
+    c.requires.inferred in
+    c.as_slice.ensures ∙ first_words c.args.scheme.now.program.source locks.at locks.entry c.in_ok-nodes.nodes
+    c.in_ok-entry.entry lists first c.in_ok-entry.ensures
+
+pub named_chains-requires-clause-good : goal.named_chains-requires-clause-good
+named_chains-requires-clause-good c = subst (AllByRecursion IsLock) (sym c.as_slice.ensures)
+    (each_at (AllByRecursion IsLock) c.in_ok-nodes.nodes c.in_ok-nodes.ensures.good 0 c.in_ok-entry.entry
+    c.in_ok-entry.ensures)
 
 pub returns-clause-good : goal.returns-clause-good
 returns-clause-good c = record {
@@ -64,8 +79,6 @@ returns-clause-words c = λ of g at graph.
     ∙ ap (λ (p : ProgramView). map (list_words p.source) locks.at) c.program-program.ensures in
     let first = entry_first c.args.scheme.now c.facts.ensures c.args.section locks c.requires.section
     c.requires.inferred in
-    let named = slice_get-map (list_words source) locks.at 0 c.in_ok-entry.entry
-    (subst (λ lists. slice_get lists 0 ≡ Some c.in_ok-entry.entry) lists c.in_ok-entry.ensures) in
-    let entry : c.in_ok-entry.entry ≡ list_words source locks.entry =
-    sym named.2 ∙ ap (list_words source) (one_at locks.at 0 named.0 locks.entry named.1 first) in
+    let entry = first_words source locks.at locks.entry c.in_ok-nodes.nodes c.in_ok-entry.entry lists first
+    c.in_ok-entry.ensures in
     (told.0, told.1, rw (lists, entry, told.2) refl)

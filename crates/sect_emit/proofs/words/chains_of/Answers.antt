@@ -1,29 +1,93 @@
-use Rattle.std.proofs.Common.{◌<◌, length, arith, sym, subst}
-use Rattle.std.specs.List.{AllByRecursion}
-use Rattle.sect_lemmas.specs.Lists.{Has}
-use Rattle.sect_lemmas.proofs.Membership.{Has-get_or}
-use Rattle.sect_cert.specs.Texts.{IsChain}
-use Rattle.sect_emit.proofs.Spelling.{next_chain, all_more}
+use Rattle.std.proofs.Common.{◌≡◌, ◌<◌, ◌∙◌, Some, length, sym, ap, subst, arith}
+use Rattle.std.proofs.lemmas.{List.{length-map}, Option.{slice_get-get_or, slice_get-map, get_or_from_slice_get}}
+use Rattle.std.specs.{Prelude.{slice_get}, Option.{option_map}, List.{AllByRecursion}}
+use Rattle.sect_lemmas.proofs.{Membership.{Has-slice_get}, Places.{one_at, each_at, zipped_at}}
+use Rattle.sect_cert.specs.Texts.{IsLock, IsChain}
+use Rattle.sect_chains.specs.Numbered.{links_by, chains_in}
+use Rattle.sect_emit.specs.steps.Known.{IsFirstNamed}
+use Rattle.sect_emit.proofs.{KnownLemmas.{known_none}, Spelling.{next_chain, all_more, zip_length}}
 use Rattle.sect_emit.proofs.words.chains_of.Goals as goal
+
+pub loop-lock-init : goal.loop-lock-init
+loop-lock-init c = (
+  c.in_ok-list.ensures.items,
+  rw c.in_ok-list.ensures.items tt,
+  known_none c.args.program.now.source c.args.chains.now.keys c.in_ok-known.known
+      (c.in_ok-known.ensures.count ∙ c.lock_count.ensures) c.in_ok-known.ensures.none,
+)
+
+pub bounds-entry-lock : goal.bounds-entry-lock
+bounds-entry-lock c =
+    let v = c.args.chains.now in omega (
+      arith,
+      c.loop-lock-test.true,
+      c.len-lock-end.ensures,
+      length-map v.chains (links_by v.keys),
+      zip_length (IsFirstNamed c.args.program.now.source) c.args.entry.now (chains_in v) c.requires.first,
+    )
 
 pub chain_of-requires-clause-named : goal.chain_of-requires-clause-named
 chain_of-requires-clause-named c =
-    let chains = c.args.chains.now in
+    let v = c.args.chains.now in
+    let links = links_by v.keys c.chain.result.now in
     let i = c.loop-lock.lock in
-    let within : i < length chains = omega arith in
-    c.requires.named c.index-chains-lock.result
-    (subst (Has chains) (sym c.index-chains-lock.is) (Has-get_or chains i c.index-chains-lock.result within))
+    let at : slice_get (chains_in v) i ≡ Some links = slice_get-map (links_by v.keys) v.chains i
+    ∙ ap (option_map (links_by v.keys)) c.chain.ensures.steps in
+    c.requires.named links (Has-slice_get (chains_in v) i links at)
+
+pub chain_of-requires-clause-first : goal.chain_of-requires-clause-first
+chain_of-requires-clause-first c =
+    let t = c.args.program.now.source in
+    let v = c.args.chains.now in
+    let entry = c.args.entry.now in
+    let links = links_by v.keys c.chain.result.now in
+    let i = c.loop-lock.lock in
+    let first = c.index-entry-lock.result in
+    let at : slice_get (chains_in v) i ≡ Some links = slice_get-map (links_by v.keys) v.chains i
+    ∙ ap (option_map (links_by v.keys)) c.chain.ensures.steps in
+    let named = zipped_at (IsFirstNamed t) entry (chains_in v) c.requires.first i links at in
+    let within : i < length entry = omega (
+      arith,
+      c.loop-lock-test.true,
+      c.len-lock-end.ensures,
+      length-map v.chains (links_by v.keys),
+      zip_length (IsFirstNamed t) entry (chains_in v) c.requires.first,
+    ) in
+    let there : slice_get entry i ≡ Some first = slice_get-get_or entry i first within
+    ∙ ap (λ z. Some z) (sym c.index-entry-lock.is) in
+    subst (λ z. IsFirstNamed t z links) (one_at entry i named.0 first named.1 there) named.2
+
+pub chain_of-requires-clause-good : goal.chain_of-requires-clause-good
+chain_of-requires-clause-good c =
+    let v = c.args.chains.now in
+    let entry = c.args.entry.now in
+    let i = c.loop-lock.lock in
+    let first = c.index-entry-lock.result in
+    let within : i < length entry = omega (
+      arith,
+      c.loop-lock-test.true,
+      c.len-lock-end.ensures,
+      length-map v.chains (links_by v.keys),
+      zip_length (IsFirstNamed c.args.program.now.source) entry (chains_in v) c.requires.first,
+    ) in
+    let there : slice_get entry i ≡ Some first = slice_get-get_or entry i first within
+    ∙ ap (λ z. Some z) (sym c.index-entry-lock.is) in
+    each_at IsLock entry c.requires.good i first there
 
 pub loop-lock-preserved : goal.loop-lock-preserved
 loop-lock-preserved c =
-    let chains = c.args.chains.now in
+    let v = c.args.chains.now in
+    let links = links_by v.keys c.chain.result.now in
     let i = c.loop-lock.lock in
-    let within : i < length chains = omega arith in
-    let t = c.args.program.now.source in
-    let made = c.in_ok-chain.chain in (
-      next_chain t chains i c.index-chains-lock.result made _ _ within c.index-chains-lock.is
-          c.in_ok-chain.ensures.words c.loop-lock.invariant.0 c.in_ok-push.ensures.items,
+    let made = c.in_ok-chain_of.field-0 in
+    let at : slice_get (chains_in v) i ≡ Some links = slice_get-map (links_by v.keys) v.chains i
+    ∙ ap (option_map (links_by v.keys)) c.chain.ensures.steps in
+    let within : i < length (chains_in v) = omega
+    (arith, c.loop-lock-test.true, c.len-lock-end.ensures, length-map v.chains (links_by v.keys)) in (
+      next_chain c.args.program.now.source (chains_in v) i links made _ _ within
+          (sym (get_or_from_slice_get (chains_in v) i links links at))
+          c.in_ok-chain_of.ensures.words c.loop-lock.invariant.0 c.in_ok-push.ensures.items,
       subst (AllByRecursion IsChain) (sym c.in_ok-push.ensures.items)
-          (all_more IsChain c.loop-lock.list.items made c.loop-lock.invariant.1 c.in_ok-chain.ensures.good),
-      c.in_ok-chain.ensures.known,
+          (all_more IsChain c.loop-lock.list.items made c.loop-lock.invariant.1 c.in_ok-chain_of.ensures.good),
+      c.in_ok-chain_of.ensures.known,
     )

@@ -1,20 +1,26 @@
-use Rattle.std.proofs.Common.{◌≡◌, ◌∙◌, sym, subst}
+use Rattle.std.proofs.Common.{◌≡◌, ◌<◌, ◌∙◌, Some, length, sym, ap, subst, arith}
+use Rattle.std.proofs.lemmas.Option.{slice_get-get_or}
+use Rattle.std.specs.Prelude.{slice_get}
 use Rattle.sect_lemmas.proofs.Results.{if_ok}
-use Rattle.sect_names.specs.contracts.lock.LockPartialEq.TheImpl.{ghosts as the_lock_eq}
-use Rattle.sect_names.proofs.shared.Telling.{lock_tells}
+use Rattle.sect_infer.specs.Numberings.{lock_at}
 use Rattle.sect_cert.specs.Texts.{IsLock}
 use Rattle.sect_emit.specs.{Words.{lock_words}, steps.Known.{AreKnown}}
-use Rattle.sect_emit.proofs.{KnownLemmas.{known_there}, known_locks.KnownLocks.named.Goals.{In-Some}}
+use Rattle.sect_emit.proofs.known_locks.KnownLocks.named.Goals.{In-Some}
 use Rattle.sect_emit.proofs.known_locks.KnownLocks.named.Goals as goal
 
 -- what is kept is the lock by its names
-told : (c : In-Some) → (c.in-Some.known.now ≡ lock_words c.args.program.now.source c.args.lock.now)
-    × IsLock c.in-Some.known.now
+told : (c : In-Some)
+    → (c.in-Some.known ≡ lock_words c.args.program.now.source (lock_at c.args.chains.now.keys c.args.number))
+    × IsLock c.in-Some.known
 told c =
-    let t = c.args.program.now.source in
-    let l = c.args.lock.now in
-    known_there t (the_lock_eq.eq l) l (λ m. (lock_tells l m).0) c.self.inside.locks.entries c.in-Some.known.now
-    (subst (AreKnown t) (sym c.self.view_is) c.requires.known) (sym c.in-Some.ensures.value)
+    let kept = c.self.inside.named.items in
+    let n = c.args.number in
+    let known = subst (AreKnown c.args.program.now.source c.args.chains.now.keys) (sym c.self.view_is)
+    c.requires.known in
+    let within : n < length kept = omega (arith, c.requires.there, known.count) in
+    let at : slice_get kept n ≡ Some (Some c.in-Some.known) = slice_get-get_or kept n c.index.result.now within
+    ∙ ap (λ z. Some z) (sym c.index.ensures ∙ c.in-Some.is) in
+    known.each n c.in-Some.known at
 
 pub returns-in-Some-clause-words : goal.returns-in-Some-clause-words
 returns-in-Some-clause-words c =

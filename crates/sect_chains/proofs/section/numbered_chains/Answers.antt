@@ -5,9 +5,9 @@ use Rattle.sect_front.specs.declared.tree.Locking.{Locking}
 use Rattle.sect_names.specs.{Needed.{end_of, end_locks}, Laws.{AreLawful}}
 use Rattle.sect_names.proofs.shared.Ending.{section_read, end_is}
 use Rattle.sect_chains.specs.steps.Trails.{AreTops}
-use Rattle.sect_chains.proofs.section.chains.Goals.{After-entry}
+use Rattle.sect_chains.proofs.section.numbered_chains.Goals.{After-entry}
 use Rattle.sect_front.specs.declared.tree.Locking.TheVariants as locking
-use Rattle.sect_chains.proofs.section.chains.Goals as goal
+use Rattle.sect_chains.proofs.section.numbered_chains.Goals as goal
 
 -- the end generates one lock at most
 few_at_end : (l : Locking) → length (end_locks l) ≤ 1

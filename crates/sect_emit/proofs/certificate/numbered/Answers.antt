@@ -1,13 +1,13 @@
-use Rattle.std.proofs.Common.{arith, subst}
+use Rattle.std.proofs.{Common.{arith, subst}, lemmas.List.{length-map}}
 use Rattle.sect_types.specs.{Sections.{sections_of}, Programs.{ProgramView, IsWithinLimits}, Sound.{AreSound}}
 use Rattle.sect_lemmas.proofs.{Places.{at_of}, Results.{if_ok}}
 use Rattle.sect_names.specs.Needed.{end_of}
-use Rattle.sect_chains.specs.Chains.{IsFirstChain}
+use Rattle.sect_chains.specs.{Chains.{IsFirstChain}, Numbered.{chains_in, links_by}}
 use Rattle.sect_emit.proofs.{Chained.{chains_named, section_lawful}, Counting.{few_locks}, Spelling.{zip_length}}
-use Rattle.sect_emit.proofs.certificate.found.Goals as goal
+use Rattle.sect_emit.proofs.certificate.numbered.Goals as goal
 
-pub chains-requires-clause-locks : goal.chains-requires-clause-locks
-chains-requires-clause-locks c = λ of g at graph. (c.requires.inferred of g at graph).0
+pub numbered_chains-requires-clause-locks : goal.numbered_chains-requires-clause-locks
+numbered_chains-requires-clause-locks c = λ of g at graph. (c.requires.inferred of g at graph).0
 
 pub returns-clause-few : goal.returns-clause-few
 returns-clause-few c =
@@ -20,9 +20,10 @@ returns-clause-few c =
     let limits = subst IsWithinLimits c.program.ensures c.facts-2.ensures.limits in
     let entry = c.args.locks.now.entry in
     let few = few_locks s c.facts.ensures limits of.0.thread entry told.0.in_order (told.1 0 entry told.0.first) in
-    if_ok c.chains.result (λ chains are.
-    (let e = zip_length (IsFirstChain s of.0.thread (end_of s i) g.0) entry chains.items are in omega (arith, few, e)))
-    (c.chains.ensures of.0 g.0 of.1 g.1)
+    if_ok c.numbered_chains.result (λ chains are.
+    (let e = zip_length (IsFirstChain s of.0.thread (end_of s i) g.0) entry (chains_in chains) are in
+    omega (arith, few, e, length-map chains.chains (links_by chains.keys))))
+    (c.numbered_chains.ensures of.0 g.0 of.1 g.1)
 
 pub returns-clause-named : goal.returns-clause-named
 returns-clause-named c =
@@ -37,5 +38,6 @@ returns-clause-named c =
     (c.locks_stay_the_programs.ensures.carried s c.facts.ensures)
     (λ section x stands. (c.steps_of_sections.ensures.sound s c.facts.ensures sound section x stands).0) i of.0 g.0 of.1
     g.1 in
-    if_ok c.chains.result (λ chains are. chains_named s of.0.thread (end_of s i) g.0 lawful c.args.locks.now.entry
-    chains.items are) (c.chains.ensures of.0 g.0 of.1 g.1)
+    let entry = c.args.locks.now.entry in
+    if_ok c.numbered_chains.result (λ chains are. chains_named s of.0.thread (end_of s i) g.0 lawful entry
+    (chains_in chains) are) (c.numbered_chains.ensures of.0 g.0 of.1 g.1)

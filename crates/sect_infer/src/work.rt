@@ -94,7 +94,7 @@ fn find_own(
                 scheme,
                 &mut solution.numbering,
                 &mut solution.found,
-                &lock,
+                lock,
             )
         }
     }
@@ -189,14 +189,14 @@ fn put_own(
     scheme: &Scheme,
     solution: &mut Solution,
     node: u16,
-    lock: &Lock,
+    lock: Lock,
 ) -> Result<(), AllocError>
     requires node { node < length solution.old.lists }
     requires numbering { IsNumbering scheme.now solution.old.numbering }
     ensures { OnOk result (IsOwnPut scheme.now solution.old.numbering solution.old.lists
-        solution.new.numbering solution.new.lists node lock.now) }
+        solution.new.numbering solution.new.lists node lock) }
 {
-    let number = solution.numbering.number(alloc, scheme, lock)?;
+    let number = solution.numbering.number_taken(alloc, scheme, lock)?;
     if !solution.numbering.is_told(solution.lists.of(node), number) {
         solution.lists.extend(alloc, node, &[number])?;
     }
@@ -219,7 +219,7 @@ fn put_generated(
     let scheme = section.scheme;
     match scheme.generate(alloc, section.thread, section.flow.action(node)) {
         None => Ok(()),
-        Some(lock) => put_own(alloc, scheme, solution, node, &lock),
+        Some(lock) => put_own(alloc, scheme, solution, node, lock),
     }
 }
 

@@ -5,7 +5,8 @@ ghost use Rattle.sect_lemmas.specs.Lists.{Has};
 ghost use Rattle.sect_graph.specs.Predecessors.{StaysWithin};
 ghost use Rattle.sect_infer.specs.steps.Needs.{need, IsSeed, AreLawful};
 ghost use Rattle.sect_infer.specs.steps.Working.{AreNumbered, AreLawfulAt, IsCarried, IsVisit, IsBegun, IsSettled};
-ghost use Rattle.sect_infer.specs.steps.Working.{AllStay, IsPassedOn, IsTakenOver, IsOwnPut, IsGeneratedPut, IsFreshPut};
+ghost use Rattle.sect_infer.specs.steps.Working.{AllStay, IsPassedOn, IsTakenOver, IsOwnPut, IsGeneratedPut};
+ghost use Rattle.sect_infer.specs.steps.Working.{IsFreshPut};
 ghost use Rattle.sect_infer.specs.Numberings.{AreNumbers, HasLock, IsNumbering, IsFinding, Finds, fresh_from};
 
 use crate::carry::{Transfer, find};

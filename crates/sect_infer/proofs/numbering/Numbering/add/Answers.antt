@@ -5,7 +5,8 @@ use Rattle.sect_lemmas.specs.Lists.{Has}
 use Rattle.sect_lemmas.proofs.Finding.{any_tells}
 use Rattle.sect_names.specs.contracts.lock.LockPartialEq.TheImpl.{ghosts as the_lock_eq}
 use Rattle.sect_names.proofs.shared.Telling.{lock_tells}
-use Rattle.sect_infer.specs.{Numberings.{NumberingView}, steps.Putting.{IsWithin, AreWithin, AreWritesTold, AreBroadTold}}
+use Rattle.sect_infer.specs.Numberings.{NumberingView}
+use Rattle.sect_infer.specs.steps.Putting.{IsWithin, AreWithin, AreWritesTold, AreBroadTold}
 use Rattle.sect_infer.proofs.{Extending.{added_is, still_added}, Highest.{within_behind}}
 use Rattle.sect_infer.proofs.numbering.Numbering.add.Goals as goal
 

@@ -27,12 +27,12 @@ pub fn find(
     scheme: &Scheme,
     numbering: &mut Numbering,
     found: &mut Numbers,
-    lock: &Lock,
+    lock: Lock,
 ) -> Result<(), AllocError>
     requires { IsFinding scheme.now numbering.old found.old }
-    ensures { OnOk result (Finds scheme.now numbering.old found.old numbering.new found.new (λ l. l ≡ lock.now)) }
+    ensures { OnOk result (Finds scheme.now numbering.old found.old numbering.new found.new (λ l. l ≡ lock)) }
 {
-    let number = numbering.number(alloc, scheme, lock)?;
+    let number = numbering.number_taken(alloc, scheme, lock)?;
     found.insert(number)?;
     Ok(())
 }

@@ -8,7 +8,8 @@ ghost use Rattle.sect_names.specs.{Climbing.{IsAbove}, Above.{over_class}};
 ghost use Rattle.sect_infer.specs.Numbers.{has_number, AreApart};
 ghost use Rattle.sect_infer.specs.Numberings.{IsToWrite, ClassIs, IsOfClass, AreClassed, AreAbove, IsNumbering};
 ghost use Rattle.sect_infer.specs.Numberings.{IsNumberingOfSome, IsNumbered, is_under};
-ghost use Rattle.sect_infer.specs.steps.Putting.{IsBroad, AreWritesTold, AreBroadTold, AreWithin, AreThere};
+ghost use Rattle.sect_infer.specs.steps.Putting.{IsBroad, AreWritesTold, AreBroadTold, AreThere};
+ghost use Rattle.sect_infer.specs.steps.Putting.{IsWithin, AreWithin};
 ghost use Rattle.sect_infer.specs.steps.Putting.{over_writes, over_reads, IsPut, IsSame, IsTold, IsToldBelow};
 ghost use Rattle.sect_names.specs.declared.lock.Effect.TheVariants as effect;
 ghost use Rattle.sect_names.specs.declared.lock.Right.TheVariants as right;
@@ -37,8 +38,8 @@ pub struct Numbering {
     /// Whether there may be the lock on all, or locks on a class that cover locks on paths.
     broad: bool,
 
-    /// The greatest number that is told above another lock, or 0.
-    highest: usize,
+    /// The greatest number that is told above another lock, if any is.
+    highest: Option<usize>,
 }
 
 impl Drop for Numbering {
@@ -143,12 +144,27 @@ fn is_over(big: &Lock, other: &Lock, its: Option<u16>) -> bool
     }
 }
 
-/// The greater of two numbers.
-fn greater(number: usize, other: usize) -> usize
-    ensures first { number ≤ result }
-    ensures second { other ≤ result }
+/// The greater of a number and one that there may be.
+fn greater(most: Option<usize>, number: usize) -> usize
+    ensures first { (n : ℕ) → IsWithin most n → n ≤ result }
+    ensures second { number ≤ result }
 {
-    if number < other { other } else { number }
+    match most {
+        Some(other) if number < other => other,
+        _ => number,
+    }
+}
+
+/// Whether all of the numbers are greater than one.
+fn are_beyond(numbers: &[usize], most: usize) -> bool
+    ensures { IsTrue result → (n : ℕ) → Has numbers.now n → most < n }
+{
+    for number in numbers {
+        if *number <= most {
+            return false;
+        }
+    }
+    true
 }
 
 impl Numbering {
@@ -164,7 +180,7 @@ impl Numbering {
             classes: Vec::new(alloc),
             writes: false,
             broad: false,
-            highest: 0,
+            highest: None,
         }
     }
 
@@ -180,7 +196,7 @@ impl Numbering {
             classes: Vec::with_capacity(alloc, count)?,
             writes: false,
             broad: false,
-            highest: 0,
+            highest: None,
         })
     }
 
@@ -266,14 +282,14 @@ impl Numbering {
         self.has_writes() || is_to_write(lock)
     }
 
-    /// The greatest of these numbers, and of those that are told of any lock.
-    fn highest_with(&self, numbers: &[usize]) -> usize
+    /// The greatest of these numbers, and of those that are told of any lock, if there are any.
+    fn highest_with(&self, numbers: &[usize]) -> Option<usize>
         ensures there { AreWithin result self.now.above }
-        ensures behind { (n : ℕ) → Has numbers.now n → n ≤ result }
+        ensures behind { (n : ℕ) → Has numbers.now n → IsWithin result n }
     {
         let mut highest = self.highest;
         for number in numbers {
-            highest = greater(highest, *number);
+            highest = Some(greater(highest, *number));
         }
         highest
     }
@@ -282,12 +298,10 @@ impl Numbering {
     pub fn has_none_above(&self, numbers: &Numbers) -> bool
         ensures { IsTrue result → (n : ℕ) → is_under self.now.above numbers.now n ≡ false }
     {
-        for number in numbers.members() {
-            if *number <= self.highest {
-                return false;
-            }
+        match self.highest {
+            None => true,
+            Some(most) => are_beyond(numbers.members(), most),
         }
-        true
     }
 
     /// Whether there may be the lock on all, or locks on a class that cover locks on paths.
@@ -320,6 +334,23 @@ impl Numbering {
         }
         let class = class_in(scheme, lock);
         self.put(alloc, class, lock.try_clone()?)
+    }
+
+    /// The number of a lock, as `number` gives it, which takes the lock.
+    pub fn number_taken(
+        &mut self,
+        alloc: Global,
+        scheme: &Scheme,
+        lock: Lock,
+    ) -> Result<usize, AllocError>
+        requires { IsNumbering scheme.now self.old }
+        ensures { IfOk result (IsNumbered scheme.now self.old self.new lock) }
+    {
+        if let Some(number) = self.find(&lock) {
+            return Ok(number);
+        }
+        let class = class_in(scheme, &lock);
+        self.put(alloc, class, lock)
     }
 
     /// The number of a lock, which comes now unless it is there. If it is on a path, that is one of this class.

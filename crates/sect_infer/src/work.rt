@@ -6,6 +6,7 @@ ghost use Rattle.sect_graph.specs.Predecessors.{StaysWithin};
 ghost use Rattle.sect_infer.specs.steps.Needs.{need, IsSeed, AreLawful};
 ghost use Rattle.sect_infer.specs.steps.Working.{AreNumbered, AreLawfulAt, IsCarried, IsVisit, IsBegun, IsSettled};
 ghost use Rattle.sect_infer.specs.steps.Working.{AllStay, IsPassedOn, IsTakenOver, IsOwnPut, IsGeneratedPut};
+ghost use Rattle.sect_infer.specs.steps.Working.{IsFreshPut};
 ghost use Rattle.sect_infer.specs.Numberings.{AreNumbers, HasLock, IsNumbering, IsFinding, Finds, fresh_from};
 
 use crate::carry::{Transfer, find};
@@ -94,33 +95,55 @@ fn find_own(
                 scheme,
                 &mut solution.numbering,
                 &mut solution.found,
-                &lock,
+                lock,
             )
         }
     }
 }
 
-/// Those of the numbers that no other that was found is above.
-fn fresh(
-    alloc: Global,
-    numbering: &Numbering,
-    found: &Numbers,
-    numbers: &[usize],
-) -> Result<Vec<usize>, AllocError>
-    requires { (n : ℕ) → Has numbers.now n → n < length numbering.now.above }
-    ensures { IfOk result (λ fresh. fresh.items ≡ fresh_from numbering.now.above found.now numbers.now) }
+/// Numbers that were found at a node, and those of them that weren't known there.
+#[derive(Clone, Copy)]
+struct Found<'a> {
+    all: &'a Numbers,
+    more: &'a [usize],
+}
+
+/// Those of the numbers that weren't known that no other that was found is above.
+fn fresh(alloc: Global, numbering: &Numbering, found: Found<'_>) -> Result<Vec<usize>, AllocError>
+    requires { (n : ℕ) → Has found.more.now n → n < length numbering.now.above }
+    ensures { IfOk result (λ fresh. fresh.items
+        ≡ fresh_from numbering.now.above found.entry.all.now found.entry.more.now) }
 {
-    let mut fresh = Vec::with_capacity(alloc, numbers.len())?;
-    if numbering.has_none_above(found) {
-        fresh.extend_from_slice(numbers)?;
-        return Ok(fresh);
-    }
-    for number in numbers {
-        if !numbering.is_under(found, *number) {
+    let mut fresh = Vec::with_capacity(alloc, found.more.len())?;
+    for number in found.more {
+        if !numbering.is_under(found.all, *number) {
             fresh.push(*number)?;
         }
     }
     Ok(fresh)
+}
+
+/// Puts the numbers that weren't known behind those at the node, but for those that another that was found is above.
+/// Whether there are any.
+fn put_fresh(
+    alloc: Global,
+    numbering: &Numbering,
+    lists: &mut Lists,
+    node: u16,
+    found: Found<'_>,
+) -> Result<bool, AllocError>
+    requires node { node < length lists.old }
+    requires numbers { (n : ℕ) → Has found.more.now n → n < length numbering.now.above }
+    ensures { IfOk result (IsFreshPut lists.old lists.new node
+        (fresh_from numbering.now.above found.entry.all.now found.entry.more.now)) }
+{
+    if numbering.has_none_above(found.all) {
+        lists.extend(alloc, node, found.more)?;
+        return Ok(!found.more.is_empty());
+    }
+    let fresh = fresh(alloc, numbering, found)?;
+    lists.extend(alloc, node, fresh.as_slice())?;
+    Ok(!fresh.is_empty())
 }
 
 /// Goes over a node: finds what it needs for what is known now, beside what was known there. Whether there is more.
@@ -141,10 +164,12 @@ fn visit(
     let known = solution.found.members().len();
     find_after(alloc, section, solution, node)?;
     find_own(alloc, section, solution, node)?;
-    let found = &solution.found;
-    let more = fresh(alloc, &solution.numbering, found, &found.members()[known..])?;
-    solution.lists.extend(alloc, node, more.as_slice())?;
-    Ok(!more.is_empty())
+    let all = &solution.found;
+    let found = Found {
+        all,
+        more: &all.members()[known..],
+    };
+    put_fresh(alloc, &solution.numbering, &mut solution.lists, node, found)
 }
 
 /// Whether a node touches none of the locks with these numbers.
@@ -189,14 +214,14 @@ fn put_own(
     scheme: &Scheme,
     solution: &mut Solution,
     node: u16,
-    lock: &Lock,
+    lock: Lock,
 ) -> Result<(), AllocError>
     requires node { node < length solution.old.lists }
     requires numbering { IsNumbering scheme.now solution.old.numbering }
     ensures { OnOk result (IsOwnPut scheme.now solution.old.numbering solution.old.lists
-        solution.new.numbering solution.new.lists node lock.now) }
+        solution.new.numbering solution.new.lists node lock) }
 {
-    let number = solution.numbering.number(alloc, scheme, lock)?;
+    let number = solution.numbering.number_taken(alloc, scheme, lock)?;
     if !solution.numbering.is_told(solution.lists.of(node), number) {
         solution.lists.extend(alloc, node, &[number])?;
     }
@@ -219,7 +244,7 @@ fn put_generated(
     let scheme = section.scheme;
     match scheme.generate(alloc, section.thread, section.flow.action(node)) {
         None => Ok(()),
-        Some(lock) => put_own(alloc, scheme, solution, node, &lock),
+        Some(lock) => put_own(alloc, scheme, solution, node, lock),
     }
 }
 

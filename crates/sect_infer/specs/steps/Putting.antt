@@ -27,12 +27,17 @@ IsBroad (lock.Path p e) = ⊥
 abbrev pub AreBroadTold : Bool → List Lock → Type 0
 AreBroadTold broad keys = broad ≡ false → (l : Lock) → IsBroad l → Has keys l → ⊥
 
--- no number that is told of any is greater than this one
-abbrev pub AreWithin : ℕ → List (List ℕ) → Type 0
-AreWithin highest above = (m n : ℕ) → Has (slice_index_or above m []) n → n ≤ highest
+-- the number is no greater than one that there may be
+abbrev pub IsWithin : Option ℕ → ℕ → Type 0
+IsWithin None n = ⊥
+IsWithin (Some most) n = n ≤ most
+
+-- no number that is told of any is greater than the highest
+abbrev pub AreWithin : Option ℕ → List (List ℕ) → Type 0
+AreWithin highest above = (m n : ℕ) → Has (slice_index_or above m []) n → IsWithin highest n
 
 -- what a numbering keeps of its locks, and of what is told of them
-pub record IsKept (writes broad : Bool) (highest : ℕ) (keys : List Lock) (above : List (List ℕ)) : Type 0 where
+pub record IsKept (writes broad : Bool) (highest : Option ℕ) (keys : List Lock) (above : List (List ℕ)) : Type 0 where
   pub writes_told : AreWritesTold writes keys
   pub broad_told : AreBroadTold broad keys
   pub within : AreWithin highest above

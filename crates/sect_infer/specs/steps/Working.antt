@@ -82,6 +82,12 @@ pub record IsGeneratedPut (s : SchemeView) (t : ℕ) (g : List Node) (old : Numb
   pub apart : AreApart own
   pub told : (l : Lock) → IsSeed s t g (need j l) → IsToldBy s new.keys (slice_index_or before j [] ++ own) l
 
+-- these numbers stand behind those of node j now, if there are any
+pub record IsFreshPut (before after : List (List ℕ)) (j : ℕ) (fresh : List ℕ) (any : Bool) : Type 0 where
+  pub changed : after ≡ slice_set before j (slice_index_or before j [] ++ fresh)
+  pub none : any ≡ false → fresh ≡ []
+  pub some : any ≡ true → 0 < length fresh
+
 -- node j was gone over: behind its list stands more, if there was more, and that covers what was due there
 pub record IsVisit (s : SchemeView) (t : ℕ) (g : List Node) (old : NumberingView) (before : List (List ℕ))
     (new : NumberingView)

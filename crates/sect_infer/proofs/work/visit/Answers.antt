@@ -1,8 +1,9 @@
-use Rattle.std.proofs.Common.{◌≡◌, ◌∙◌, ◌<◌, ◌++◌, ◌==◌, [], not, set, length, arith, sym, ap, subst}
+use Rattle.std.proofs.Common.{◌≡◌, ◌∙◌, ◌-◌, ◌++◌, [], set, length, take, drop, arith, sym, ap, subst}
 use Rattle.std.specs.Prelude.{slice_index_or}
-use Rattle.sect_infer.specs.{Numbers.{with_numbers}, Numberings.{IsFinding}}
-use Rattle.sect_infer.proofs.Visiting.{begun_finding, new_within, visit_is, tested_none, tested_some}
-use Rattle.sect_infer.proofs.work.visit.Goals.{After-members-known, After-members, After-is_empty}
+use Rattle.std.proofs.lemmas.Result.{IfOk-weaker}
+use Rattle.sect_infer.specs.{Numbers.{with_numbers}, Numberings.{IsFinding, fresh_from}, steps.Working.{IsFreshPut}}
+use Rattle.sect_infer.proofs.Visiting.{begun_finding, new_within, visit_is}
+use Rattle.sect_infer.proofs.work.visit.Goals.{After-members-known, After-members}
 use Rattle.sect_infer.proofs.work.visit.Goals as goal
 
 -- the search begins with the numbers that the node had
@@ -15,10 +16,6 @@ starts c = c.in_ok-insert_all.ensures ∙ ap (λ ns. with_numbers ns c.of.result
 lists_stay : (c : After-members) → c.find_own.new.solution.lists ≡ c.args.solution.now.lists
 lists_stay c = c.in_ok-find_own.ensures.lists ∙ c.in_ok-find_after.ensures.lists
 
--- whether there is more
-tested : (c : After-is_empty) → c.is_empty.result ≡ (length c.in_ok-more.more.items == 0)
-tested c = c.is_empty.ensures ∙ ap (λ n. n == 0) (omega (arith, c.in_ok-more.more.ok.0))
-
 pub find_after-requires-clause-finding : goal.find_after-requires-clause-finding
 find_after-requires-clause-finding c =
     let a = c.args.solution.now.numbering in
@@ -27,33 +24,34 @@ find_after-requires-clause-finding c =
     (begun_finding c.args.section.scheme.now c.args.section.thread c.args.section.flow.now c.args.node a a a
     c.args.solution.now.lists [] [] c.requires.numbered)
 
-pub fresh-requires : goal.fresh-requires
-fresh-requires c =
+pub put_fresh-requires-clause-numbers : goal.put_fresh-requires-clause-numbers
+put_fresh-requires-clause-numbers c =
     new_within _ _ _ _ _ _ _ _ _ _ c.requires.numbered _ _ _
-    (starts (goal.at.fresh-requires c).After-members-known) c.members.ensures
+    (starts (goal.at.put_fresh-requires-clause-numbers c).After-members-known) c.members.ensures
     c.members-known.ensures c.in_ok-find_after.ensures.found c.in_ok-find_own.ensures.found
 
-pub extend-requires : goal.extend-requires
-extend-requires c = omega (
+pub put_fresh-requires-clause-node : goal.put_fresh-requires-clause-node
+put_fresh-requires-clause-node c = omega (
   arith,
   c.requires.node,
   c.requires.numbered.count,
-  ap length (lists_stay (goal.at.extend-requires c).After-members),
+  ap length (lists_stay (goal.at.put_fresh-requires-clause-node c).After-members),
 )
 
 pub returns : goal.returns
 returns c =
     let j = c.args.node in
     let lists = c.args.solution.now.lists in
-    visit_is _ _ _ _ _ _ _ _ _ _ c.requires.numbered _ _ _ (starts (goal.at.returns c).After-members-known)
+    let mid = c.find_own.new.solution.lists in
+    let stay = lists_stay (goal.at.returns c).After-members in
+    let found = c.members.result.now in
+    let known = length c.members-known.result.now in
+    let fresh = fresh_from c.find_own.new.solution.numbering.above c.find_own.new.solution.found
+    (take (length found - known) (drop known found)) in
+    IfOk-weaker c.put_fresh.result (IsFreshPut mid c.put_fresh.new.lists j fresh) _
+    (λ any put. visit_is _ _ _ _ _ _ _ _ _ _ c.requires.numbered _ _ _
+    (starts (goal.at.returns c).After-members-known)
     c.members.ensures c.members-known.ensures c.in_ok-find_after.ensures.found c.in_ok-find_own.ensures.found
-    (omega (arith, c.requires.node, c.requires.numbered.count)) c.extend.new.self (not c.is_empty.result)
-    (c.in_ok-extend.ensures
-    ∙ ap (λ ls. set ls j (slice_index_or ls j [] ++ c.as_slice.result.now))
-    (lists_stay (goal.at.returns c).After-members)
-    ∙ ap (λ xs. set lists j (slice_index_or lists j [] ++ xs))
-    (c.as_slice.ensures.value ∙ c.in_ok-more.ensures))
-    (λ off. sym c.in_ok-more.ensures
-    ∙ tested_none c.in_ok-more.more.items c.is_empty.result (tested (goal.at.returns c).After-is_empty) off)
-    (λ on. subst (λ xs. 0 < length xs) c.in_ok-more.ensures
-    (tested_some c.in_ok-more.more.items c.is_empty.result (tested (goal.at.returns c).After-is_empty) on))
+    (omega (arith, c.requires.node, c.requires.numbered.count)) c.put_fresh.new.lists any
+    (put.changed ∙ ap (λ ls. set ls j (slice_index_or ls j [] ++ fresh)) stay) put.none put.some)
+    c.put_fresh.ensures

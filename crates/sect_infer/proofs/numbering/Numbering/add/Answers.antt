@@ -1,11 +1,12 @@
-use Rattle.std.proofs.Common.{◌≡◌, ◌≤◌, ℕ, List, ◌∙◌, [], ◌∷◌, ◌++◌, Some, true, false, true≢false, map, sym, ap, subst}
+use Rattle.std.proofs.Common.{◌≡◌, ℕ, List, ◌∙◌, [], ◌∷◌, ◌++◌, Some, true, false, true≢false, map, sym, ap, subst}
 use Rattle.std.proofs.{Common.{refl}, lemmas.List.{map-append}}
 use Rattle.std.specs.{Prelude.{if◌then◌else◌}, List.{list_any}}
 use Rattle.sect_lemmas.specs.Lists.{Has}
 use Rattle.sect_lemmas.proofs.Finding.{any_tells}
 use Rattle.sect_names.specs.contracts.lock.LockPartialEq.TheImpl.{ghosts as the_lock_eq}
 use Rattle.sect_names.proofs.shared.Telling.{lock_tells}
-use Rattle.sect_infer.specs.{Numberings.{NumberingView}, steps.Putting.{AreWithin, AreWritesTold, AreBroadTold}}
+use Rattle.sect_infer.specs.Numberings.{NumberingView}
+use Rattle.sect_infer.specs.steps.Putting.{IsWithin, AreWithin, AreWritesTold, AreBroadTold}
 use Rattle.sect_infer.proofs.{Extending.{added_is, still_added}, Highest.{within_behind}}
 use Rattle.sect_infer.proofs.numbering.Numbering.add.Goals as goal
 
@@ -76,7 +77,7 @@ invariant_of-self-in_err-push-2 c =
           c.has_broad_with-self-inside.ensures.there c.has_broad_with-self-inside.ensures.behind;
       within = subst (AreWithin highest) (sym pushed) (within_behind highest lists c.args.above.items
           c.highest_with-self-inside.ensures.there
-          (subst (λ ns. (n : ℕ) → Has ns n → n ≤ highest) c.as_slice.ensures
+          (subst (λ ns. (n : ℕ) → Has ns n → IsWithin highest n) c.as_slice.ensures
           c.highest_with-self-inside.ensures.behind));
     }
 
@@ -100,6 +101,6 @@ invariant_of-self-3 c =
           c.has_broad_with-self-inside.ensures.there c.has_broad_with-self-inside.ensures.behind;
       within = subst (AreWithin highest) (sym pushed) (within_behind highest lists c.args.above.items
           c.highest_with-self-inside.ensures.there
-          (subst (λ ns. (n : ℕ) → Has ns n → n ≤ highest) c.as_slice.ensures
+          (subst (λ ns. (n : ℕ) → Has ns n → IsWithin highest n) c.as_slice.ensures
           c.highest_with-self-inside.ensures.behind));
     }

@@ -1,28 +1,20 @@
-use Rattle.std.proofs.Common.{◌≡◌, ◌<◌, ◌≤◌, length, get_or, take, arith, inl, inr, sym, ap, ◌∙◌, subst}
-use Rattle.std.proofs.lemmas.List.{get_or_default, take_all}
+use Rattle.std.proofs.Common.{◌<◌, Some, None, arith, sym, ap, subst}
 use Rattle.sect_lemmas.specs.Lists.{Has}
-use Rattle.sect_lemmas.proofs.Making.{last_of}
 use Rattle.sect_infer.specs.{Numberings.{NumberingView}, steps.Putting.{AreWithin}}
 use Rattle.sect_infer.proofs.Highest.{none_under}
 use Rattle.sect_infer.proofs.numbering.Numbering.has_none_above.Goals as goal
 
-pub loop-number-preserved : goal.loop-number-preserved
-loop-number-preserved c = λ n h.
-    let ns = c.members-number-items.result.now in
-    let i = c.loop-number.number-index in
-    let x = get_or ns i 0 in
-    let within : i < length ns = omega (arith, c.loop-number-test.true) in
-    elim (last_of ns i x n within (get_or_default ns i 0 x within) h) [
-      | inl a ↦ c.loop-number.invariant n a
-      | inr e ↦ omega (arith, e, c.if-number-self.false)
-    ]
+pub returns-in-None : goal.returns-in-None
+returns-in-None c = λ t. none_under c.args.self.now.above c.args.numbers.now None
+    (subst (λ h. AreWithin h c.args.self.now.above) c.in-None.is (subst (AreWithin c.self.inside.highest)
+    (ap (λ (v : NumberingView). v.above) c.self.view_is) c.self.invariant.within)) (λ m h w. w)
 
-pub returns : goal.returns
-returns c = λ t.
-    let ns = c.members-number-items.result.now in
-    let i = c.loop-number.number-index in
-    let past : length ns ≤ i = omega (arith, c.loop-number-test.false) in
-    let all : take i ns ≡ c.args.numbers.now = take_all i ns past ∙ c.members-number-items.ensures in
-    none_under c.args.self.now.above c.args.numbers.now c.self.inside.highest
-    (subst (AreWithin c.self.inside.highest) (ap (λ (v : NumberingView). v.above) c.self.view_is)
-    c.self.invariant.within) (λ m h. c.loop-number.invariant m (subst (λ xs. Has xs m) (sym all) h))
+pub returns-in-Some : goal.returns-in-Some
+returns-in-Some c = λ t.
+    let found = c.args.numbers.now in
+    let most = c.in-Some.most in
+    none_under c.args.self.now.above found (Some most)
+    (subst (λ h. AreWithin h c.args.self.now.above) c.in-Some.is (subst (AreWithin c.self.inside.highest)
+    (ap (λ (v : NumberingView). v.above) c.self.view_is) c.self.invariant.within))
+    (λ m h w. let more : most < m = c.are_beyond.ensures t m (subst (λ ns. Has ns m) (sym c.members.ensures) h) in
+    omega (arith, more, w))

@@ -8,12 +8,12 @@ loop-number-preserved c =
     let i = c.loop-number.number-index in
     let x = get_or ns i 0 in
     let within : i < length ns = omega (arith, c.loop-number-test.true) in
-    let first = c.greater-highest.ensures.first in
-    let second = c.greater-highest.ensures.second in
+    let first = c.greater.ensures.first in
+    let second = c.greater.ensures.second in
     record {
-      there = λ m n h. (let less = c.loop-number.invariant.there m n h in omega (arith, less, first));
+      there = λ m n h. first n (c.loop-number.invariant.there m n h);
       behind = λ n h. elim (last_of ns i x n within (get_or_default ns i 0 x within) h) [
-        | inl a ↦ (let less = c.loop-number.invariant.behind n a in omega (arith, less, first))
+        | inl a ↦ first n (c.loop-number.invariant.behind n a)
         | inr e ↦ omega (arith, e, second)
       ];
     }

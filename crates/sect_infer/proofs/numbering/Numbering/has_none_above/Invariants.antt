@@ -1,6 +1,0 @@
-use Rattle.std.proofs.Common.{◌<◌, ℕ, take}
-use Rattle.sect_lemmas.specs.Lists.{Has}
-use Rattle.sect_infer.proofs.numbering.Numbering.has_none_above.Given as goal
-
-abbrev pub invariant-loop-number : goal.invariant-loop-number
-invariant-loop-number l = (n : ℕ) → Has (take l.number-index l.number-items) n → l.self-inside.highest < n

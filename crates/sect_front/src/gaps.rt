@@ -66,6 +66,7 @@ pub fn pass_gap<'a>(
 }
 
 /// The same, where a blank or a `/` stands at the front.
+#[inline(always)]
 fn pass_bytes<'a>(
     bytes: &[u8],
     here: &'a [u8],

@@ -14,7 +14,7 @@ use crate::literal::Literal;
 use crate::name::Name;
 use crate::token::Token;
 use crate::tree::Comparison;
-use crate::words::{is_digit, is_letter, is_name_byte, keyword, word_length};
+use crate::words::{is_digit, is_letter, is_name_byte, put_keyword, word_length};
 use memchr::memchr;
 
 fn is_blank(byte: u8) -> bool
@@ -65,7 +65,8 @@ fn after_comment(bytes: &[u8]) -> &[u8]
 }
 
 /// What follows the spaces at the front, but for the last few: eight are passed at once.
-#[inline(always)]
+// most gaps are short, and are passed by fewer instructions so
+#[inline(never)]
 fn after_spaces(bytes: &[u8]) -> &[u8]
     ensures same { skip false result.now ≡ skip false bytes.now }
     ensures less { length result.now ≤ length bytes.now }
@@ -81,10 +82,10 @@ fn after_spaces(bytes: &[u8]) -> &[u8]
 pub fn after_gap(bytes: &[u8]) -> &[u8]
     ensures { result.now ≡ gap_of bytes.now }
 {
-    let mut rest = after_spaces(bytes);
+    let mut rest = bytes;
     while let Some((first, others)) = rest.split_first() {
         rest = if *first == b'\n' {
-            // lines of a long gap are mostly spaces
+            // the lines of a long gap are mostly spaces
             after_spaces(others)
         } else if is_blank(*first) {
             others
@@ -148,9 +149,8 @@ fn word_token(word: &[u8], token: &mut Token)
     requires letter { begins letter_of word.now ≡ true }
     ensures { token.new ≡ word_of word.now }
 {
-    match keyword(word) {
-        Some(known) => *token = known,
-        None => *token = Token::Name(Name::new(word)),
+    if !put_keyword(word, token) {
+        *token = Token::Name(Name::new(word));
     }
 }
 

@@ -1,6 +1,7 @@
 //! Names, keywords and the bytes that they are made of.
 
-ghost use Rattle.std.specs.{Prelude.{◌≡◌, ◌<◌, ◌&&◌, length, take_while}, List.{list_all}, Str.{bytes_eq}};
+ghost use Rattle.std.specs.{Prelude.{◌≡◌, ◌<◌, ◌&&◌, length, take_while, Some, None, true, false}};
+ghost use Rattle.std.specs.{List.{list_all}, Str.{bytes_eq}};
 ghost use Rattle.sect_front.specs.Words.{is_letter as letter_of, is_digit as digit_of, is_name_byte as name_byte};
 ghost use Rattle.sect_front.specs.{Words.{is_name as name_of, begins}, NameTokens.{is_name_token}};
 ghost use Rattle.sect_front.specs.{Spelling.{IsSpelling}, declared.token.Token.{Token as AToken}};
@@ -55,107 +56,130 @@ pub fn is_same_word(one: &[u8], other: &[u8]) -> bool
     right.is_empty()
 }
 
-/// The keyword of two bytes that these are.
-fn two_bytes(word: &[u8]) -> Option<Token>
-    ensures { result ≡ token_beside word.now (keywords_of 2) }
+/// Puts the keyword of two bytes that these are, and tells whether they are one.
+fn two_bytes(word: &[u8], token: &mut Token) -> bool
+    ensures some { result ≡ true → token_beside word.now (keywords_of 2) ≡ Some token.new }
+    ensures none { result ≡ false → token_beside word.now (keywords_of 2) ≡ None }
 {
-    if is_same_word(word, b"if") {
-        Some(Token::If)
-    } else {
-        None
+    if !is_same_word(word, b"if") {
+        return false;
     }
+    *token = Token::If;
+    true
 }
 
-/// The keyword of three bytes that these are.
-fn three_bytes(word: &[u8]) -> Option<Token>
-    ensures { result ≡ token_beside word.now (keywords_of 3) }
+/// Puts the keyword of three bytes that these are, and tells whether they are one.
+fn three_bytes(word: &[u8], token: &mut Token) -> bool
+    ensures some { result ≡ true → token_beside word.now (keywords_of 3) ≡ Some token.new }
+    ensures none { result ≡ false → token_beside word.now (keywords_of 3) ≡ None }
 {
     if is_same_word(word, b"int") {
-        Some(Token::Int)
+        *token = Token::Int;
     } else if is_same_word(word, b"new") {
-        Some(Token::New)
+        *token = Token::New;
     } else if is_same_word(word, b"all") {
-        Some(Token::All)
+        *token = Token::All;
     } else {
-        None
+        return false;
     }
+    true
 }
 
-/// The keyword of four bytes that these are.
-fn four_bytes(word: &[u8]) -> Option<Token>
-    ensures { result ≡ token_beside word.now (keywords_of 4) }
+/// Puts the keyword of four bytes that these are, and tells whether they are one.
+fn four_bytes(word: &[u8], token: &mut Token) -> bool
+    ensures some { result ≡ true → token_beside word.now (keywords_of 4) ≡ Some token.new }
+    ensures none { result ≡ false → token_beside word.now (keywords_of 4) ≡ None }
 {
     if is_same_word(word, b"proc") {
-        Some(Token::Proc)
+        *token = Token::Proc;
     } else if is_same_word(word, b"null") {
-        Some(Token::Null)
+        *token = Token::Null;
     } else if is_same_word(word, b"else") {
-        Some(Token::Else)
+        *token = Token::Else;
     } else if is_same_word(word, b"call") {
-        Some(Token::Call)
+        *token = Token::Call;
     } else {
-        None
+        return false;
     }
+    true
 }
 
-/// The keyword of five bytes that these are.
-fn five_bytes(word: &[u8]) -> Option<Token>
-    ensures { result ≡ token_beside word.now (keywords_of 5) }
+/// Puts the keyword of five bytes that these are, and tells whether they are one.
+fn five_bytes(word: &[u8], token: &mut Token) -> bool
+    ensures some { result ≡ true → token_beside word.now (keywords_of 5) ≡ Some token.new }
+    ensures none { result ≡ false → token_beside word.now (keywords_of 5) ≡ None }
 {
     if is_same_word(word, b"print") {
-        Some(Token::Print)
+        *token = Token::Print;
     } else if is_same_word(word, b"while") {
-        Some(Token::While)
+        *token = Token::While;
     } else if is_same_word(word, b"class") {
-        Some(Token::Class)
+        *token = Token::Class;
     } else {
-        None
+        return false;
     }
+    true
 }
 
-/// The keyword of six bytes that these are.
-fn six_bytes(word: &[u8]) -> Option<Token>
-    ensures { result ≡ token_beside word.now (keywords_of 6) }
+/// Puts the keyword of six bytes that these are, and tells whether they are one.
+fn six_bytes(word: &[u8], token: &mut Token) -> bool
+    ensures some { result ≡ true → token_beside word.now (keywords_of 6) ≡ Some token.new }
+    ensures none { result ≡ false → token_beside word.now (keywords_of 6) ≡ None }
 {
     if is_same_word(word, b"record") {
-        Some(Token::Record)
+        *token = Token::Record;
     } else if is_same_word(word, b"global") {
-        Some(Token::Global)
+        *token = Token::Global;
     } else if is_same_word(word, b"thread") {
-        Some(Token::Thread)
+        *token = Token::Thread;
     } else if is_same_word(word, b"atomic") {
-        Some(Token::Atomic)
+        *token = Token::Atomic;
     } else {
-        None
+        return false;
     }
+    true
 }
 
-/// The keyword of more than six bytes that these are: there is one.
+/// Puts the keyword of more than six bytes that these are, and tells whether they are it: there is one.
 #[tactic(auto, using(crate::proofs::NamesLemmas::long_keyword))]
-fn many_bytes(word: &[u8]) -> Option<Token>
+fn many_bytes(word: &[u8], token: &mut Token) -> bool
     requires { 6 < length word.now }
-    ensures { result ≡ keyword_of word.now }
+    ensures some { result ≡ true → keyword_of word.now ≡ Some token.new }
+    ensures none { result ≡ false → keyword_of word.now ≡ None }
 {
-    if is_same_word(word, b"protected_by") {
-        Some(Token::ProtectedBy)
-    } else {
-        None
+    if !is_same_word(word, b"protected_by") {
+        return false;
+    }
+    *token = Token::ProtectedBy;
+    true
+}
+
+/// Puts the keyword that these bytes are, and tells whether they are one. A token is long, and isn't moved by this.
+#[tactic(auto, using(crate::proofs::NamesLemmas::by_length))]
+pub fn put_keyword(word: &[u8], token: &mut Token) -> bool
+    ensures some { result ≡ true → keyword_of word.now ≡ Some token.new }
+    ensures none { result ≡ false → keyword_of word.now ≡ None }
+{
+    match word.len() {
+        0 | 1 => false,
+        2 => two_bytes(word, token),
+        3 => three_bytes(word, token),
+        4 => four_bytes(word, token),
+        5 => five_bytes(word, token),
+        6 => six_bytes(word, token),
+        _ => many_bytes(word, token),
     }
 }
 
 /// The keyword that these bytes are.
-#[tactic(auto, using(crate::proofs::NamesLemmas::by_length))]
-pub fn keyword(word: &[u8]) -> Option<Token>
+fn keyword(word: &[u8]) -> Option<Token>
     ensures { result ≡ keyword_of word.now }
 {
-    match word.len() {
-        0 | 1 => None,
-        2 => two_bytes(word),
-        3 => three_bytes(word),
-        4 => four_bytes(word),
-        5 => five_bytes(word),
-        6 => six_bytes(word),
-        _ => many_bytes(word),
+    let mut token = Token::Class;
+    if put_keyword(word, &mut token) {
+        Some(token)
+    } else {
+        None
     }
 }
 

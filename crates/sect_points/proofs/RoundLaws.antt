@@ -5,16 +5,19 @@ use Rattle.std.proofs.lemmas.List.{take_more, take_all}
 use Rattle.sect_lemmas.specs.Lists.{Has}
 use Rattle.sect_lemmas.proofs.Membership.{Has-cases, Has-get_or}
 use Rattle.sect_points.specs.{Sites.{HasSite}, declared.holders.ThreadAction.{ThreadAction}}
-use Rattle.sect_points.specs.Flow.{Within, Moved, IsLeastFlow}
+use Rattle.sect_points.specs.Flow.{Within, Moved, IsLeastFlow, ValueHas, BaseHas}
 use Rattle.sect_points.specs.Sets.{PointsToView, InSets, IsEmpty, SameHolders, sets_room}
 use Rattle.sect_points.specs.{declared.holders.Holder.{Holder}, declared.holders.Holder.TheVariants.{Local, Slot}}
-use Rattle.sect_types.specs.declared.expansion.action.Action.{Action}
+use Rattle.sect_types.specs.{declared.expansion.action.Value.{Value}, declared.expansion.action.Base.{Base}}
+use Rattle.sect_types.specs.{declared.expansion.action.Action.{Action}, declared.expansion.action.Field.{Field}}
 use Rattle.sect_points.specs.steps.Solving.{AllFit}
 use Rattle.sect_points.specs.steps.Marks.{Marked, HasMark, IsMarkable, Suits, Grows, local_row, grown, IsBase, MovedBy}
-use Rattle.sect_points.specs.steps.Marks.{IsStretch, IsGoing, IsLeft, IsSpan}
+use Rattle.sect_points.specs.steps.Marks.{IsStretch, IsGoing, IsLeft, IsSpan, Waits}
 use Rattle.sect_points.proofs.SetLaws.{both_false, one_true}
 use Rattle.sect_points.proofs.MarkLaws.{stretch_none, stretch_then, stretch_by, covers_all, fits_after}
 use Rattle.sect_points.proofs.shared.SolvingLaws.{moved_more}
+use Rattle.sect_types.specs.declared.expansion.action.Value.TheVariants as value
+use Rattle.sect_types.specs.declared.expansion.action.Base.TheVariants as base
 use Rattle.sect_types.specs.declared.expansion.action.Action.TheVariants as action
 use Rattle.sect_points.specs.declared.holders.Growth.TheVariants as growth
 
@@ -147,6 +150,53 @@ pub record IsStarting (i : ℕ) (list : List ThreadAction) (old now moved : Poin
 pub starting_none : (list : List ThreadAction) (old moved : PointsToView) (marks : Marked)
     → IsStarting 0 list old old moved marks marks
 starting_none list old moved marks = record { stretch = (false, stretch_none list old marks); done = λ p h. absurd h }
+
+-- where no set has a site, a local has none
+pub value_waits : (v : Value) (y : ℕ) → v ≡ value.Local y → (sets : PointsToView) → IsEmpty sets → (t s : ℕ)
+    → ValueHas (InSets sets) t v s → ⊥
+value_waits v y is sets empty t s h = empty (Local t y) s (subst (λ v. ValueHas (InSets sets) t v s) is h)
+
+pub base_waits : (b : Base) (y : ℕ) → b ≡ base.Local y → (sets : PointsToView) → IsEmpty sets → (t s : ℕ)
+    → BaseHas (InSets sets) t b s → ⊥
+base_waits b y is sets empty t s h = empty (Local t y) s (subst (λ b. BaseHas (InSets sets) t b s) is h)
+
+-- statements that wait for what a local or a field has
+pub waits_assign : (p : ThreadAction) (x : ℕ) (v : Value) → p.action ≡ action.Assign x v
+    → ((sets : PointsToView) → IsEmpty sets → (t s : ℕ) → ValueHas (InSets sets) t v s → ⊥) → Waits p
+waits_assign p x v is none sets empty h s m =
+    let moved : Moved (InSets sets) p.thread (action.Assign x v) h s =
+    subst (λ a. Moved (InSets sets) p.thread a h s) is m in
+    none sets empty p.thread s moved.1
+
+pub waits_load : (p : ThreadAction) (x : ℕ) (b : Base) (f : Field) → p.action ≡ action.Load x b f → Waits p
+waits_load p x b f is sets empty h s m =
+    let moved : Moved (InSets sets) p.thread (action.Load x b f) h s =
+    subst (λ a. Moved (InSets sets) p.thread a h s) is m in
+    empty (Slot moved.1.0 f.number) s moved.1.2
+
+pub waits_store : (p : ThreadAction) (b : Base) (f : Field) (v : Value) → p.action ≡ action.Store b f v
+    → ((sets : PointsToView) → IsEmpty sets → (t o : ℕ) → BaseHas (InSets sets) t b o → ⊥) → Waits p
+waits_store p b f v is none sets empty h s m =
+    let moved : Moved (InSets sets) p.thread (action.Store b f v) h s =
+    subst (λ a. Moved (InSets sets) p.thread a h s) is m in
+    none sets empty p.thread moved.0 moved.1
+
+pub starting_past : (i : ℕ) (list : List ThreadAction) (p : ThreadAction) (old now moved : PointsToView)
+    (before after : Marked) → i < length list → p ≡ get_or list i p → IsEmpty moved → Waits p
+    → IsStarting i list old now moved before after → IsStarting (i + 1) list old now moved before after
+starting_past i list p old now moved before after lt is empty waits s =
+    let next : take (i + 1) list ≡ take i list ++ p ∷ [] =
+    take_more list i p lt ∙ ap (λ r. take i list ++ r ∷ []) (sym is) in
+    record {
+      stretch = s.stretch;
+      done = λ q h. elim (Has-cases (take i list) (p ∷ []) q (subst (λ l. Has l q) next h)) [
+        | inl k ↦ s.done q k
+        | inr k ↦ elim k [
+          | inl same ↦ λ k r m. absurd (subst (λ (x : ThreadAction). Waits x) same waits moved empty k r m)
+          | inr k ↦ absurd k
+        ]
+      ];
+    }
 
 pub starting_more : (i : ℕ) (list : List ThreadAction) (p : ThreadAction) (bases : List ℕ)
     (old now new moved : PointsToView) (marks0 marks1 marks2 : Marked) (grew : Bool) → i < length list

@@ -4,3 +4,4 @@ pub mod Solving
 pub mod Marks
 pub mod Readers
 pub mod Places
+pub mod Standing

@@ -7,44 +7,56 @@ use crate::holders::ThreadAction;
 use sect_types::{Action, Base, Field, Value};
 use std::alloc::{AllocError, Global};
 use std::marker::Model;
+use std::slice;
+
+/// Where the statements of a row stand: most rows have one at most, which takes no room elsewhere.
+#[derive(Drop)]
+pub enum Standing {
+    Nothing,
+    Alone(ThreadAction),
+    Many(Vec<ThreadAction>),
+}
 
 /// Statements, each maybe more than once.
 #[derive(Drop)]
 pub struct Row {
-    statements: Vec<ThreadAction>,
+    statements: Standing,
 }
 
 impl Model for Row {
     ghost use Rattle.std.specs.Prelude.{List};
     ghost use Rattle.sect_points.specs.declared.holders.ThreadAction.{ThreadAction as APlaced};
+    ghost use Rattle.sect_points.specs.steps.Standing.{standing_there};
 
     ghost Value = { List APlaced };
 
-    ghost view = { λ r. r.statements.items };
+    ghost view = { λ r. standing_there r.statements };
 }
 
 impl Row {
     /// No statement.
-    pub fn new(alloc: Global) -> Row
+    pub fn new() -> Row
         ensures { result ≡ [] }
     {
         Row {
-            statements: Vec::new(alloc),
+            statements: Standing::Nothing,
         }
     }
 
     /// Adds a statement.
-    pub fn push(&mut self, placed: &ThreadAction) -> Result<(), AllocError>
+    pub fn push(&mut self, alloc: Global, placed: &ThreadAction) -> Result<(), AllocError>
         ensures { OnOk result (self.new ≡ self.old ++ placed.now ∷ []) }
     {
-        // most locals are read by one statement or two
-        if self.statements.is_empty() {
-            self.statements.reserve_exact(2)?;
+        match &mut self.statements {
+            Standing::Nothing => self.statements = Standing::Alone(*placed),
+            Standing::Alone(first) => {
+                let mut many = Vec::with_capacity(alloc, 4)?;
+                many.push_reserved(*first);
+                many.push_reserved(*placed);
+                self.statements = Standing::Many(many);
+            }
+            Standing::Many(many) => many.push(*placed)?,
         }
-        self.statements.push(ThreadAction {
-            thread: placed.thread,
-            action: placed.action,
-        })?;
         Ok(())
     }
 
@@ -52,10 +64,11 @@ impl Row {
     pub fn has(&self, placed: &ThreadAction) -> bool
         ensures { result ≡ true → Has self.now placed.now }
     {
-        let count = self.statements.len();
+        let statements = self.as_slice();
+        let count = statements.len();
         // One that is there was mostly put not long ago.
         for later in 0..count {
-            let put = &self.statements[count - 1 - later];
+            let put = &statements[count - 1 - later];
             if put.thread != placed.thread {
                 return false;
             }
@@ -70,7 +83,11 @@ impl Row {
     pub fn as_slice(&self) -> &[ThreadAction]
         ensures { result.now ≡ self.now }
     {
-        self.statements.as_slice()
+        match &self.statements {
+            Standing::Nothing => &[],
+            Standing::Alone(only) => slice::from_ref(only),
+            Standing::Many(many) => many.as_slice(),
+        }
     }
 }
 

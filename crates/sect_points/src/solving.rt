@@ -2,14 +2,14 @@
 
 ghost use Rattle.std.specs.Prelude.{◌≡◌, ◌↔◌, ◌≤◌, ◌<◌, ℕ, length, true, false};
 ghost use Rattle.sect_points.specs.{Sites.{HasSite}, Flow.{ValueHas, BaseHas, Within, IsLeastFlow}};
-ghost use Rattle.sect_points.specs.Sets.{InSets, IsEmpty, HasSet, SameHolders, sets_room, sites_for, spread_to};
+ghost use Rattle.sect_points.specs.Sets.{PointsToView, InSets, IsEmpty, HasSet, SameHolders, sets_room, sites_for, spread_to};
 ghost use Rattle.sect_points.specs.{Sets.{AreSitesOf, AreBelow}, declared.holders.ThreadAction.{ThreadAction}};
 ghost use Rattle.sect_points.specs.declared.holders.Holder.{Holder};
 ghost use Rattle.sect_points.specs.declared.holders.Holder.TheVariants.{Local, Slot};
 ghost use Rattle.sect_points.specs.steps.Solving.{FitsValue, FitsBase, FitsAction, AllFit};
 ghost use Rattle.sect_points.specs.steps.Marks.{Suits, Grows, AreBases, IsBase, MovedBy, IsOnlyBase, IsThere};
 ghost use Rattle.sect_points.specs.steps.Marks.{IsUntouched, grown, Covers, Handles, IsStretch, IsGoing, IsLeft};
-ghost use Rattle.sect_points.specs.steps.Marks.{IsSpan, HasMark, local_row};
+ghost use Rattle.sect_points.specs.steps.Marks.{IsSpan, HasMark, local_row, Waits};
 ghost use Rattle.sect_lemmas.specs.Lists.{Has};
 
 use crate::holders::{Growth, Holder, ThreadAction};
@@ -275,10 +275,10 @@ fn carry_locals(
     ensures gone { result ≡ false → (thread local : ℕ) → local_row thread local ≡ row
         → HasMark marks.new (Local thread local) → ⊥ }
 {
-    let grown = marks.take_locals(row);
-    if grown.is_empty() {
+    if marks.is_bare(row) {
         return false;
     }
+    let grown = marks.take_locals(row);
     let mut grew = false;
     let mut from = 0;
     while let Some(at) = grown.next(from) {
@@ -372,7 +372,42 @@ fn round(sets: &mut PointsTo, moved: &mut PointsTo, readers: &Readers, marks: &m
     grew
 }
 
-/// Moves what the statements move until nothing grows: from empty sets, the least that are closed.
+/// Whether a value has no site where no set has one.
+fn is_of_sets(value: Value) -> bool
+    ensures { result ≡ true → (sets : PointsToView) → IsEmpty sets → (thread site : ℕ)
+        → ValueHas (InSets sets) thread value site → ⊥ }
+{
+    match value {
+        Value::Global(_) => false,
+        Value::Local(_) | Value::Null | Value::Number(_) => true,
+    }
+}
+
+/// Whether a base has no site where no set has one.
+fn is_base_of_sets(base: Base) -> bool
+    ensures { result ≡ true → (sets : PointsToView) → IsEmpty sets → (thread site : ℕ)
+        → BaseHas (InSets sets) thread base site → ⊥ }
+{
+    match base {
+        Base::Global(_) => false,
+        Base::Local(_) => true,
+    }
+}
+
+/// Whether a statement moves nothing where no set has a site.
+fn waits(placed: &ThreadAction) -> bool
+    ensures { result ≡ true → Waits placed.now }
+{
+    match placed.action {
+        Action::Assign(_, value) => is_of_sets(value),
+        Action::Load(_, _, _) => true,
+        Action::Store(base, _, _) => is_base_of_sets(base),
+        _ => false,
+    }
+}
+
+/// Moves what the statements move until nothing grows: from empty sets, the least that are closed. A statement that
+/// waits for others is run once what it reads has grown.
 pub fn close(sets: &mut PointsTo, moved: &mut PointsTo, readers: &Readers, marks: &mut Marks)
     requires fits { AllFit sets.old readers.now }
     requires empty { IsEmpty sets.old }
@@ -386,6 +421,9 @@ pub fn close(sets: &mut PointsTo, moved: &mut PointsTo, readers: &Readers, marks
     ensures places { SameHolders sets.old sets.new }
 {
     for placed in readers.all() {
+        if waits(placed) {
+            continue;
+        }
         let bases = all_bases(sets, *placed);
         turn(sets, *placed, &bases, marks);
     }

@@ -1,7 +1,7 @@
 use Rattle.std.proofs.Common.{◌≡◌, arith, subst, sym, ap, ◌∙◌, length, get_or}
 use Rattle.sect_lemmas.specs.Lists.{Has}
 use Rattle.sect_lemmas.proofs.Membership.{Has-get_or}
-use Rattle.sect_points.proofs.{MarkLaws.{fits_after}, RoundLaws.{starting_none, starting_more, started, arrived}}
+use Rattle.sect_points.proofs.{MarkLaws.{fits_after}, RoundLaws.{starting_none, starting_past, starting_more, started, arrived}}
 use Rattle.sect_points.proofs.solving.close.Goals as goal
 
 pub loop-placed-init : goal.loop-placed-init
@@ -9,6 +9,20 @@ loop-placed-init c = record {
   items = c.all-placed-items.ensures;
   start = starting_none c.args.readers.now c.args.sets.now c.args.moved.now c.args.marks.now;
 }
+
+pub loop-placed-preserved-then-waits : goal.loop-placed-preserved-then-waits
+loop-placed-preserved-then-waits c =
+    let l = c.loop-placed in
+    let p = c.placed-item.result in
+    let list = c.args.readers.now in
+    let is : p ≡ get_or list l.placed-index p =
+    c.placed-item.is ∙ ap (λ xs. get_or xs l.placed-index p) l.invariant.items in
+    record {
+      items = l.invariant.items;
+      start = starting_past l.placed-index list p c.args.sets.now l.sets c.args.moved.now c.args.marks.now l.marks
+          (omega (arith, ap length l.invariant.items)) is c.requires.unmoved (c.waits.ensures c.if-waits.true)
+          l.invariant.start;
+    }
 
 pub all_bases-bases-requires-clause-fits : goal.all_bases-bases-requires-clause-fits
 all_bases-bases-requires-clause-fits c =

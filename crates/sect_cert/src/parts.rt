@@ -4,6 +4,7 @@ ghost use Rattle.std.specs.Prelude.{◌≡◌, ◌∷◌, [], IsTrue, ◌↔◌,
 ghost use Rattle.std.specs.{Prelude.{◌==◌}, Option.{option_copied}};
 ghost use Rattle.sect_cert.specs.Parts.{parts, parts_left};
 
+use memchr::memchr;
 use std::marker::Model;
 
 /// The parts that are left of a text that is cut at each mark.
@@ -30,17 +31,34 @@ fn part_len(bytes: &[u8], mark: u8) -> usize
     bytes.iter().take_while(|byte| **byte != mark).count()
 }
 
-/// The part at the front, and what follows the mark behind it.
-fn cut(bytes: &[u8], mark: u8) -> (&[u8], Option<&[u8]>)
+/// The same of a part that may be long: a search that looks at many bytes at once begins late.
+fn long_part_len(bytes: &[u8], mark: u8) -> usize
+    ensures { result ≡ length (take_while (λ b. not (b == mark)) bytes.now) }
+{
+    match memchr(mark, bytes) {
+        Some(len) => len,
+        None => bytes.len(),
+    }
+}
+
+/// The part at the front, which is so long, and what follows the mark behind it.
+fn cut_at(bytes: &[u8], mark: u8, len: usize) -> (&[u8], Option<&[u8]>)
+    requires { len ≡ length (take_while (λ b. not (b == mark)) bytes.now) }
     ensures { parts mark bytes.now ≡ result.0.now ∷ parts_left mark (option_copied result.1) }
 {
-    let len = part_len(bytes, mark);
     if len < bytes.len() {
         let (front, back) = bytes.split_at(len);
         (front, Some(back.split_at(1).1))
     } else {
         (bytes, None)
     }
+}
+
+/// The part at the front, and what follows the mark behind it.
+fn cut(bytes: &[u8], mark: u8) -> (&[u8], Option<&[u8]>)
+    ensures { parts mark bytes.now ≡ result.0.now ∷ parts_left mark (option_copied result.1) }
+{
+    cut_at(bytes, mark, part_len(bytes, mark))
 }
 
 /// What stands before the first mark and behind it, where there is one.
@@ -74,6 +92,15 @@ impl<'a> Parts<'a> {
     {
         let rest = self.rest?;
         let (part, back) = cut(rest, self.mark);
+        self.rest = back;
+        Some(part)
+    }
+    /// Takes the next part, as `next` does, where it may be long.
+    pub fn next_long(&mut self) -> Option<&'a [u8]>
+        ensures { MatchOption result (self.old ≡ []) (λ part. self.old ≡ part.now ∷ self.new) }
+    {
+        let rest = self.rest?;
+        let (part, back) = cut_at(rest, self.mark, long_part_len(rest, self.mark));
         self.rest = back;
         Some(part)
     }

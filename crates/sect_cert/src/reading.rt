@@ -55,7 +55,7 @@ fn read_lines(paths: &mut KnownPaths, bytes: &[u8]) -> Result<Cert, CertFault>
     let mut before = b"".as_slice();
     let mut stage = CertStage::Header;
     let mut line = 1usize;
-    while let Some(next) = others.next() {
+    while let Some(next) = others.next_long() {
         if is_finished(&stage) {
             return Err(CertFault::NotCanonical { line });
         }

@@ -1,5 +1,5 @@
 -- Loops through lists and numbers.
-use Rattle.std.proofs.Common.{◌≡◌, ℕ, ◌+◌, ◌<◌, List, inl, inr, sym, subst, take, length, get_or, arith}
+use Rattle.std.proofs.Common.{◌≡◌, ◌↔◌, ℕ, ◌+◌, ◌<◌, List, inl, inr, sym, subst, take, length, get_or, arith}
 use Rattle.std.proofs.lemmas.Bool.{cases_lt}
 use Rattle.sect_lemmas.specs.Lists.{Has}
 use Rattle.sect_lemmas.proofs.{Membership.{Has-get_or}, Making.{last_of}}
@@ -14,6 +14,10 @@ module _ {X : Type 0} (P : X → Type 0) where
 -- the element that a loop has come to
 pub item_has : {X : Type 0} (xs : List X) (i : ℕ) (x : X) → i < length xs → x ≡ get_or xs i x → Has xs x
 item_has xs i x within is = subst (Has xs) (sym is) (Has-get_or xs i x within)
+
+-- equal lists have the same
+pub same_has : {X : Type 0} {xs ys : List X} → xs ≡ ys → (x : X) → Has xs x ↔ Has ys x
+same_has e x = (λ h. subst (λ zs. Has zs x) e h, λ h. subst (λ zs. Has zs x) (sym e) h)
 
 -- so holds of each number below, and of one more
 pub below_next : (P : ℕ → Type 0) (i : ℕ) → ((m : ℕ) → m < i → P m) → P i → (m : ℕ) → m < i + 1 → P m

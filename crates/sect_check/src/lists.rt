@@ -10,12 +10,12 @@ ghost use Rattle.sect_check.specs.Faults.{IsFirst, IsFirstPair};
 ghost use Rattle.sect_check.specs.steps.Shapes.{StaysWithin, AreLawfulLists};
 
 use crate::claims::Claims;
-use crate::covering::{are_covered, is_covered, list_at, set_of};
+use crate::covering::{Above, covers, covers_each, has_near, is_covered, list_at, set_of_many};
 use crate::judged::Judged;
 use indexmap::IndexSet;
 use sect_front::Locking;
 use sect_graph::{Flow, Successors};
-use sect_names::{Lock, Scheme, end_lock, stays};
+use sect_names::{Change, Lock, Scheme, end_lock, stays};
 use sect_types::Label;
 use std::alloc::{AllocError, Global};
 
@@ -77,45 +77,58 @@ pub fn first_ungenerated(alloc: Global, section: Judged<'_>, claims: &Claims) ->
     None
 }
 
-/// Whether what a lock is carried back to over a node is covered by locks of the set.
+/// Whether what a lock is carried back to over a node is covered by locks of a list.
 fn is_carried_into(
     alloc: Global,
     section: Judged<'_>,
     label: &Label,
-    set: &IndexSet<Lock>,
+    above: Above<'_>,
     lock: &Lock,
 ) -> Result<bool, AllocError>
-    requires { IsLockOf section.scheme.now section.thread lock.now }
+    requires lawful { IsLockOf section.scheme.now section.thread lock.now }
+    requires set { IfSome above.set.now (λ some. (l : Lock) → Has some.keys l ↔ Has above.locks.now l) }
     ensures { IfOk result (λ it. IsTrue it
         ↔ ((r : Lock) → CarriedBack section.entry.scheme.now section.entry.thread label.now lock.now r
-        → CoveredBy section.entry.scheme.now set.now.keys r)) }
+        → CoveredBy section.entry.scheme.now above.entry.locks.now r)) }
 {
     if stays(section.thread, label, lock) {
-        return section.scheme.is_covered(set, lock);
+        return covers(section.scheme, above, lock);
     }
     let carried = section.scheme.rewrite(alloc, section.thread, *label, lock)?;
-    are_covered(section.scheme, set, carried.as_slice())
+    covers_each(section.scheme, above, carried.as_slice())
 }
 
-/// Whether what the locks of a list are carried back to over a node is covered by locks of the set. Where the set has
-/// them all, those that stay are covered.
+/// Whether a lock is known to be in a list: those of its list are, or it is near the place.
+fn is_known(above: Above<'_>, held: bool, place: &mut usize, lock: &Lock) -> bool
+    requires { IsTrue held → Has above.locks.now lock.now }
+    ensures { IsTrue result → Has above.entry.locks.now lock.now }
+{
+    held || has_near(above.locks, place, lock)
+}
+
+/// Whether what the locks of a list are carried back to over a node is covered by locks of another one. Those that stay
+/// and are there are covered.
 fn carries_into(
     alloc: Global,
     section: Judged<'_>,
     label: Label,
-    set: &IndexSet<Lock>,
+    above: Above<'_>,
     list: Listed<'_>,
 ) -> Result<bool, AllocError>
     requires lawful { (l : Lock) → Has list.locks.now l → IsLockOf section.scheme.now section.thread l }
-    requires held { IsTrue list.held → (l : Lock) → Has list.locks.now l → Has set.now.keys l }
+    requires set { IfSome above.set.now (λ some. (l : Lock) → Has some.keys l ↔ Has above.locks.now l) }
+    requires held { IsTrue list.held → (l : Lock) → Has list.locks.now l → Has above.locks.now l }
     ensures { IfOk result (λ it. IsTrue it
-        ↔ AreCarriedInto section.entry.scheme.now section.entry.thread label set.now.keys list.entry.locks.now) }
+        ↔ AreCarriedInto section.entry.scheme.now section.entry.thread label above.entry.locks.now
+        list.entry.locks.now) }
 {
+    let change = Change::of(section.thread, &label);
+    let mut place = 0;
     for lock in list.locks {
-        if list.held && stays(section.thread, &label, lock) {
+        if change.leaves(lock) && is_known(above, list.held, &mut place, lock) {
             continue;
         }
-        if !is_carried_into(alloc, section, &label, set, lock)? {
+        if !is_carried_into(alloc, section, &label, above, lock)? {
             return Ok(false);
         }
     }
@@ -126,7 +139,7 @@ fn carries_into(
 #[derive(Clone, Copy)]
 struct Left<'a> {
     from: u16,
-    set: &'a IndexSet<Lock>,
+    above: Above<'a>,
 }
 
 /// The locks of a list, and whether they are known to be those of another one.
@@ -149,21 +162,23 @@ fn list_beside(claims: &Claims, other: u16, node: u16) -> Listed<'_>
     }
 }
 
-/// The locks of a node's list, where those of the list before are at hand.
+/// The set of a node's list, if it has many locks, where that of the list before is at hand.
 fn next_set(
     alloc: Global,
     claims: &Claims,
     node: u16,
-    set: IndexSet<Lock>,
-) -> Result<IndexSet<Lock>, AllocError>
+    set: Option<IndexSet<Lock>>,
+) -> Result<Option<IndexSet<Lock>>, AllocError>
     requires there { node < length claims.now.nodes }
-    requires before { (h : ℕ) → node ≡ h + 1 → (l : Lock) → Has set.keys l ↔ Has (list_at claims.now h) l }
-    ensures { IfOk result (λ set. (l : Lock) → Has set.keys l ↔ Has (list_at claims.now node) l) }
+    requires before { (h : ℕ) → node ≡ h + 1
+        → IfSome set (λ some. (l : Lock) → Has some.keys l ↔ Has (list_at claims.now h) l) }
+    ensures { IfOk result (λ set.
+        IfSome set (λ some. (l : Lock) → Has some.keys l ↔ Has (list_at claims.now node) l)) }
 {
     if 0 < node && claims.nodes.is_one(node as usize, node as usize - 1) {
         return Ok(set);
     }
-    set_of(alloc, list_at(claims, node))
+    set_of_many(alloc, list_at(claims, node))
 }
 
 /// The nodes to which control may go on, the lesser first; they may be one.
@@ -192,7 +207,8 @@ fn first_uncarried_from(
     left: Left<'_>,
 ) -> Result<Option<u16>, AllocError>
     requires there { left.from < length section.flow.now }
-    requires set { (l : Lock) → Has left.set.now.keys l ↔ Has (list_at claims.now left.from) l }
+    requires locks { left.above.locks.now ≡ list_at claims.now left.from }
+    requires set { IfSome left.above.set.now (λ some. (l : Lock) → Has some.keys l ↔ Has left.above.locks.now l) }
     requires count { length claims.now.nodes ≡ length section.flow.now + 1 }
     requires within { StaysWithin section.flow.now }
     requires lawful { AreLawfulLists section.scheme.now section.thread claims.now }
@@ -206,14 +222,14 @@ fn first_uncarried_from(
     let label = section.flow.action(left.from);
     let (first, second) = in_order(section.flow.succ(left.from));
     let at_first = list_beside(claims, left.from, first);
-    if !carries_into(alloc, section, label, left.set, at_first)? {
+    if !carries_into(alloc, section, label, left.above, at_first)? {
         return Ok(Some(first));
     }
     if second == first {
         return Ok(None);
     }
     let at_second = list_beside(claims, left.from, second);
-    if !carries_into(alloc, section, label, left.set, at_second)? {
+    if !carries_into(alloc, section, label, left.above, at_second)? {
         return Ok(Some(second));
     }
     Ok(None)
@@ -235,10 +251,14 @@ pub fn first_uncarried(
         IsFirstPair (CoversCarried section.entry.scheme.now section.entry.thread section.entry.flow.now claims.now)
         e.0 e.1)) }
 {
-    let mut set = IndexSet::new(alloc);
+    let mut set = None;
     for from in 0..section.flow.exit() {
         set = next_set(alloc, claims, from, set)?;
-        let left = Left { from, set: &set };
+        let above = Above {
+            locks: list_at(claims, from),
+            set: &set,
+        };
+        let left = Left { from, above };
         if let Some(to) = first_uncarried_from(alloc, section, claims, left)? {
             return Ok(Some((from, to)));
         }

@@ -9,27 +9,27 @@ pub returns-then-stays : goal.returns-then-stays
 returns-then-stays c =
     let section = c.args.section in
     let s = section.scheme.now in
-    let keys = c.args.set.now.keys in
+    let keys = c.args.above.locks.now in
     let l = c.args.lock.now in
-    let stay = c.stays.ensures c.if-stays.true s c.requires in
-    IfOk-weaker c.is_covered.result (λ (it : Bool). IsTrue it ↔ CoveredBy s keys l)
+    let stay = c.stays.ensures c.if-stays.true s c.requires.lawful in
+    IfOk-weaker c.covers.result (λ (it : Bool). IsTrue it ↔ CoveredBy s keys l)
     (λ (it : Bool). IsTrue it ↔ ((r : Lock) → CarriedBack s section.thread c.args.label.now l r → CoveredBy s keys r))
     (λ it tells. (
       λ t r back. subst (CoveredBy s keys) (sym ((stay r).0 back)) (tells.0 t),
       λ all. tells.1 (all l ((stay l).1 refl)),
-    )) c.is_covered.ensures
+    )) c.covers.ensures
 
 pub returns : goal.returns
 returns c =
     let section = c.args.section in
     let s = section.scheme.now in
-    let keys = c.args.set.now.keys in
+    let keys = c.args.above.locks.now in
     let l = c.args.lock.now in
     let carried = subst (λ ls. (r : Lock) → Has ls r ↔ CarriedBack s section.thread c.args.label.now l r)
     (sym c.as_slice.ensures.value) c.in_ok-carried.ensures in
-    IfOk-weaker c.are_covered.result (λ (it : Bool). IsTrue it ↔ AreCovered s keys c.as_slice.result.now)
+    IfOk-weaker c.covers_each.result (λ (it : Bool). IsTrue it ↔ AreCovered s keys c.as_slice.result.now)
     (λ (it : Bool). IsTrue it ↔ ((r : Lock) → CarriedBack s section.thread c.args.label.now l r → CoveredBy s keys r))
     (λ it tells. (
       λ t r back. tells.0 t r ((carried r).1 back),
       λ all. tells.1 (λ r h. all r ((carried r).0 h)),
-    )) c.are_covered.ensures
+    )) c.covers_each.ensures

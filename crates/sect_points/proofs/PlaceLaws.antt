@@ -212,7 +212,8 @@ pub at_place : (rows sets : List SiteSet) (places : List ℕ) (row place : ℕ) 
     → get_or sets place no_sites ≡ set → (site : ℕ) → HasSite set.words site ↔ RowHas rows row site
 at_place rows sets places row place set view lt is at site =
     let same : get_or rows row no_sites ≡ set =
-    ap (λ r. get_or r row no_sites) (sym view) ∙ at_row sets places row lt ∙ ap (λ k. get_or sets k no_sites) is ∙ at in (
+    ap (λ r. get_or r row no_sites) (sym view) ∙ at_row sets places row lt
+    ∙ ap (λ k. get_or sets k no_sites) is ∙ at in (
       λ h. subst (λ (s : SiteSet). HasSite s.words site) (sym same) h,
       λ h. subst (λ (s : SiteSet). HasSite s.words site) same h,
     )
@@ -226,7 +227,8 @@ pub placed_gets : (rows sets : List SiteSet) (places : List ℕ) (row place capa
     ↔ (RowHas rows other s ⊎ ((other ≡ row) × P s))
 placed_gets rows sets places row place capacity old new P view p is some less at gets other s =
     let lt : row < length places = omega (arith, less, length_at sets places, ap length view) in
-    let here : (s : ℕ) → HasSite old.words s ↔ RowHas rows row s = at_place rows sets places row place old view lt is at in
+    let here : (s : ℕ) → HasSite old.words s ↔ RowHas rows row s =
+    at_place rows sets places row place old view lt is at in
     subst (λ l. RowHas l other s ↔ (RowHas rows other s ⊎ ((other ≡ row) × P s)))
     (ap (λ r. slice_set r row new) (sym view) ∙ sym (written_at sets places row place capacity new p is some lt))
     (row_gets rows row new P less

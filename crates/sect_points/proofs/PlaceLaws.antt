@@ -1,13 +1,12 @@
 -- Laws of places of sets.
-use Rattle.std.proofs.Common.{◌≡◌, ℕ, ◌+◌, ◌-◌, ◌<◌, ◌≤◌, ◌⊎◌, ◌↔◌, List, [], ◌∷◌, ◌++◌, length, get_or, slice_set}
+use Rattle.std.proofs.Common.{◌≡◌, ℕ, ◌+◌, ◌<◌, ◌⊎◌, ◌↔◌, List, [], ◌∷◌, ◌++◌, length, get_or, slice_set}
 use Rattle.std.proofs.Common.{refl, sym, ap, ◌∙◌, subst, inl, inr, arith, replicate}
 use Rattle.std.proofs.lemmas.List.{get_or-set_same, get_or-set_other, length-set, get_or-map, ext_get_or, length-map}
 use Rattle.std.proofs.lemmas.List.{get_or_append_left, get_or_at, get_or-replicate, length-replicate}
-use Rattle.std.proofs.lemmas.List.{length-append}
-use Rattle.std.proofs.{lemmas.List.Sums.{sum_by-set, get_or-le-sum_by}, lemmas.Bool.{cases_eq, cases_lt}}
+use Rattle.std.proofs.{lemmas.List.Sums.{sum_by-set}, lemmas.Bool.{cases_eq, cases_lt}}
 use Rattle.sect_points.specs.{declared.sites.SiteSet.{SiteSet}, Sites.{HasSite, room}}
 use Rattle.sect_points.specs.Rows.{no_sites, RowHas, rows_room}
-use Rattle.sect_points.specs.steps.Places.{sets_at, shared_count, ArePlaces}
+use Rattle.sect_points.specs.steps.Places.{sets_at, ArePlaces}
 use Rattle.sect_points.proofs.shared.SetLaws.{row_past}
 
 -- the set of a row
@@ -50,72 +49,6 @@ owned_same sets places row capacity empty p none is lt =
           ∙ get_or_append_left sets (empty ∷ []) no_sites (get_or places i 0) (p.within i)
     ]
 
--- counts of sets and of rows that share one, where a row gets its own
-counted : (sets before shared shared_before place capacity : ℕ) → sets ≡ before + 1 → 0 < before → place ≡ 0
-    → shared + (1 - place) ≡ shared_before + (1 - before) → before + shared_before ≤ capacity
-    → sets + shared ≤ capacity
-counted sets before shared shared_before place capacity longer some none sums room = omega arith
-
-pub owned_places : (sets : List SiteSet) (places : List ℕ) (row capacity : ℕ) (empty : SiteSet)
-    → ArePlaces places sets capacity → get_or places row 0 ≡ 0 → row < length places
-    → ArePlaces (slice_set places row (length sets)) (sets ++ empty ∷ []) capacity
-owned_places sets places row capacity empty p none lt = record {
-  none = λ site h. p.none site (subst (λ (s : SiteSet). HasSite s.words site)
-      (get_or_append_left sets (empty ∷ []) no_sites 0 some) h);
-  within = λ i. elim (cases_eq i row) [
-    | inl same ↦ omega (arith, place i same, longer)
-    | inr apart ↦ omega (arith, get_or-set_other places row i (length sets) 0 apart, p.within i, longer)
-  ];
-  apart = λ i k e. elim (cases_eq i row) [
-    | inl same ↦ elim (cases_eq k row) [
-      | inl also ↦ inl (same ∙ sym also)
-      | inr apart ↦ absurd (omega (
-        arith,
-        e,
-        place i same,
-        get_or-set_other places row k (length sets) 0 apart,
-        p.within k,
-      ))
-    ]
-    | inr apart ↦ elim (cases_eq k row) [
-      | inl also ↦ absurd (omega (
-        arith,
-        e,
-        place k also,
-        get_or-set_other places row i (length sets) 0 apart,
-        p.within i,
-      ))
-      | inr other ↦ elim (p.apart i k (sym (get_or-set_other places row i (length sets) 0 apart) ∙ e
-          ∙ get_or-set_other places row k (length sets) 0 other)) [
-            | inl same ↦ inl same
-            | inr zero ↦ inr (get_or-set_other places row i (length sets) 0 apart ∙ zero)
-          ]
-    ]
-  ];
-  room = counted (length (sets ++ empty ∷ [])) (length sets) (shared_count (slice_set places row (length sets)))
-      (shared_count places) (get_or places row 0) capacity longer some none sums p.room;
-}
-  where
-    sums : shared_count (slice_set places row (length sets)) + (1 - get_or places row 0)
-        ≡ shared_count places + (1 - length sets)
-    sums = sum_by-set (λ (place : ℕ). 1 - place) places row (length sets) 0 lt
-
-    some : 0 < length sets
-    some = omega (arith, p.within row)
-
-    longer : length (sets ++ empty ∷ []) ≡ length sets + 1
-    longer = length-append sets (empty ∷ [])
-
-    place : (i : ℕ) → i ≡ row → get_or (slice_set places row (length sets)) i 0 ≡ length sets
-    place i same = ap (λ k. get_or (slice_set places row (length sets)) k 0) same
-        ∙ get_or-set_same places row (length sets) 0 lt
-
--- there is room for the set of a row that has no place of its own
-pub owned_room : (sets : List SiteSet) (places : List ℕ) (row capacity : ℕ) → ArePlaces places sets capacity
-    → get_or places row 0 ≡ 0 → row < length places → length sets < capacity
-owned_room sets places row capacity p none lt =
-    omega (arith, p.room, none, get_or-le-sum_by (λ (place : ℕ). 1 - place) places row 0 lt)
-
 -- a set that stands at a place of its own is that of its row alone
 pub written_at : (sets : List SiteSet) (places : List ℕ) (row place capacity : ℕ) (new : SiteSet)
     → ArePlaces places sets capacity → get_or places row 0 ≡ place → 0 < place → row < length places
@@ -139,16 +72,6 @@ written_at sets places row place capacity new p is some lt =
           ∙ sym (at_row sets places i within)
           ∙ sym (get_or-set_other (sets_at sets places) row i new no_sites apart)
     ]
-
-pub written_places : (sets : List SiteSet) (places : List ℕ) (place capacity : ℕ) (new : SiteSet)
-    → ArePlaces places sets capacity → 0 < place → ArePlaces places (slice_set sets place new) capacity
-written_places sets places place capacity new p some = record {
-  none = λ site h. p.none site (subst (λ (s : SiteSet). HasSite s.words site)
-      (get_or-set_other sets place 0 new no_sites (λ e. omega (arith, e, some))) h);
-  within = λ i. omega (arith, p.within i, length-set sets place new);
-  apart = p.apart;
-  room = omega (arith, p.room, length-set sets place new);
-}
 
 -- rows of which one gets what has the property
 pub row_gets : (rows : List SiteSet) (row : ℕ) (new : SiteSet) (P : ℕ → Type 0) → row < length rows
@@ -212,7 +135,8 @@ pub at_place : (rows sets : List SiteSet) (places : List ℕ) (row place : ℕ) 
     → get_or sets place no_sites ≡ set → (site : ℕ) → HasSite set.words site ↔ RowHas rows row site
 at_place rows sets places row place set view lt is at site =
     let same : get_or rows row no_sites ≡ set =
-    ap (λ r. get_or r row no_sites) (sym view) ∙ at_row sets places row lt ∙ ap (λ k. get_or sets k no_sites) is ∙ at in (
+    ap (λ r. get_or r row no_sites) (sym view) ∙ at_row sets places row lt
+    ∙ ap (λ k. get_or sets k no_sites) is ∙ at in (
       λ h. subst (λ (s : SiteSet). HasSite s.words site) (sym same) h,
       λ h. subst (λ (s : SiteSet). HasSite s.words site) same h,
     )
@@ -226,7 +150,8 @@ pub placed_gets : (rows sets : List SiteSet) (places : List ℕ) (row place capa
     ↔ (RowHas rows other s ⊎ ((other ≡ row) × P s))
 placed_gets rows sets places row place capacity old new P view p is some less at gets other s =
     let lt : row < length places = omega (arith, less, length_at sets places, ap length view) in
-    let here : (s : ℕ) → HasSite old.words s ↔ RowHas rows row s = at_place rows sets places row place old view lt is at in
+    let here : (s : ℕ) → HasSite old.words s ↔ RowHas rows row s =
+    at_place rows sets places row place old view lt is at in
     subst (λ l. RowHas l other s ↔ (RowHas rows other s ⊎ ((other ≡ row) × P s)))
     (ap (λ r. slice_set r row new) (sym view) ∙ sym (written_at sets places row place capacity new p is some lt))
     (row_gets rows row new P less

@@ -2,8 +2,9 @@
 
 ghost use Rattle.std.specs.Prelude.{◌≡◌, ◌↔◌, ◌≤◌, ◌<◌, ℕ, length, true, false};
 ghost use Rattle.sect_points.specs.{Sites.{HasSite}, Flow.{ValueHas, BaseHas, Within, IsLeastFlow}};
-ghost use Rattle.sect_points.specs.Sets.{PointsToView, InSets, IsEmpty, HasSet, SameHolders, sets_room, sites_for, spread_to};
-ghost use Rattle.sect_points.specs.{Sets.{AreSitesOf, AreBelow}, declared.holders.ThreadAction.{ThreadAction}};
+ghost use Rattle.sect_points.specs.Sets.{PointsToView, InSets, IsEmpty, HasSet, SameHolders, sets_room, sites_for};
+ghost use Rattle.sect_points.specs.Sets.{spread_to, AreSitesOf, AreBelow};
+ghost use Rattle.sect_points.specs.declared.holders.ThreadAction.{ThreadAction};
 ghost use Rattle.sect_points.specs.declared.holders.Holder.{Holder};
 ghost use Rattle.sect_points.specs.declared.holders.Holder.TheVariants.{Local, Slot};
 ghost use Rattle.sect_points.specs.steps.Solving.{FitsValue, FitsBase, FitsAction, AllFit};

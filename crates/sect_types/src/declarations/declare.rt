@@ -168,7 +168,7 @@ pub fn fields(
     ensures few { OnOk result (length list.now ≤ most_fields) }
     ensures known { OnOk result (all_known (names_of_records tree.now.records) list.now ≡ true) }
 {
-    let mut names = Names::new(alloc);
+    let mut names = Names::with_room(alloc, list.len())?;
     for field in list {
         pass(tree, known, &mut names, spot, Declared::Field(*field))?;
     }
@@ -226,7 +226,7 @@ pub fn records(
     ensures fine { OnOk result (fields_fine (names_of_records tree.now.records) tree.now.records
         ≡ true) }
 {
-    let mut names = Names::new(alloc);
+    let mut names = Names::with_room(alloc, tree.records().len())?;
     let mut field_names = Vec::new(alloc);
     for of in tree.records() {
         match whole_record(alloc, tree, known, &mut names, spot, of) {
@@ -254,7 +254,7 @@ pub fn globals(
     ensures known { OnOk result (globals_known (names_of_records tree.now.records)
         tree.now.globals ≡ true) }
 {
-    let mut names = Names::new(alloc);
+    let mut names = Names::with_room(alloc, tree.globals().len())?;
     for global in tree.globals() {
         pass(tree, known, &mut names, spot, Declared::Global(*global))?;
     }
@@ -276,7 +276,7 @@ pub fn locals(
     ensures few { OnOk result (length list.now ≤ most_locals) }
     ensures known { OnOk result (all_known (names_of_records tree.now.records) list.now ≡ true) }
 {
-    let mut names = Names::new(alloc);
+    let mut names = Names::with_room(alloc, list.len())?;
     for local in list {
         let taken = shown.global_names.has(&local.name);
         let declared = Declared::Local(*local, taken);

@@ -1,6 +1,6 @@
 //! Names by their numbers.
 
-ghost use Rattle.std.specs.Prelude.{◌≡◌, ◌<◌, ◌++◌, ◌∷◌, [], OnOk, OnErr, IfSome, false, length};
+ghost use Rattle.std.specs.Prelude.{◌≡◌, ◌<◌, ◌++◌, ◌∷◌, [], OnOk, OnErr, IfOk, IfSome, false, length};
 ghost use Rattle.sect_types.specs.Sight.{place, added, has_name, same_name};
 
 use indexmap::IndexSet;
@@ -27,6 +27,16 @@ fn place_among(names: &[Name], name: &Name) -> Option<usize>
     ensures within { IfSome result (λ number. number < length names.now) }
 {
     names.iter().position(|other| are_same(name, other))
+}
+
+/// Whether a name is in a set.
+fn has(set: &IndexSet<Name>, name: &Name) -> bool
+    ensures { result ≡ has_name name.now set.now.keys }
+{
+    if set.len() <= FEW_NAMES {
+        return set.as_slice().iter().any(|other| are_same(name, other));
+    }
+    set.contains(name)
 }
 
 /// Different names, numbered from 0 in the order in which they were first seen.
@@ -61,6 +71,15 @@ impl Names {
         }
     }
 
+    /// No names, and room for so many.
+    pub fn with_room(alloc: Global, count: usize) -> Result<Names, AllocError>
+        ensures { IfOk result (λ names. names ≡ []) }
+    {
+        Ok(Names {
+            set: IndexSet::with_capacity(alloc, count)?,
+        })
+    }
+
     /// The number of a name.
     pub fn number_of(&self, name: &Name) -> Option<u16>
         ensures { result ≡ place name.now self.now }
@@ -77,7 +96,7 @@ impl Names {
     pub fn has(&self, name: &Name) -> bool
         ensures { result ≡ has_name name.now self.now }
     {
-        self.set.contains(name)
+        has(&self.set, name)
     }
 
     /// How many names there are.
@@ -132,7 +151,7 @@ impl NameSet {
     pub fn has(&self, name: &Name) -> bool
         ensures { result ≡ has_name name.now self.now }
     {
-        self.set.contains(name)
+        has(&self.set, name)
     }
 
     /// Adds a name unless it is there.

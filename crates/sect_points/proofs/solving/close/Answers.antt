@@ -1,7 +1,8 @@
 use Rattle.std.proofs.Common.{◌≡◌, arith, subst, sym, ap, ◌∙◌, length, get_or}
 use Rattle.sect_lemmas.specs.Lists.{Has}
 use Rattle.sect_lemmas.proofs.Membership.{Has-get_or}
-use Rattle.sect_points.proofs.{MarkLaws.{fits_after}, RoundLaws.{starting_none, starting_past, starting_more, started, arrived}}
+use Rattle.sect_points.proofs.{MarkLaws.{fits_after}, RoundLaws.{starting_none, starting_past, starting_more}}
+use Rattle.sect_points.proofs.RoundLaws.{started, arrived}
 use Rattle.sect_points.proofs.solving.close.Goals as goal
 
 pub loop-placed-init : goal.loop-placed-init

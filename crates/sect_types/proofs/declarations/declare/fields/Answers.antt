@@ -21,8 +21,8 @@ returns-in_err-pass-clause-walks c =
     let x = c.field-item.result in
     let names = c.loop-field.names in
     let e = c.in_err-pass.field-0.0 in
-    handed_on d (field_items [] c.args.list.now) c.args.spot.now c.pass.new.spot e c.from_residual.result
-    c.from_residual.ensures.1
+    handed_on d (field_items [] c.args.list.now) c.args.spot.now c.pass.new.spot e c.from_residual-in_err-pass.result
+    c.from_residual-in_err-pass.ensures.1
     (fault_after d (field_items [] c.args.list.now) (λ w. AField x.kind x.name names ∷ w)
     (field_items (names ++ x.name ∷ []) (drop (c.loop-field.field-index + 1) c.args.list.now))
     c.args.spot.now c.loop-field.spot c.pass.new.spot e

@@ -22,8 +22,8 @@ returns-in_err-pass-clause-walks c =
     let names = c.loop-global.names in
     let e = c.in_err-pass.field-0.0 in
     handed_on d (global_items [] c.args.tree.now.globals) c.args.spot.now c.pass.new.spot e
-    c.from_residual.result
-    c.from_residual.ensures.1
+    c.from_residual-in_err-pass.result
+    c.from_residual-in_err-pass.ensures.1
     (fault_after d (global_items [] c.args.tree.now.globals) (λ w. AGlobal x.of x.name names ∷ w)
     (global_items (names ++ x.name ∷ []) (drop (c.loop-global.global-index + 1) c.globals-global-items.result.now))
     c.args.spot.now c.loop-global.spot c.pass.new.spot e

@@ -20,8 +20,8 @@ returns-in_err-pass-clause-walks c =
     let x = c.local-item.result in
     let names = c.loop-local.names in
     let e = c.in_err-pass.field-0.0 in
-    handed_on d (local_items [] c.args.list.now) c.args.spot.now c.pass.new.spot e c.from_residual.result
-    c.from_residual.ensures.1
+    handed_on d (local_items [] c.args.list.now) c.args.spot.now c.pass.new.spot e c.from_residual-in_err-pass.result
+    c.from_residual-in_err-pass.ensures.1
     (fault_after d (local_items [] c.args.list.now) (λ w. ALocal x.kind x.name names ∷ w)
     (local_items (names ++ x.name ∷ []) (drop (c.loop-local.local-index + 1) c.args.list.now))
     c.args.spot.now c.loop-local.spot c.pass.new.spot e

@@ -14,4 +14,5 @@ mod Staying
 mod Starting
 mod Chaining
 mod Linking
+mod Following
 pub mod shared

@@ -3,36 +3,18 @@ use Rattle.std.proofs.Common.{◌≡◌, ℕ, ◌+◌, ◌<◌, List, [], ◌∷
 use Rattle.std.proofs.{Common.{subst}, lemmas.List.{map-append, take_more}}
 use Rattle.std.specs.Prelude.{map}
 use Rattle.sect_lemmas.specs.Lists.{Has}
-use Rattle.sect_lemmas.proofs.{Membership.{Has-cases, Has-get_or}, Listing.{Has-map}}
+use Rattle.sect_lemmas.proofs.Membership.{Has-cases}
 use Rattle.sect_names.specs.declared.lock.Lock.{Lock}
 use Rattle.sect_chains.specs.declared.numbered.NumberedStep.{NumberedStep}
-use Rattle.sect_chains.specs.Numbered.{links_by, HaveLocks, AllHaveLocks}
+use Rattle.sect_chains.specs.Numbered.{links_by}
 
 -- what has a property, and one more
-all_has_more : {X : Type 0} (P : X → Type 0) (xs : List X) (x : X) → ((y : X) → Has xs y → P y) → P x
+pub all_has_more : {X : Type 0} (P : X → Type 0) (xs : List X) (x : X) → ((y : X) → Has xs y → P y) → P x
     → (y : X) → Has (xs ++ x ∷ []) y → P y
 all_has_more P xs x all here y h = elim (Has-cases xs (x ∷ []) y h) [
   | inl old ↦ all y old
   | inr one ↦ elim one [ inl e ↦ subst P e here | inr none ↦ absurd none ]
 ]
-
--- one step more
-pub locks_more : (keys : List Lock) (steps : List NumberedStep) (x : NumberedStep) → HaveLocks keys steps
-    → x.number < length keys → HaveLocks keys (steps ++ x ∷ [])
-locks_more keys steps x have here = all_has_more (λ (y : NumberedStep). y.number < length keys) steps x have here
-
--- one chain more
-pub all_locks_more : {V : Type 0} (f : V → List NumberedStep) (keys : List Lock) (chains : List V) (x : V)
-    → AllHaveLocks keys (map f chains) → HaveLocks keys (f x) → AllHaveLocks keys (map f (chains ++ x ∷ []))
-all_locks_more f keys chains x all here =
-    subst (AllHaveLocks keys) (sym (map-append f chains (x ∷ [])))
-    (all_has_more (HaveLocks keys) (map f chains) (f x) all here)
-
--- the locks of one of the chains are there
-pub have_at : {V : Type 0} (f : V → List NumberedStep) (keys : List Lock) (chains : List V) (i : ℕ) (x : V)
-    → AllHaveLocks keys (map f chains) → i < length chains → x ≡ get_or chains i x → HaveLocks keys (f x)
-have_at f keys chains i x all within is =
-    all (f x) (Has-map f chains x (subst (Has chains) (sym is) (Has-get_or chains i x within)))
 
 -- what chains stand for, with one more
 pub linked_more : {V : Type 0} (f : V → List NumberedStep) (keys : List Lock) (chains : List V) (x : V)

@@ -25,7 +25,3 @@ chains_in v = map (links_by v.keys) v.chains
 -- the locks of the steps are there
 abbrev pub HaveLocks : List Lock → List NumberedStep → Type 0
 HaveLocks keys steps = (x : NumberedStep) → Has steps x → x.number < length keys
-
--- so are those of all chains
-abbrev pub AllHaveLocks : List Lock → List (List NumberedStep) → Type 0
-AllHaveLocks keys chains = (steps : List NumberedStep) → Has chains steps → HaveLocks keys steps

@@ -4,4 +4,5 @@ pub mod Marking
 pub mod Keeping
 pub mod Working
 pub mod Starting
+pub mod Following
 pub mod Ordering

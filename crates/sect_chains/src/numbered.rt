@@ -2,9 +2,12 @@
 
 ghost use Rattle.std.specs.Prelude.{◌≡◌, ◌<◌, List, length, map, slice_get, Some, IfOk};
 ghost use Rattle.sect_chains.specs.declared.numbered.NumberedStep.{NumberedStep};
-ghost use Rattle.sect_chains.specs.Numbered.{chains_in, links_by, HaveLocks, AllHaveLocks};
+ghost use Rattle.sect_chains.specs.{Numbered.{chains_in, links_by, HaveLocks}};
+ghost use Rattle.sect_chains.specs.steps.Following.{chain_from, AreChained};
 
 use crate::chain::Chain;
+use crate::keep::KeptLink;
+use crate::trail::steps_from;
 use sect_infer::Numbering;
 use sect_names::{Link, Lock};
 use std::alloc::{AllocError, Global};
@@ -19,18 +22,20 @@ pub struct NumberedStep {
 }
 
 /// Chains whose steps have their locks by number, and the locks with these numbers, each once. Steps with one number
-/// have one lock, and a step is small.
+/// have one lock. A step that many chains have is kept once, with the one to which it links.
 #[derive(Drop)]
 pub struct NumberedChains {
     numbering: Numbering,
-    chains: Vec<Vec<NumberedStep>>,
+    steps: Vec<KeptLink>,
+    starts: Vec<usize>,
 }
 
 impl Model for NumberedChains {
     ghost use Rattle.std.specs.Prelude.{map};
     ghost use Rattle.std.specs.Coded.{codes};
     ghost use Rattle.sect_points.specs.Paths.{path_code};
-    ghost use Rattle.sect_chains.specs.Numbered.{NumberedView, AllHaveLocks};
+    ghost use Rattle.sect_chains.specs.Numbered.{NumberedView};
+    ghost use Rattle.sect_chains.specs.steps.Following.{chain_from, AreChained};
 
     ghost Value = { NumberedView };
 
@@ -38,27 +43,35 @@ impl Model for NumberedChains {
 
     ghost view = { λ c. record {
       keys = c.numbering.keys;
-      chains = map (λ v. v.items) c.chains.items;
+      chains = map (chain_from c.steps.items) c.starts.items;
     } };
 
-    ghost invariant = { λ c. AllHaveLocks c.numbering.keys (map (λ v. v.items) c.chains.items) };
+    ghost invariant = { λ c. AreChained c.numbering.keys c.steps.items c.starts.items };
 }
 
 impl NumberedChains {
-    /// Chains of which each step's lock has its number in the numbering.
-    pub(crate) fn of(numbering: Numbering, chains: Vec<Vec<NumberedStep>>) -> NumberedChains
-        requires { AllHaveLocks numbering.keys (map (λ v. v.items) chains.items) }
+    /// The chains that begin with the steps at these indices, each of which goes on with the step to which it links.
+    pub(crate) fn of(
+        numbering: Numbering,
+        steps: Vec<KeptLink>,
+        starts: Vec<usize>,
+    ) -> NumberedChains
+        requires { AreChained numbering.keys steps.items starts.items }
         ensures keys { result.keys ≡ numbering.keys }
-        ensures chains { result.chains ≡ map (λ v. v.items) chains.items }
+        ensures chains { result.chains ≡ map (chain_from steps.items) starts.items }
     {
-        NumberedChains { numbering, chains }
+        NumberedChains {
+            numbering,
+            steps,
+            starts,
+        }
     }
 
     /// How many chains there are.
     pub fn len(&self) -> usize
         ensures { result ≡ length self.now.chains }
     {
-        self.chains.len()
+        self.starts.len()
     }
 
     /// How many locks have a number.
@@ -77,12 +90,12 @@ impl NumberedChains {
     }
 
     /// The steps of a chain, in order.
-    pub fn chain(&self, index: usize) -> &[NumberedStep]
+    pub fn chain(&self, alloc: Global, index: usize) -> Result<Vec<NumberedStep>, AllocError>
         requires { index < length self.now.chains }
-        ensures steps { slice_get self.now.chains index ≡ Some result.now }
-        ensures numbers { HaveLocks self.now.keys result.now }
+        ensures steps { IfOk result (λ steps. slice_get self.now.chains index ≡ Some steps.items) }
+        ensures numbers { IfOk result (λ steps. HaveLocks self.now.keys steps.items) }
     {
-        self.chains[index].as_slice()
+        steps_from(alloc, self.steps.as_slice(), self.starts[index])
     }
 
     /// Steps, each with its lock.
@@ -106,7 +119,8 @@ impl NumberedChains {
     {
         let mut chains = Vec::with_capacity(alloc, self.len())?;
         for index in 0..self.len() {
-            let links = self.links(alloc, self.chain(index))?;
+            let steps = self.chain(alloc, index)?;
+            let links = self.links(alloc, steps.as_slice())?;
             chains.push(Chain::of(links))?;
         }
         Ok(chains)

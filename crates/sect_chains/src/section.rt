@@ -8,14 +8,14 @@ ghost use Rattle.sect_names.specs.{declared.lock.Lock.{Lock}, Needed.{end_locks,
 ghost use Rattle.sect_names.specs.Laws.{AreLawful};
 ghost use Rattle.sect_infer.specs.{Sets.{AreLocksOf}, Numbers.{AreApart}};
 ghost use Rattle.sect_chains.specs.{Chains.{AreChains}, declared.keep.KeptLink.{KeptLink}};
-ghost use Rattle.sect_chains.specs.Numbered.{chains_in, links_by, HaveLocks};
-ghost use Rattle.sect_chains.specs.steps.{Trails.{RespectCover, AreTops, GoBack, AreFromEntry}, Starting.{AreStarts}};
-ghost use Rattle.sect_chains.specs.steps.Working.{links_of, nexts_of};
+ghost use Rattle.sect_chains.specs.Numbered.{chains_in};
+ghost use Rattle.sect_chains.specs.steps.{Trails.{RespectCover, AreTops}, Starting.{AreStarts}};
+ghost use Rattle.sect_chains.specs.steps.Working.{links_of};
 
 use crate::chain::Chain;
-use crate::numbered::{NumberedChains, NumberedStep};
+use crate::numbered::NumberedChains;
 use crate::starts::starts_of;
-use crate::trail::{steps_from, trail_of};
+use crate::trail::trail_of;
 use crate::work::{Searched, Trail};
 use sect_front::Locking;
 use sect_infer::Locks;
@@ -146,29 +146,22 @@ fn found(alloc: Global, section: Searched<'_>, locks: &[Lock]) -> Result<Numbere
     let starts = starts_of(alloc, &trail)?;
     let mut chains = Vec::with_capacity(alloc, locks.len())?;
     for lock in locks {
-        chains.push(chain_of(alloc, &trail, &starts, lock)?)?;
+        chains.push(start_of(&trail, &starts, lock))?;
     }
-    Ok(NumberedChains::of(trail.numbering, chains))
+    Ok(NumberedChains::of(trail.numbering, trail.steps, chains))
 }
 
-/// The chain of a lock that is needed at the entry.
-fn chain_of(
-    alloc: Global,
-    trail: &Trail,
-    starts: &Vec<Option<usize>>,
-    lock: &Lock,
-) -> Result<Vec<NumberedStep>, AllocError>
-    requires back { GoBack (links_of trail.now.numbering.keys trail.now.steps.items) (nexts_of trail.now.steps.items) }
+/// Where the chain of a lock that is needed at the entry begins.
+fn start_of(trail: &Trail, starts: &Vec<Option<usize>>, lock: &Lock) -> usize
     requires numbers { (x : KeptLink) → Has trail.now.steps.items x → x.number < length trail.now.numbering.keys }
     requires apart { AreApart trail.now.numbering.keys }
     requires starts { AreStarts (length trail.now.numbering.keys) trail.now.steps.items (length trail.now.steps.items)
         starts.now.items }
     requires there { Has (links_of trail.now.numbering.keys trail.now.steps.items) (link 0 lock.now) }
-    ensures steps { IfOk result (λ steps. AreFromEntry (links_of trail.now.numbering.keys trail.now.steps.items)
-        (nexts_of trail.now.steps.items) lock.now (links_by trail.now.numbering.keys steps.items)) }
-    ensures locks { IfOk result (λ steps. HaveLocks trail.now.numbering.keys steps.items) }
+    ensures within { result < length trail.now.steps.items }
+    ensures first { slice_get (links_of trail.now.numbering.keys trail.now.steps.items) result
+        ≡ Some (link 0 lock.now) }
 {
     let number = trail.numbering.find(lock).unwrap();
-    let start = starts[number].unwrap();
-    steps_from(alloc, trail, start)
+    starts[number].unwrap()
 }

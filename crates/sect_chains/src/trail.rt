@@ -1,14 +1,12 @@
 //! What is needed at the nodes of a section's graph, with where each lock was carried back from.
 
-ghost use Rattle.std.specs.Prelude.{◌≡◌, ◌<◌, ◌≤◌, length, slice_get, Some, IfOk};
-ghost use Rattle.sect_lemmas.specs.Lists.{Has};
-ghost use Rattle.sect_chains.specs.declared.keep.KeptLink.{KeptLink};
+ghost use Rattle.std.specs.Prelude.{◌≡◌, ◌<◌, ◌≤◌, length, IfOk};
 ghost use Rattle.sect_names.specs.Laws.{AreLawful};
-ghost use Rattle.sect_chains.specs.steps.{Trails.{RespectCover, GoBack, AreFrom}, Working.{links_of, nexts_of}};
+ghost use Rattle.sect_chains.specs.steps.{Trails.{RespectCover}, Following.{LinkBack, numbered, chain_from}};
 ghost use Rattle.sect_chains.specs.steps.Ordering.{IsSearched};
-ghost use Rattle.sect_chains.specs.Numbered.{step_link, links_by, HaveLocks};
 ghost use Rattle.sect_graph.specs.Predecessors.{StaysWithin};
 
+use crate::keep::KeptLink;
 use crate::numbered::NumberedStep;
 use crate::work::{Searched, Trail};
 use sect_graph::predecessors_of;
@@ -38,15 +36,10 @@ pub fn trail_of(alloc: Global, section: Searched<'_>) -> Result<Trail, AllocErro
     Ok(trail)
 }
 
-/// The step at an index.
-fn step_at(trail: &Trail, index: usize) -> NumberedStep
-    requires index { index < length trail.now.steps.items }
-    requires numbers { (x : KeptLink) → Has trail.now.steps.items x → x.number < length trail.now.numbering.keys }
-    ensures link { slice_get (links_of trail.now.numbering.keys trail.now.steps.items) index
-        ≡ Some (step_link trail.now.numbering.keys result) }
-    ensures lock { result.number < length trail.now.numbering.keys }
+/// A step, without the one to which it links.
+fn numbered(step: KeptLink) -> NumberedStep
+    ensures { result ≡ numbered step }
 {
-    let step = trail.steps[index];
     NumberedStep {
         node: step.node,
         number: step.number,
@@ -54,14 +47,14 @@ fn step_at(trail: &Trail, index: usize) -> NumberedStep
 }
 
 /// How many steps stand behind the one at an index, up to where a lock is generated.
-fn steps_behind(trail: &Trail, start: usize) -> usize
-    requires back { GoBack (links_of trail.now.numbering.keys trail.now.steps.items) (nexts_of trail.now.steps.items) }
-    requires there { start < length trail.now.steps.items }
+fn steps_behind(steps: &[KeptLink], start: usize) -> usize
+    requires back { LinkBack steps.now }
+    requires there { start < length steps.now }
     ensures { result ≤ start }
 {
     let mut count = 0usize;
     let mut at = start;
-    while let Some(next) = trail.steps[at].next {
+    while let Some(next) = steps[at].next {
         count += 1;
         at = next;
     }
@@ -71,22 +64,19 @@ fn steps_behind(trail: &Trail, start: usize) -> usize
 /// The steps from the one at an index on, to where a lock is generated.
 pub fn steps_from(
     alloc: Global,
-    trail: &Trail,
+    steps: &[KeptLink],
     start: usize,
 ) -> Result<Vec<NumberedStep>, AllocError>
-    requires back { GoBack (links_of trail.now.numbering.keys trail.now.steps.items) (nexts_of trail.now.steps.items) }
-    requires numbers { (x : KeptLink) → Has trail.now.steps.items x → x.number < length trail.now.numbering.keys }
-    requires there { start < length trail.now.steps.items }
-    ensures steps { IfOk result (λ steps. AreFrom (links_of trail.now.numbering.keys trail.now.steps.items)
-        (nexts_of trail.now.steps.items) start (links_by trail.now.numbering.keys steps.items)) }
-    ensures locks { IfOk result (λ steps. HaveLocks trail.now.numbering.keys steps.items) }
+    requires back { LinkBack steps.now }
+    requires there { start < length steps.now }
+    ensures { IfOk result (λ chain. chain.items ≡ chain_from steps.now start) }
 {
-    let mut steps = Vec::with_capacity(alloc, steps_behind(trail, start) + 1)?;
+    let mut chain = Vec::with_capacity(alloc, steps_behind(steps, start) + 1)?;
     let mut at = start;
-    while let Some(next) = trail.steps[at].next {
-        steps.push(step_at(trail, at))?;
+    while let Some(next) = steps[at].next {
+        chain.push(numbered(steps[at]))?;
         at = next;
     }
-    steps.push(step_at(trail, at))?;
-    Ok(steps)
+    chain.push(numbered(steps[at]))?;
+    Ok(chain)
 }

@@ -122,10 +122,12 @@ fn carries_into(
         ↔ AreCarriedInto section.entry.scheme.now section.entry.thread label above.entry.locks.now
         list.entry.locks.now) }
 {
-    let change = Change::of(section.thread, &label);
+    if list.held && Change::of(section.thread, &label).leaves_all() {
+        return Ok(true);
+    }
     let mut place = 0;
     for lock in list.locks {
-        if change.leaves(lock) && is_known(above, list.held, &mut place, lock) {
+        if stays(section.thread, &label, lock) && is_known(above, list.held, &mut place, lock) {
             continue;
         }
         if !is_carried_into(alloc, section, &label, above, lock)? {

@@ -327,9 +327,10 @@ pub fn chains_of(
     let mut known = KnownLocks::new(alloc, chains.lock_count())?;
     let mut list = Vec::with_capacity(alloc, chains.len())?;
     for lock in 0..chains.len() {
+        let steps = chains.chain(alloc, lock)?;
         let chain = Spelled {
             chains,
-            steps: chains.chain(lock),
+            steps: steps.as_slice(),
             first: &entry[lock],
         };
         list.push(chain_of(alloc, program, &mut known, lock as u32, chain)?)?;

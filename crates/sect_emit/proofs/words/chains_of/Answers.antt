@@ -29,10 +29,11 @@ bounds-entry-lock c =
 pub chain_of-requires-clause-named : goal.chain_of-requires-clause-named
 chain_of-requires-clause-named c =
     let v = c.args.chains.now in
-    let links = links_by v.keys c.chain.result.now in
+    let links = links_by v.keys c.as_slice.result.now in
     let i = c.loop-lock.lock in
     let at : slice_get (chains_in v) i ≡ Some links = slice_get-map (links_by v.keys) v.chains i
-    ∙ ap (option_map (links_by v.keys)) c.chain.ensures.steps in
+    ∙ ap (option_map (links_by v.keys))
+    (c.in_ok-steps.ensures.steps ∙ ap (λ z. Some z) (sym c.as_slice.ensures.value)) in
     c.requires.named links (Has-slice_get (chains_in v) i links at)
 
 pub chain_of-requires-clause-first : goal.chain_of-requires-clause-first
@@ -40,11 +41,12 @@ chain_of-requires-clause-first c =
     let t = c.args.program.now.source in
     let v = c.args.chains.now in
     let entry = c.args.entry.now in
-    let links = links_by v.keys c.chain.result.now in
+    let links = links_by v.keys c.as_slice.result.now in
     let i = c.loop-lock.lock in
     let first = c.index-entry-lock.result in
     let at : slice_get (chains_in v) i ≡ Some links = slice_get-map (links_by v.keys) v.chains i
-    ∙ ap (option_map (links_by v.keys)) c.chain.ensures.steps in
+    ∙ ap (option_map (links_by v.keys))
+    (c.in_ok-steps.ensures.steps ∙ ap (λ z. Some z) (sym c.as_slice.ensures.value)) in
     let named = zipped_at (IsFirstNamed t) entry (chains_in v) c.requires.first i links at in
     let within : i < length entry = omega (
       arith,
@@ -77,11 +79,12 @@ chain_of-requires-clause-good c =
 pub loop-lock-preserved : goal.loop-lock-preserved
 loop-lock-preserved c =
     let v = c.args.chains.now in
-    let links = links_by v.keys c.chain.result.now in
+    let links = links_by v.keys c.as_slice.result.now in
     let i = c.loop-lock.lock in
     let made = c.in_ok-chain_of.field-0 in
     let at : slice_get (chains_in v) i ≡ Some links = slice_get-map (links_by v.keys) v.chains i
-    ∙ ap (option_map (links_by v.keys)) c.chain.ensures.steps in
+    ∙ ap (option_map (links_by v.keys))
+    (c.in_ok-steps.ensures.steps ∙ ap (λ z. Some z) (sym c.as_slice.ensures.value)) in
     let within : i < length (chains_in v) = omega
     (arith, c.loop-lock-test.true, c.len-lock-end.ensures, length-map v.chains (links_by v.keys)) in (
       next_chain c.args.program.now.source (chains_in v) i links made _ _ within

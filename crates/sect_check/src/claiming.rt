@@ -7,6 +7,7 @@ ghost use Rattle.sect_check.specs.steps.Resolving.{Resolves, Extends};
 
 use crate::claimed_links::ClaimedLinks;
 use crate::claims::{ChainClaim, Claims};
+use crate::covering::NEAR;
 use crate::locks::lock_of;
 use crate::naming::Naming;
 use crate::same::is_same_lock;
@@ -16,9 +17,6 @@ use sect_front::Items;
 use sect_graph::Flow;
 use sect_names::Lock;
 use std::alloc::Global;
-
-/// How many places of a list are searched for a lock.
-const NEAR: usize = 4;
 
 /// A list of a certificate, and the locks that it names.
 #[derive(Clone, Copy)]

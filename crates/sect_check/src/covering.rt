@@ -109,7 +109,7 @@ pub fn covers_each(scheme: &Scheme, above: Above<'_>, locks: &[Lock]) -> Result<
 }
 
 /// How many places of a list are searched for a lock.
-const NEAR: usize = 4;
+pub const NEAR: usize = 4;
 
 /// Whether a list has a lock at this place, or not far behind it. The place is then the one behind the lock.
 pub fn has_near(locks: &[Lock], place: &mut usize, lock: &Lock) -> bool

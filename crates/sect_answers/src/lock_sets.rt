@@ -5,14 +5,15 @@ ghost use Rattle.std.specs.String.{string_bytes};
 ghost use Rattle.sect_types.specs.Sections.{SectionView, sections_of};
 ghost use Rattle.sect_names.specs.{declared.lock.Lock.{Lock}, Schemes.{SchemeView}, Sources.{IsAccepted}};
 ghost use Rattle.sect_answers.specs.declared.refusal.Refusal.TheVariants.{Memory};
-ghost use Rattle.sect_answers.specs.Listing.{IsLeastInOrder, IsListing, AreSetsPrinted, section_line};
+ghost use Rattle.sect_answers.specs.Listing.{IsLeastInOrder, IsListing, IsSetsDocument, AreSetsPrinted, section_line};
 ghost use Rattle.sect_answers.specs.Answers.{IsAnswer, IsDue};
 
 use crate::format::Format;
 use crate::refusal::Refusal;
-use sect_emit::{Compiled, compile};
+use sect_emit::compile_scheme;
+use sect_infer::infer;
 use sect_json::locks_document;
-use sect_names::put_locks;
+use sect_names::{Scheme, accept, put_locks};
 use std::alloc::{AllocError, Global};
 use std::fmt::Write;
 
@@ -26,44 +27,57 @@ pub fn locks(alloc: Global, source: &[u8], k: u16, format: Format) -> Result<Str
     // A refusal is due, and it is the first that is.
     ensures refuses { IfErr result (IsDue source.now k) }
 {
-    let compiled = compile(alloc, source, k)?;
-    Ok(sets_printed(alloc, &compiled, format)?)
+    let scheme = accept(alloc, source, k)?;
+    Ok(sets_printed(alloc, scheme, format)?)
 }
 
 /// The lock sets of all sections, as they are printed.
-fn sets_printed(alloc: Global, compiled: &Compiled, format: Format) -> Result<String, AllocError>
-    ensures { IfOk result (λ text. AreSetsPrinted compiled.now.scheme format (string_bytes text)) }
+fn sets_printed(alloc: Global, scheme: Scheme, format: Format) -> Result<String, AllocError>
+    ensures { IfOk result (λ text. AreSetsPrinted scheme format (string_bytes text)) }
 {
-    compiled.facts();
     match format {
-        Format::Text => lines(alloc, compiled),
-        Format::Json => locks_document(alloc, compiled),
+        Format::Text => lines(alloc, &scheme),
+        Format::Json => sets_document(alloc, scheme),
     }
 }
 
-/// A line for each section of the program.
-fn lines(alloc: Global, compiled: &Compiled) -> Result<String, AllocError>
-    ensures { IfOk result (λ text. IsListing compiled.now.scheme
-        (length (sections_of compiled.now.scheme.program.texts)) (string_bytes text)) }
+/// The document of all sections' lock sets.
+fn sets_document(alloc: Global, scheme: Scheme) -> Result<String, AllocError>
+    ensures { IfOk result (λ text. IsSetsDocument scheme (string_bytes text)) }
+{
+    let compiled = compile_scheme(alloc, scheme)?;
+    compiled.facts();
+    locks_document(alloc, &compiled)
+}
+
+/// A line for each section of the program. What inference found of a section is let go before the next one.
+fn lines(alloc: Global, scheme: &Scheme) -> Result<String, AllocError>
+    ensures { IfOk result (λ text. IsListing scheme.now (length (sections_of scheme.now.program.texts))
+        (string_bytes text)) }
 {
     let mut text = String::new(alloc);
-    for section in 0..compiled.scheme().program().section_count() {
-        put_section(&mut text, compiled, section)?;
+    for section in 0..scheme.program().section_count() {
+        put_section(alloc, &mut text, scheme, section)?;
     }
     Ok(text)
 }
 
 /// Adds the line of a section.
-fn put_section(text: &mut String, compiled: &Compiled, section: u16) -> Result<(), AllocError>
-    requires { section < length (sections_of compiled.now.scheme.program.texts) }
-    ensures { OnOk result ((of : SectionView)
-        → slice_get (sections_of compiled.now.scheme.program.texts) section ≡ Some of
-        → (locks : List Lock) × IsLeastInOrder compiled.now.scheme section of locks × (string_bytes text.new
-        ≡ string_bytes text.old ++ section_line compiled.now.scheme.program.source section locks)) }
+fn put_section(
+    alloc: Global,
+    text: &mut String,
+    scheme: &Scheme,
+    section: u16,
+) -> Result<(), AllocError>
+    requires { section < length (sections_of scheme.now.program.texts) }
+    ensures { OnOk result ((of : SectionView) → slice_get (sections_of scheme.now.program.texts) section ≡ Some of
+        → (locks : List Lock) × IsLeastInOrder scheme.now section of locks
+        × (string_bytes text.new ≡ string_bytes text.old ++ section_line scheme.now.program.source section locks)) }
 {
-    compiled.facts();
+    scheme.facts();
+    let locks = infer(alloc, scheme, section)?;
     write!(text, "section {section}: ")?;
-    put_locks(text, compiled.scheme().program(), compiled.set(section))?;
+    put_locks(text, scheme.program(), locks.entry())?;
     text.push_str("\n")?;
     Ok(())
 }

@@ -3,4 +3,4 @@ use Rattle.sect_answers.specs.Listing.{IsListing}
 use Rattle.sect_answers.proofs.lock_sets.lines.Given as goal
 
 abbrev pub invariant-loop-section : goal.invariant-loop-section
-invariant-loop-section l = IsListing l.compiled.scheme l.section (string_bytes l.text)
+invariant-loop-section l = IsListing l.scheme l.section (string_bytes l.text)

@@ -1,34 +1,43 @@
-use Rattle.std.proofs.{Common.{◌≡◌, ◌++◌, List, ℕ, ap, ◌∙◌, sym, subst}, lemmas.List.{append_assoc}}
+-- What is needed at a section's entry is its least set, and what that names is there.
+use Rattle.std.proofs.{Common.{◌≡◌, ◌++◌, List, ℕ, ap, ◌∙◌, sym, subst, arith}, lemmas.List.{append_assoc}}
 use Rattle.std.specs.{Prelude.{codes}, Fmt.{decimal}, String.{string_bytes}}
-use Rattle.sect_types.specs.Programs.{ProgramView}
-use Rattle.sect_names.specs.{Schemes.{SchemeView}, Printing.{AreNamed, locks_text}}
-use Rattle.sect_emit.proofs.shared.Sets.{set_named}
+use Rattle.sect_lemmas.specs.Lists.{Has}
+use Rattle.sect_lemmas.proofs.Places.{at_of}
+use Rattle.sect_types.specs.{Programs.{ProgramView}, Sections.{sections_of}}
+use Rattle.sect_names.specs.{declared.lock.Lock.{Lock}, Printing.{AreNamed, locks_text}}
+use Rattle.sect_names.proofs.shared.Named.{named_lock}
+use Rattle.sect_answers.specs.Listing.{IsLeastInOrder}
 use Rattle.sect_answers.proofs.lock_sets.put_section.Goals as goal
 
 pub put_locks-requires : goal.put_locks-requires
 put_locks-requires c =
-    let set = c.set.result.now in
-    subst (λ (p : ProgramView). AreNamed p set)
-    (sym (c.program.ensures ∙ ap (λ (s : SchemeView). s.program) c.scheme.ensures))
-    (set_named c.args.compiled.now c.facts.ensures.compiled c.args.section set c.set.ensures)
+    let s = c.args.scheme.now in
+    let of = at_of (sections_of s.program.texts) c.args.section c.requires in
+    let g = at_of s.graphs.sections c.args.section (omega (arith, c.requires, c.facts.ensures.graphed.section_count)) in
+    let told = c.in_ok-locks.ensures.locks of.0 g.0 of.1 g.1 in
+    let named : AreNamed s.program c.in_ok-locks.field-0.entry = λ l has.
+    named_lock s of.0.thread l (c.in_ok-locks.ensures.lawful of.0 of.1 0 _ told.first l has) in
+    subst (λ (p : ProgramView). AreNamed p c.entry.result.now) (sym c.program.ensures)
+    (subst (AreNamed s.program) (sym c.entry.ensures) named)
 
 pub returns : goal.returns
 returns c = λ of at.
-    let program = c.args.compiled.now.scheme.program in
+    let s = c.args.scheme.now in
     let i = c.args.section in
-    let set = c.set.result.now in
+    let g = at_of s.graphs.sections i (omega (arith, c.requires, c.facts.ensures.graphed.section_count)) in
+    let told = c.in_ok-locks.ensures.locks of g.0 at g.1 in
+    let set = c.entry.result.now in
     let old = string_bytes c.args.text.now in
     let head : List ℕ = codes "section " ++ decimal i ++ codes ": " in
-    let locks = locks_text program.source set in
+    let locks = locks_text s.program.source set in
     let wrote : string_bytes c.write.new.self ≡ old ++ head = c.in_ok-write.ensures.bytes in
     let put : string_bytes c.put_locks.new.text ≡ string_bytes c.write.new.self ++ locks =
     subst (λ (p : ProgramView). string_bytes c.put_locks.new.text ≡ string_bytes c.write.new.self
-    ++ locks_text p.source set)
-    (c.program.ensures ∙ ap (λ (s : SchemeView). s.program) c.scheme.ensures) c.in_ok-put_locks.ensures in
+    ++ locks_text p.source set) c.program.ensures c.in_ok-put_locks.ensures in
     let pushed : string_bytes c.push_str.new.self ≡ string_bytes c.put_locks.new.text ++ codes "\n" =
     c.in_ok-push_str.ensures.bytes in (
       set,
-      c.facts.ensures.least i of set at c.set.ensures,
+      subst (IsLeastInOrder s i of) (sym c.entry.ensures) (told.least, told.in_order),
       pushed ∙ ap (λ (b : List ℕ). b ++ codes "\n")
           (put ∙ ap (λ (b : List ℕ). b ++ locks) wrote ∙ append_assoc old head locks)
           ∙ append_assoc old (head ++ locks) (codes "\n"),

@@ -19,7 +19,7 @@ use crate::known_locks::KnownLocks;
 use sect_cert::{CertBase, CertChain, CertLock, CertPath, CertStep, ChainSteps, Runs, SharedPath};
 use sect_chains::{NumberedChains, NumberedStep};
 use sect_front::Items;
-use sect_infer::Locks;
+use sect_infer::{Locks, Numbers};
 use sect_names::{Effect, Lock, Path, Right, field_name, precedes};
 use sect_points::Variable;
 use sect_types::Program;
@@ -338,11 +338,12 @@ pub fn chains_of(
     Ok(Items::from_vec(list))
 }
 
-/// The lists of nodes by their names, and the locks of the last.
+/// The lists of nodes by their names, the locks of the last, and room for the numbers of a node's.
 #[derive(Drop)]
 struct NamedLists<'a> {
     lists: Runs<Items<CertLock>>,
     last: Vec<&'a Lock>,
+    room: Numbers,
 }
 
 /// The last list, and its locks; where there is no list, none.
@@ -386,7 +387,7 @@ fn next_list<'a>(
         named.lists.push_again()?;
         return Ok(());
     }
-    let needed = locks.lent_at(alloc, node)?;
+    let needed = locks.lent_at(alloc, &mut named.room, node)?;
     let list = list_of(alloc, program, last_of(named), needed.as_slice())?;
     named.lists.push(list)?;
     named.last = needed;
@@ -408,6 +409,7 @@ pub fn lists_of(
     let mut named = NamedLists {
         lists: Runs::new(alloc),
         last: Vec::new(alloc),
+        room: Numbers::new(alloc),
     };
     for node in 0..count {
         next_list(alloc, program, locks, node, &mut named)?;

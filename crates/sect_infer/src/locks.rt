@@ -87,9 +87,11 @@ fn is_kept(numbering: &Numbering, numbers: &Numbers, number: usize) -> bool
     numbers.has(number) && !numbering.is_under(numbers, number)
 }
 
-/// Those of the locks with these numbers that no other of them covers, in canonical order, where they are kept.
+/// Those of the locks with these numbers that no other of them covers, in canonical order, where they are kept. The
+/// numbers take the place of those that stood in `found`.
 fn lent<'a>(
     alloc: Global,
+    found: &mut Numbers,
     numbering: &'a Numbering,
     order: &[usize],
     numbers: &[usize],
@@ -97,11 +99,11 @@ fn lent<'a>(
     requires { IsListable numbering.now order.now }
     ensures { IfOk result (λ locks. map deref locks.items ≡ listed numbering.now order.now numbers.now) }
 {
-    let mut found = Numbers::with_room(alloc, numbers.len(), numbering.len())?;
+    found.clear();
     found.insert_all(numbers)?;
     let mut locks = Vec::with_capacity(alloc, numbers.len())?;
     for number in order {
-        if is_kept(numbering, &found, *number) {
+        if is_kept(numbering, found, *number) {
             locks.push(numbering.lock(*number))?;
         }
     }
@@ -129,7 +131,8 @@ fn list(
     requires { IsListable numbering.now order.now }
     ensures { IfOk result (λ locks. locks.items ≡ listed numbering.now order.now numbers.now) }
 {
-    let locks = lent(alloc, numbering, order, numbers)?;
+    let mut found = Numbers::with_room(alloc, numbers.len(), numbering.len())?;
+    let locks = lent(alloc, &mut found, numbering, order, numbers)?;
     copies(alloc, locks.as_slice())
 }
 
@@ -172,13 +175,20 @@ impl Locks {
         )
     }
 
-    /// The locks of a node as `at` gives them, where they are kept.
-    pub fn lent_at(&self, alloc: Global, node: u16) -> Result<Vec<&Lock>, AllocError>
+    /// The locks of a node as `at` gives them, where they are kept. `room` is written to, so that it may serve for one
+    /// node after another.
+    pub fn lent_at(
+        &self,
+        alloc: Global,
+        room: &mut Numbers,
+        node: u16,
+    ) -> Result<Vec<&Lock>, AllocError>
         requires { node < length self.now.at }
         ensures { IfOk result (λ locks. slice_get self.now.at node ≡ Some (map deref locks.items)) }
     {
         lent(
             alloc,
+            room,
             &self.numbering,
             self.order.as_slice(),
             self.lists.of(node),

@@ -30,7 +30,7 @@ loop-number-preserved c =
     let is = get_or_default order i 0 n within in
     let once : List ℕ = with_numbers [] c.args.numbers.now in
     let found : c.insert_all.new.self ≡ once = c.in_ok-insert_all.ensures
-    ∙ ap (λ ns. with_numbers ns c.args.numbers.now) c.in_ok-found.ensures in
+    ∙ ap (λ ns. with_numbers ns c.args.numbers.now) c.clear.ensures in
     let p : ℕ → Bool = is_kept c.args.numbering.now.above once in
     let test : c.is_kept.result ≡ p n = c.is_kept.ensures ∙ ap (λ ns. is_kept c.args.numbering.now.above ns n) found in
     elim c.if-is_kept.branch [

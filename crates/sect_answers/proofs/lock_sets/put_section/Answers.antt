@@ -15,10 +15,10 @@ put_locks-requires c =
     let of = at_of (sections_of s.program.texts) c.args.section c.requires in
     let g = at_of s.graphs.sections c.args.section (omega (arith, c.requires, c.facts.ensures.graphed.section_count)) in
     let told = c.in_ok-locks.ensures.locks of.0 g.0 of.1 g.1 in
-    let named : AreNamed s.program c.in_ok-locks.field-0.entry = λ l has.
-    named_lock s of.0.thread l (c.in_ok-locks.ensures.lawful of.0 of.1 0 _ told.first l has) in
-    subst (λ (p : ProgramView). AreNamed p c.entry.result.now) (sym c.program.ensures)
-    (subst (AreNamed s.program) (sym c.entry.ensures) named)
+    let named : AreNamed s.program c.entry.result.now = λ l has.
+    named_lock s of.0.thread l (c.in_ok-locks.ensures.lawful of.0 of.1 0 _ told.first l
+    (subst (λ (ls : List Lock). Has ls l) c.entry.ensures has)) in
+    subst (λ (p : ProgramView). AreNamed p c.entry.result.now) (sym c.program.ensures) named
 
 pub returns : goal.returns
 returns c = λ of at.

@@ -1,4 +1,4 @@
-use Rattle.std.proofs.{Common.{subst}, lemmas.Result.{IfOk-weaker}}
+use Rattle.std.proofs.{Common.{IfOk, subst}, lemmas.Result.{IfOk-weaker}}
 use Rattle.std.specs.String.{string_bytes}
 use Rattle.sect_names.specs.Schemes.{SchemeView}
 use Rattle.sect_answers.specs.Listing.{IsSetsDocument}
@@ -6,12 +6,11 @@ use Rattle.sect_answers.proofs.lock_sets.sets_document.Goals as goal
 
 pub returns : goal.returns
 returns c =
-    let v = c.in_ok-compiled.field-0 in
     subst (λ (s : SchemeView). IfOk c.locks_document.result (λ text. IsSetsDocument s (string_bytes text)))
     c.in_ok-compiled.ensures.compiled.0
     (IfOk-weaker c.locks_document.result _ _
     (λ text h. record {
-      sets = v.sets;
+      sets = _;
       each = c.facts.ensures.least;
       counted = c.facts.ensures.compiled.set_count;
       printed = h;

@@ -1,24 +1,12 @@
 -- Where the steps of the first node stand.
-use Rattle.std.proofs.Common.{◌≡◌, ◌⊎◌, ℕ, zero, suc, ◌+◌, ◌<◌, List, [], ◌∷◌, Option, Some, None, set, length, inl}
+use Rattle.std.proofs.Common.{◌≡◌, ℕ, zero, suc, ◌+◌, ◌<◌, List, [], ◌∷◌, Option, Some, None, set, length, inl}
 use Rattle.std.proofs.{Common.{inr, refl, sym, ap, ◌∙◌, subst, arith}, lemmas.Bool.{cases_eq, cases_lt}}
 use Rattle.std.proofs.lemmas.List.{length-set}
 use Rattle.std.specs.Prelude.{slice_get}
 use Rattle.sect_lemmas.specs.Lists.{Has}
-use Rattle.sect_lemmas.proofs.{Membership.{Has-slice_get}, Places.{one_at}}
+use Rattle.sect_lemmas.proofs.{Membership.{Has-slice_get}, Places.{one_at}, Replaced.{set_cases}}
 use Rattle.sect_chains.specs.declared.keep.KeptLink.{KeptLink}
 use Rattle.sect_chains.specs.steps.Starting.{AreStarts}
-
--- what stands in a list of which one element was set
-set_at : {X : Type 0} (xs : List X) (n : ℕ) (x : X) (i : ℕ) (y : X) → slice_get (set xs n x) i ≡ Some y
-    → ((i ≡ n) × (x ≡ y)) ⊎ (slice_get xs i ≡ Some y)
-set_at [] n x i y at = inr at
-set_at (z ∷ zs) zero x zero y at = inl (refl, cc)
-set_at (z ∷ zs) zero x (suc i) y at = inr at
-set_at (z ∷ zs) (suc n) x zero y at = inr at
-set_at (z ∷ zs) (suc n) x (suc i) y at = elim (set_at zs n x i y at) [
-  | inl e ↦ inl (ap suc e.0, e.1)
-  | inr h ↦ inr h
-]
 
 set_here : {X : Type 0} (xs : List X) (n : ℕ) (x : X) → n < length xs → slice_get (set xs n x) n ≡ Some x
 set_here [] n x within = absurd (omega (arith, within))
@@ -48,7 +36,7 @@ module _ (count : ℕ) (steps : List KeptLink) (i : ℕ) (starts : List (Option 
   pub starts_put : x.node ≡ 0 → x.number < count → AreStarts count steps (i + 1) (set starts x.number (Some i))
   starts_put first within = record {
     counted = length-set starts x.number (Some i) ∙ before.counted;
-    right = λ n k got. elim (set_at starts x.number (Some i) n (Some k) got) [
+    right = λ n k got. elim (set_cases starts x.number (Some i) n (Some k) got) [
       | inl e ↦ (let same : i ≡ k = (let f = e.1 in cc) in
           (x, subst (λ j. slice_get steps j ≡ Some x) same at, first, sym e.0))
       | inr old ↦ before.right n k old

@@ -1,6 +1,6 @@
 -- Lists with one element replaced.
 use Rattle.std.proofs.Common.{true≢false, ◌≡◌, ◌≢◌, ◌⊎◌, inl, inr, ℕ, zero, suc, List, [], ◌∷◌, length, map, Option}
-use Rattle.std.proofs.Common.{Some, None, Bool, true, false, refl, sym, ap, ◌∙◌, subst, if◌then◌else◌, slice_get}
+use Rattle.std.proofs.Common.{Some, None, Bool, true, false, refl, sym, ap, ◌∙◌, subst, if◌then◌else◌, slice_get, set}
 use Rattle.sect_lemmas.specs.{Lists.{changed_at, put_at}, Numbers.{same_number}}
 use Rattle.sect_lemmas.proofs.{Options.{some_injective, none_or_some, mapped}, Booleans.{either_way}}
 
@@ -12,6 +12,18 @@ get-changed_at zero zero g (x ∷ xs) = refl
 get-changed_at zero (suc m) g (x ∷ xs) = refl
 get-changed_at (suc n) zero g (x ∷ xs) = refl
 get-changed_at (suc n) (suc m) g (x ∷ xs) = get-changed_at n m g xs
+
+-- what is read of a list of which one element was set is what was put there, or what stood there
+pub set_cases : {A : Type 0} (xs : List A) (n : ℕ) (x : A) (i : ℕ) (y : A) → slice_get (set xs n x) i ≡ Some y
+    → ((i ≡ n) × (x ≡ y)) ⊎ (slice_get xs i ≡ Some y)
+set_cases [] n x i y at = inr at
+set_cases (z ∷ zs) zero x zero y at = inl (refl, some_injective x y at)
+set_cases (z ∷ zs) zero x (suc i) y at = inr at
+set_cases (z ∷ zs) (suc n) x zero y at = inr at
+set_cases (z ∷ zs) (suc n) x (suc i) y at = elim (set_cases zs n x i y at) [
+  | inl e ↦ inl (ap suc e.0, e.1)
+  | inr h ↦ inr h
+]
 
 -- the list stays as long
 pub length-changed_at : {A : Type 0} → (n : ℕ) (g : A → A) (xs : List A) → length (changed_at n g xs) ≡ length xs

@@ -1,6 +1,6 @@
 -- Calls that lead from one procedure to another.
-use Rattle.std.proofs.Common.{◌≡◌, ◌⊎◌, ◌<◌, ℕ, zero, suc, Bool, true, false, List, [], ◌∷◌, ◌++◌, Option, Some, None}
-use Rattle.std.proofs.Common.{length, refl, sym, ap, ◌∙◌, subst, inl, inr, set, slice_get, get_or, cond, arith}
+use Rattle.std.proofs.Common.{◌≡◌, ◌<◌, ℕ, zero, suc, Bool, true, false, List, [], ◌∷◌, ◌++◌, Option, Some, None}
+use Rattle.std.proofs.Common.{length, refl, sym, ap, ◌∙◌, subst, inl, inr, slice_get, get_or, cond, arith}
 use Rattle.std.proofs.{lemmas.Bool.{eq-eqb, eqb-true, and_from, and_parts}, lemmas.List.Quantifiers.{position-Some}}
 use Rattle.std.proofs.lemmas.Option.{get_or_from_slice_get, slice_get_within}
 use Rattle.std.specs.{Option.{IfSome}, Prelude.{position, nat_eq, ◌&&◌}, List.{filter}}
@@ -29,16 +29,6 @@ filter_has p (y ∷ xs) x h = by (filter_has p xs x) (p y) h
     by : (Has (filter p xs) x → Has xs x) → (b : Bool) → Has (cond b (y ∷ filter p xs) (filter p xs)) x → Has (y ∷ xs) x
     by rest true h = elim h [ inl e ↦ inl e | inr k ↦ inr (rest k) ]
     by rest false h = inr (rest h)
-
--- what stands in a list where an element was set
-pub set_at_cases : {A : Type 0} (xs : List A) (i q : ℕ) (v y : A) → slice_get (set xs i v) q ≡ Some y
-    → ((q ≡ i) × (v ≡ y)) ⊎ (slice_get xs q ≡ Some y)
-set_at_cases [] i q v y h = inr h
-set_at_cases (x ∷ xs) zero zero v y h = inl (refl, cc)
-set_at_cases (x ∷ xs) zero (suc q) v y h = inr h
-set_at_cases (x ∷ xs) (suc i) zero v y h = inr h
-set_at_cases (x ∷ xs) (suc i) (suc q) v y h =
-    elim (set_at_cases xs i q v y h) [ inl e ↦ inl (ap suc e.0, e.1) | inr k ↦ inr k ]
 
 -- what is read at a place is what stands there
 pub get_found : {A : Type 0} (xs : List A) (i : ℕ) (x y : A) → x ≡ get_or xs i x → slice_get xs i ≡ Some y → x ≡ y

@@ -2,18 +2,15 @@
 
 ghost use Rattle.std.specs.Prelude.{◌≡◌, IfOk, IfErr, OnOk, IsOkUnless};
 ghost use Rattle.sect_names.specs.{Schemes.{SchemeView}, Sources.{IsAccepted}};
-ghost use Rattle.sect_cert.specs.{declared.certificate.Cert.{Cert}, Texts.{certificate_text}};
 ghost use Rattle.sect_check.specs.{Valid.{IsValid}, Verdicts.{IsRead}};
-ghost use Rattle.sect_emit.specs.Certificates.{IsCertificateOf};
 ghost use Rattle.sect_answers.specs.declared.refusal.Refusal.TheVariants.{Memory};
 ghost use Rattle.sect_answers.specs.Compiling.{IsCertified, IsProgramListing, IsProgramDocument, IsCompileDue};
 ghost use Rattle.sect_infer.specs.Workers.{AreOffered};
 
 use crate::refusal::Refusal;
-use sect_cert::write_cert;
-use sect_emit::{Compiled, compile_with, listing};
+use sect_emit::{certify_with, compile_with, listing};
 use sect_json::compiled_document;
-use std::alloc::{AllocError, Global};
+use std::alloc::Global;
 use std::sync::Wait;
 use std::thread::Threads;
 
@@ -78,15 +75,5 @@ pub fn program_certificate<R: Threads + Wait + Sync>(
     // A refusal is due, and it is the first that is.
     ensures refuses { IfErr result (IsCompileDue source.now k workers) }
 {
-    let compiled = compile_with(rt, alloc, source, k, workers)?;
-    Ok(certificate_of(alloc, &compiled)?)
-}
-
-/// The text of a compiled program's certificate.
-fn certificate_of(alloc: Global, compiled: &Compiled) -> Result<Vec<u8>, AllocError>
-    ensures { IfOk result (λ text. (cert : Cert) × IsCertificateOf compiled.now cert × IsValid compiled.now.scheme cert
-        × (text.items ≡ certificate_text cert)) }
-{
-    let cert = compiled.certificate(alloc)?;
-    write_cert(alloc, &cert)
+    Ok(certify_with(rt, alloc, source, k, workers)?)
 }

@@ -8,13 +8,13 @@ use Rattle.std.specs.List.{join_with_byte, flat_map}
 use Rattle.sect_cert.specs.{Paths.{base_text, path_text}, Spelling.{lock_words, some_words, list_words, step_words}}
 use Rattle.sect_cert.specs.{Spelling.{steps_words, chain_words}, Lines.{line_text}}
 use Rattle.sect_cert.specs.Texts.{nodes_lines, chains_lines, section_lines, sections_lines, header_text, fed}
-use Rattle.sect_cert.specs.{Texts.{certificate_text}, declared.lock.CertPath.{CertPath}}
+use Rattle.sect_cert.specs.{Texts.{certificate_text, begun_text}, declared.lock.CertPath.{CertPath}}
 use Rattle.sect_cert.specs.{declared.lock.CertLock.{CertLock}, declared.certificate.CertStep.{CertStep}}
 use Rattle.sect_cert.specs.{declared.certificate.CertChain.{CertChain}, declared.certificate.CertSection.{CertSection}}
 use Rattle.sect_cert.specs.{declared.certificate.Cert.{Cert}, declared.line.CertLine.{CertLine}}
 use Rattle.sect_cert.specs.steps.Writes.{spaced, field_text, lock_text, next_lock, step_text, next_step, fed_line}
 use Rattle.sect_cert.specs.steps.Writes.{nodes_text, chain_text, section_text, sections_text, IsListBefore}
-use Rattle.sect_cert.specs.steps.Writes.{IsLockBefore, arrow_before}
+use Rattle.sect_cert.specs.steps.Writes.{IsLockBefore, arrow_before, front_text}
 use Rattle.sect_cert.specs.declared.lock.CertLock.TheVariants as lock
 use Rattle.sect_cert.specs.declared.line.CertLine.TheVariants as line
 
@@ -183,16 +183,56 @@ front_written old k n =
     ∙ (append_assoc old begun (first ++ 10 ∷ rest)
     ∙ ap (λ x. old ++ (begun ++ x)) (sym (append_assoc first (10 ∷ []) rest)))))
 
--- what is written in all is the text
-pub cert_written : (c : Cert)
-    → ((header_text ++ 10 ∷ (fed_line (line.K c.k) ++ fed_line (line.Sections (length c.sections))))
-    ++ sections_text 0 c.sections) ++ codes "end\n" ≡ certificate_text c
-cert_written c =
+-- the lines before the first section, and those of sections
+begun_written : (k count : ℕ) (ss : List CertSection) → front_text k count ++ sections_text 0 ss ≡ begun_text k count ss
+begun_written k count ss =
+    let first : List ℕ = fed_line (line.K k) in
+    let second : List ℕ = fed_line (line.Sections count) in
+    let rest : List CertLine = sections_lines 0 ss [] in
+    ap (λ x. header_text ++ 10 ∷ x)
+    (append_assoc first second (sections_text 0 ss)
+    ∙ sym (fed_one (line.K k) (line.Sections count ∷ rest)
+    ∙ ap (λ x. first ++ x) (fed_one (line.Sections count) rest
+    ∙ ap (λ x. second ++ x) (sections_written ss 0 [] ∙ append-nil (sections_text 0 ss)))))
+
+-- no section is written yet
+pub none_written : (k count : ℕ) → front_text k count ≡ begun_text k count []
+none_written k count = sym (append-nil (front_text k count)) ∙ begun_written k count []
+
+-- the lines of one section more
+sections_more : (i : ℕ) (ss : List CertSection) (s : CertSection)
+    → sections_text i (ss ++ s ∷ []) ≡ sections_text i ss ++ section_text (i + length ss) s
+sections_more i [] s =
+    let e : i ≡ i + 0 = omega arith in append-nil (section_text i s) ∙ ap (λ n. section_text n s) e
+sections_more i (x ∷ ss) s =
+    let e : i + 1 + length ss ≡ i + length (x ∷ ss) = omega arith in
+    ap (λ t. section_text i x ++ t)
+    (sections_more (i + 1) ss s ∙ ap (λ n. sections_text (i + 1) ss ++ section_text n s) e)
+    ∙ sym (append_assoc (section_text i x) (sections_text (i + 1) ss) (section_text (i + length (x ∷ ss)) s))
+
+pub next_section_written : (k count number : ℕ) (before : List CertSection) (s : CertSection) (old new : List ℕ)
+    → new ≡ old ++ section_text number s → length before ≡ number → old ≡ begun_text k count before
+    → new ≡ begun_text k count (before ++ s ∷ [])
+next_section_written k count number before s old new put is begun =
+    let front = front_text k count in
+    let e : number ≡ 0 + length before = omega (arith, is) in
+    put
+    ∙ (ap (λ x. x ++ section_text number s) (begun ∙ sym (begun_written k count before))
+    ∙ (append_assoc front (sections_text 0 before) (section_text number s)
+    ∙ (ap (λ n. front ++ (sections_text 0 before ++ section_text n s)) e
+    ∙ (ap (λ x. front ++ x) (sym (sections_more 0 before s)) ∙ begun_written k count (before ++ s ∷ [])))))
+
+-- all sections are written, and the last line
+pub cert_written : (c : Cert) (old new : List ℕ) → new ≡ old ++ codes "end\n"
+    → old ≡ begun_text c.k (length c.sections) c.sections → new ≡ certificate_text c
+cert_written c old new put begun =
     let first : List ℕ = fed_line (line.K c.k) in
     let second : List ℕ = fed_line (line.Sections (length c.sections)) in
     let sections : List ℕ = sections_text 0 c.sections in
     let rest : List CertLine = sections_lines 0 c.sections (line.End ∷ []) in
-    append_assoc (header_text ++ 10 ∷ (first ++ second)) sections (codes "end\n")
+    put
+    ∙ ap (λ x. x ++ codes "end\n") (begun ∙ sym (begun_written c.k (length c.sections) c.sections))
+    ∙ append_assoc (front_text c.k (length c.sections)) sections (codes "end\n")
     ∙ ap (λ x. header_text ++ 10 ∷ x)
     (append_assoc first second (sections ++ codes "end\n")
     ∙ sym (fed_one (line.K c.k) (line.Sections (length c.sections) ∷ rest)

@@ -39,4 +39,4 @@ pub use lock::{CertBase, CertLock, CertPath};
 pub use reading::read_cert;
 pub use runs::Runs;
 pub use shared_path::SharedPath;
-pub use writing::write_cert;
+pub use writing::{begin_cert, end_cert, put_section, write_cert};

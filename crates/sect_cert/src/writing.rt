@@ -1,13 +1,14 @@
 //! A certificate as text.
 
-ghost use Rattle.std.specs.Prelude.{◌≡◌, ◌++◌, ◌+◌, ◌<◌, ◌∷◌, [], List, Result, OnOk, IfOk, length, codes};
+ghost use Rattle.std.specs.Prelude.{◌≡◌, ◌++◌, ◌+◌, ◌<◌, ◌∷◌, ℕ, [], List, Result, OnOk, IfOk, length, codes};
 ghost use Rattle.std.specs.{Fmt.{decimal}, List.{flat_map}};
-ghost use Rattle.sect_cert.specs.declared.lock.CertLock.{CertLock};
+ghost use Rattle.sect_cert.specs.declared.{lock.CertLock.{CertLock}, certificate.CertSection.{CertSection}};
+ghost use Rattle.sect_cert.specs.declared.certificate.Cert.{Cert};
 ghost use Rattle.sect_cert.specs.{Paths.{base_text, path_text}, Spelling.{list_words, chain_words}};
-ghost use Rattle.sect_cert.specs.{Texts.{HasText, header_text, certificate_text}, Verdicts.{Judges, Gives}};
+ghost use Rattle.sect_cert.specs.{Texts.{HasText, begun_text, certificate_text}, Verdicts.{Judges, Gives}};
 ghost use Rattle.sect_cert.specs.steps.Writes.{IsListBefore, IsLockBefore, arrow_before, spaced, field_text, lock_text};
 ghost use Rattle.sect_cert.specs.steps.Writes.{next_lock, fed_line, chain_text, nodes_text, section_text};
-ghost use Rattle.sect_cert.specs.steps.Writes.{sections_text};
+ghost use Rattle.sect_cert.specs.steps.Writes.{front_text};
 ghost use Rattle.sect_cert.specs.declared.lock.CertLock.TheVariants as lock;
 ghost use Rattle.sect_cert.specs.declared.line.CertLine.TheVariants as line;
 
@@ -279,7 +280,7 @@ fn put_head(out: &mut Vec<u8>, section: usize, nodes: usize) -> Result<(), Alloc
 }
 
 /// Writes the lines of a section.
-fn put_section(
+fn put_lines(
     alloc: Global,
     out: &mut Vec<u8>,
     number: usize,
@@ -293,30 +294,61 @@ fn put_section(
     put_chains(alloc, out, section.chains.as_slice())
 }
 
-/// Writes the lines of all sections.
-fn put_sections(
-    alloc: Global,
-    out: &mut Vec<u8>,
-    sections: &[CertSection],
-) -> Result<(), AllocError>
-    ensures { OnOk result (out.new.items ≡ out.old.items ++ sections_text 0 sections.now) }
-{
-    for (number, section) in sections.iter().enumerate() {
-        put_section(alloc, out, number, section)?;
-    }
-    Ok(())
-}
-
 /// Writes the lines before the first section.
 fn put_front(out: &mut Vec<u8>, k: u32, sections: usize) -> Result<(), AllocError>
-    ensures { OnOk result (out.new.items ≡
-        out.old.items ++ (header_text ++ 10 ∷ (fed_line (line.K k) ++ fed_line (line.Sections sections)))) }
+    ensures { OnOk result (out.new.items ≡ out.old.items ++ front_text k sections) }
 {
     out.extend_from_slice(b"sect-cert 2\nk")?;
     put_number(out, k as usize)?;
     out.extend_from_slice(b"\nsections")?;
     put_number(out, sections)?;
     Ok(out.push(b'\n')?)
+}
+
+/// Begins the text of a certificate of so many sections.
+pub fn begin_cert(alloc: Global, k: u32, sections: usize) -> Result<Vec<u8>, AllocError>
+    ensures { IfOk result (λ text. text.items ≡ begun_text k sections []) }
+{
+    let mut text = Vec::new(alloc);
+    put_front(&mut text, k, sections)?;
+    Ok(text)
+}
+
+/// Writes a section, which has this number, behind those before it.
+pub fn put_section(
+    alloc: Global,
+    out: &mut Vec<u8>,
+    number: usize,
+    section: &CertSection,
+) -> Result<(), AllocError>
+    ensures { OnOk result ((k count : ℕ) (before : List CertSection) → length before ≡ number
+        → out.old.items ≡ begun_text k count before → out.new.items ≡ begun_text k count (before ++ section.now ∷ [])) }
+{
+    put_lines(alloc, out, number, section)
+}
+
+/// Ends the text of a certificate, all of whose sections are written.
+pub fn end_cert(out: &mut Vec<u8>) -> Result<(), AllocError>
+    ensures { OnOk result ((cert : Cert) → out.old.items ≡ begun_text cert.k (length cert.sections) cert.sections
+        → out.new.items ≡ certificate_text cert) }
+{
+    out.extend_from_slice(b"end\n")?;
+    Ok(())
+}
+
+/// Writes all sections.
+fn put_sections(
+    alloc: Global,
+    out: &mut Vec<u8>,
+    sections: &[CertSection],
+) -> Result<(), AllocError>
+    ensures { OnOk result ((k count : ℕ) → out.old.items ≡ begun_text k count []
+        → out.new.items ≡ begun_text k count sections.now) }
+{
+    for (number, section) in sections.iter().enumerate() {
+        put_section(alloc, out, number, section)?;
+    }
+    Ok(())
 }
 
 /// The text of a certificate.
@@ -326,9 +358,8 @@ pub fn write_cert(alloc: Global, cert: &Cert) -> Result<Vec<u8>, AllocError>
     ensures reads_back { IfOk result (λ text. HasText cert.now →
         (answer : Result Cert CertFault) → Judges text.items answer → Gives cert.now answer) }
 {
-    let mut text = Vec::new(alloc);
-    put_front(&mut text, cert.k, cert.sections.len())?;
+    let mut text = begin_cert(alloc, cert.k, cert.sections.len())?;
     put_sections(alloc, &mut text, cert.sections.as_slice())?;
-    text.extend_from_slice(b"end\n")?;
+    end_cert(&mut text)?;
     Ok(text)
 }

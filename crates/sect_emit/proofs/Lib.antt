@@ -5,6 +5,7 @@ mod Plans
 mod Pointing
 mod Valuing
 mod Wholes
+mod Written
 mod Adding
 mod Counting
 mod Spelling

@@ -1,4 +1,5 @@
 pub mod Certificates
+pub mod Certified
 pub mod Claimed
 pub mod Compiled
 pub mod Explaining

@@ -4,3 +4,4 @@ pub mod Wishes
 pub mod Spelled
 pub mod Naming
 pub mod Known
+pub mod Certifying

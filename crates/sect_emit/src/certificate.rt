@@ -92,7 +92,7 @@ fn named_chains(
 }
 
 /// What is inferred of a section, by the names of the text.
-fn section_of(
+pub fn section_of(
     alloc: Global,
     scheme: &Scheme,
     locks: &Locks,

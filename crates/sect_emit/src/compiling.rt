@@ -90,7 +90,7 @@ fn locks_by<R: Threads + Wait + Sync>(
 
 /// Has all workers started, is told of sections and does nothing.
 #[derive(Clone, Copy)]
-struct Unseen;
+pub struct Unseen;
 
 impl Seen for Unseen {
     fn starts(&self, _worker: u16) -> bool {

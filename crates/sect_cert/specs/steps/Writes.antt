@@ -1,7 +1,7 @@
 -- Texts as they are written, piece by piece.
 use Rattle.std.specs.Prelude.{◌≡◌, ℕ, zero, suc, ◌+◌, List, [], ◌∷◌, ◌++◌, Some, length, slice_get, codes}
 use Rattle.std.specs.List.{flat_map}
-use Rattle.sect_cert.specs.{Spelling.{lock_words, list_words, step_words}, Lines.{line_text}}
+use Rattle.sect_cert.specs.{Spelling.{lock_words, list_words, step_words}, Lines.{line_text}, Texts.{header_text}}
 use Rattle.sect_cert.specs.{declared.lock.CertLock.{CertLock}, declared.certificate.CertStep.{CertStep}}
 use Rattle.sect_cert.specs.{declared.certificate.CertChain.{CertChain}, declared.certificate.CertSection.{CertSection}}
 use Rattle.sect_cert.specs.declared.line.CertLine.{CertLine}
@@ -48,6 +48,10 @@ arrow_before (suc n) = codes " >"
 -- a line with its line feed
 abbrev pub fed_line : CertLine → List ℕ
 fed_line x = line_text x ++ 10 ∷ []
+
+-- the lines before the first section
+abbrev pub front_text : ℕ → ℕ → List ℕ
+front_text k count = header_text ++ 10 ∷ (fed_line (line.K k) ++ fed_line (line.Sections count))
 
 -- the lines of nodes, by number from this one
 abbrev pub nodes_text : ℕ → List (List CertLock) → List ℕ

@@ -1,7 +1,8 @@
-use Rattle.std.proofs.Common.{◌≡◌, ◌++◌, drop}
-use Rattle.sect_cert.specs.steps.Writes.{sections_text}
+use Rattle.std.proofs.Common.{◌≡◌, ℕ, [], take}
+use Rattle.sect_cert.specs.Texts.{begun_text}
 use Rattle.sect_cert.proofs.writing.put_sections.Given as goal
 
 abbrev pub invariant-loop-number : goal.invariant-loop-number
-invariant-loop-number l = l.out.items ++ sections_text l.number (drop l.number l.sections) ≡ l.fn.out.items
-    ++ sections_text 0 l.sections
+invariant-loop-number l =
+    (k count : ℕ) → l.fn.out.items ≡ begun_text k count []
+    → l.out.items ≡ begun_text k count (take l.number l.sections)

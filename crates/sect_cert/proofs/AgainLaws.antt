@@ -9,7 +9,7 @@ use Rattle.sect_cert.specs.{Parts.{parts}, Zeros.{plain, is_exact}, Spelling.{li
 use Rattle.sect_cert.specs.{Texts.{IsLine, IsNumber}, declared.lock.CertLock.{CertLock}}
 use Rattle.sect_cert.specs.{declared.certificate.CertSection.{CertSection}, declared.line.CertLine.{CertLine}}
 use Rattle.sect_cert.specs.{declared.stage.Open.{Open}, declared.stage.CertStage.{CertStage}}
-use Rattle.sect_cert.specs.steps.{Reading.{line_of, only_number}, Writes.{spaced}, Again.{RepeatsList, IsAfter}}
+use Rattle.sect_cert.specs.{Spelling.{spaced}, steps.{Reading.{line_of, only_number}, Again.{RepeatsList, IsAfter}}}
 use Rattle.sect_cert.specs.steps.Certificates.{section_with, cert_with, is_rising}
 use Rattle.sect_cert.specs.steps.Stages.{Next, Goes, Bad, Odd, begin_of, close_of, node_of, chain_of, stage_of, judged}
 use Rattle.sect_cert.specs.steps.Stages.{read_words, header_of, later_of, read_of, is_header_due}

@@ -26,3 +26,4 @@ mod Verdict
 mod Only
 mod Alone
 mod Versions
+pub mod shared

@@ -5,14 +5,14 @@ use Rattle.std.proofs.lemmas.List.{at_drop_all, drop_more, flat_map_more, take_m
 use Rattle.std.proofs.lemmas.Option.{get_or_from_slice_get}
 use Rattle.std.specs.{Prelude.{codes, slice_get, take}, Option.{option_map}, Fmt.{decimal}}
 use Rattle.std.specs.List.{join_with_byte, flat_map}
-use Rattle.sect_cert.specs.{Paths.{base_text, path_text}, Spelling.{lock_words, some_words, list_words, step_words}}
+use Rattle.sect_cert.specs.{Paths.{base_text, path_text}, Spelling.{spaced, lock_words, some_words, list_words, step_words}}
 use Rattle.sect_cert.specs.{Spelling.{steps_words, chain_words}, Lines.{line_text}}
 use Rattle.sect_cert.specs.Texts.{nodes_lines, chains_lines, section_lines, sections_lines, header_text, fed}
-use Rattle.sect_cert.specs.{Texts.{certificate_text, begun_text}, declared.lock.CertPath.{CertPath}}
+use Rattle.sect_cert.specs.{Texts.{certificate_text, lines_text, begun_text}, declared.lock.CertPath.{CertPath}}
 use Rattle.sect_cert.specs.{declared.lock.CertLock.{CertLock}, declared.certificate.CertStep.{CertStep}}
 use Rattle.sect_cert.specs.{declared.certificate.CertChain.{CertChain}, declared.certificate.CertSection.{CertSection}}
 use Rattle.sect_cert.specs.{declared.certificate.Cert.{Cert}, declared.line.CertLine.{CertLine}}
-use Rattle.sect_cert.specs.steps.Writes.{spaced, field_text, lock_text, next_lock, step_text, next_step, fed_line}
+use Rattle.sect_cert.specs.steps.Writes.{field_text, lock_text, next_lock, step_text, next_step, fed_line}
 use Rattle.sect_cert.specs.steps.Writes.{nodes_text, chain_text, section_text, sections_text, IsListBefore}
 use Rattle.sect_cert.specs.steps.Writes.{IsLockBefore, arrow_before, front_text}
 use Rattle.sect_cert.specs.declared.lock.CertLock.TheVariants as lock
@@ -221,6 +221,16 @@ next_section_written k count number before s old new put is begun =
     ∙ (append_assoc front (sections_text 0 before) (section_text number s)
     ∙ (ap (λ n. front ++ (sections_text 0 before ++ section_text n s)) e
     ∙ (ap (λ x. front ++ x) (sym (sections_more 0 before s)) ∙ begun_written k count (before ++ s ∷ [])))))
+
+-- and so are its lines
+pub section_of_lines : (k count : ℕ) (before : List CertSection) (s : CertSection)
+    → begun_text k count (before ++ s ∷ []) ≡ begun_text k count before
+    ++ lines_text (line.Section (length before) (length s.nodes) ∷ section_lines s [])
+section_of_lines k count before s =
+    let i = length before in
+    let old = begun_text k count before in
+    sym (next_section_written k count i before s old (old ++ section_text i s) refl refl refl)
+    ∙ ap (λ x. old ++ x) (sym (section_written i s [] ∙ append-nil (section_text i s)))
 
 -- all sections are written, and the last line
 pub cert_written : (c : Cert) (old new : List ℕ) → new ≡ old ++ codes "end\n"

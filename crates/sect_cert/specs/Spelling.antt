@@ -4,6 +4,11 @@ use Rattle.sect_cert.specs.{Paths.{path_text}, declared.lock.CertLock.{CertLock}
 use Rattle.sect_cert.specs.declared.certificate.CertStep.{CertStep}
 use Rattle.sect_cert.specs.declared.lock.CertLock.TheVariants as lock
 
+-- words, each behind a blank
+abbrev pub spaced : List (List ℕ) → List ℕ
+spaced [] = []
+spaced (w ∷ ws) = 32 ∷ (w ++ spaced ws)
+
 -- the words of a lock with what ends the last of them, before the words that follow
 abbrev pub lock_words : CertLock → List ℕ → List (List ℕ) → List (List ℕ)
 lock_words lock.WriteAll end ws = codes "W" ∷ (codes "all" ++ end) ∷ ws

@@ -50,10 +50,14 @@ fed (t ∷ ts) = t ++ 10 ∷ fed ts
 abbrev pub certificate_text : Cert → List ℕ
 certificate_text c = fed (cert_lines c)
 
+-- lines as they are written
+abbrev pub lines_text : List CertLine → List ℕ
+lines_text ls = fed (map line_text ls)
+
 -- what is written of a certificate of so many sections when these are written
 abbrev pub begun_text : ℕ → ℕ → List CertSection → List ℕ
 begun_text k count sections =
-    fed (header_text ∷ map line_text (line.K k ∷ line.Sections count ∷ sections_lines 0 sections []))
+    header_text ++ 10 ∷ lines_text (line.K k ∷ line.Sections count ∷ sections_lines 0 sections [])
 
 -- a number that may be written
 abbrev pub IsNumber : ℕ → Type 0

@@ -39,4 +39,7 @@ pub use lock::{CertBase, CertLock, CertPath};
 pub use reading::read_cert;
 pub use runs::Runs;
 pub use shared_path::SharedPath;
-pub use writing::{begin_cert, end_cert, put_section, write_cert};
+pub use writing::{
+    begin_cert, end_cert, put_chain, put_entry, put_head, put_list, put_node, sections_are_lines,
+    write_cert,
+};

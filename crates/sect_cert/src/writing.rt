@@ -4,9 +4,9 @@ ghost use Rattle.std.specs.Prelude.{◌≡◌, ◌++◌, ◌+◌, ◌<◌, ◌�
 ghost use Rattle.std.specs.{Fmt.{decimal}, List.{flat_map}};
 ghost use Rattle.sect_cert.specs.declared.{lock.CertLock.{CertLock}, certificate.CertSection.{CertSection}};
 ghost use Rattle.sect_cert.specs.declared.certificate.Cert.{Cert};
-ghost use Rattle.sect_cert.specs.{Paths.{base_text, path_text}, Spelling.{list_words, chain_words}};
-ghost use Rattle.sect_cert.specs.{Texts.{HasText, begun_text, certificate_text}, Verdicts.{Judges, Gives}};
-ghost use Rattle.sect_cert.specs.steps.Writes.{IsListBefore, IsLockBefore, arrow_before, spaced, field_text, lock_text};
+ghost use Rattle.sect_cert.specs.{Paths.{base_text, path_text}, Spelling.{spaced, list_words, chain_words}};
+ghost use Rattle.sect_cert.specs.{Texts.{HasText, lines_text, section_lines, begun_text, certificate_text}, Verdicts.{Judges, Gives}};
+ghost use Rattle.sect_cert.specs.steps.Writes.{IsListBefore, IsLockBefore, arrow_before, field_text, lock_text};
 ghost use Rattle.sect_cert.specs.steps.Writes.{next_lock, fed_line, chain_text, nodes_text, section_text};
 ghost use Rattle.sect_cert.specs.steps.Writes.{front_text};
 ghost use Rattle.sect_cert.specs.declared.lock.CertLock.TheVariants as lock;
@@ -136,7 +136,7 @@ fn put_next_lock(out: &mut Vec<u8>, lock: &CertLock) -> Result<(), AllocError>
 }
 
 /// Writes a list of locks, behind a blank.
-fn put_list(out: &mut Vec<u8>, locks: &[CertLock]) -> Result<(), AllocError>
+pub fn put_list(out: &mut Vec<u8>, locks: &[CertLock]) -> Result<(), AllocError>
     ensures { OnOk result (out.new.items ≡ out.old.items ++ spaced (list_words locks.now)) }
 {
     let Some((first, others)) = locks.split_first() else {
@@ -194,9 +194,9 @@ fn put_steps(alloc: Global, out: &mut Vec<u8>, steps: &ChainSteps) -> Result<(),
 }
 
 /// Writes the line of a node, by the text of its list.
-fn put_node(out: &mut Vec<u8>, node: usize, list: &[u8]) -> Result<(), AllocError>
+pub fn put_node(out: &mut Vec<u8>, node: usize, list: &[u8]) -> Result<(), AllocError>
     ensures { OnOk result ((locks : List CertLock) → list.now ≡ spaced (list_words locks)
-        → out.new.items ≡ out.old.items ++ fed_line (line.Node node locks)) }
+        → out.new.items ≡ out.old.items ++ lines_text (line.Node node locks ∷ [])) }
 {
     out.extend_from_slice(b"node")?;
     put_number(out, node)?;
@@ -239,8 +239,8 @@ fn put_nodes(
 }
 
 /// Writes the line of an entry list.
-fn put_entry(out: &mut Vec<u8>, locks: &[CertLock]) -> Result<(), AllocError>
-    ensures { OnOk result (out.new.items ≡ out.old.items ++ fed_line (line.Entry locks.now)) }
+pub fn put_entry(out: &mut Vec<u8>, locks: &[CertLock]) -> Result<(), AllocError>
+    ensures { OnOk result (out.new.items ≡ out.old.items ++ lines_text (line.Entry locks.now ∷ [])) }
 {
     out.extend_from_slice(b"entry:")?;
     put_list(out, locks)?;
@@ -248,8 +248,8 @@ fn put_entry(out: &mut Vec<u8>, locks: &[CertLock]) -> Result<(), AllocError>
 }
 
 /// Writes the line of a chain.
-fn put_chain(alloc: Global, out: &mut Vec<u8>, chain: &CertChain) -> Result<(), AllocError>
-    ensures { OnOk result (out.new.items ≡ out.old.items ++ chain_text chain.now) }
+pub fn put_chain(alloc: Global, out: &mut Vec<u8>, chain: &CertChain) -> Result<(), AllocError>
+    ensures { OnOk result (out.new.items ≡ out.old.items ++ lines_text (line.Chain chain.now ∷ [])) }
 {
     out.extend_from_slice(b"chain")?;
     put_number(out, chain.lock as usize)?;
@@ -269,8 +269,8 @@ fn put_chains(alloc: Global, out: &mut Vec<u8>, chains: &[CertChain]) -> Result<
 }
 
 /// Writes the first line of a section.
-fn put_head(out: &mut Vec<u8>, section: usize, nodes: usize) -> Result<(), AllocError>
-    ensures { OnOk result (out.new.items ≡ out.old.items ++ fed_line (line.Section section nodes)) }
+pub fn put_head(out: &mut Vec<u8>, section: usize, nodes: usize) -> Result<(), AllocError>
+    ensures { OnOk result (out.new.items ≡ out.old.items ++ lines_text (line.Section section nodes ∷ [])) }
 {
     out.extend_from_slice(b"section")?;
     put_number(out, section)?;
@@ -314,18 +314,12 @@ pub fn begin_cert(alloc: Global, k: u32, sections: usize) -> Result<Vec<u8>, All
     Ok(text)
 }
 
-/// Writes a section, which has this number, behind those before it.
-pub fn put_section(
-    alloc: Global,
-    out: &mut Vec<u8>,
-    number: usize,
-    section: &CertSection,
-) -> Result<(), AllocError>
-    ensures { OnOk result ((k count : ℕ) (before : List CertSection) → length before ≡ number
-        → out.old.items ≡ begun_text k count before → out.new.items ≡ begun_text k count (before ++ section.now ∷ [])) }
-{
-    put_lines(alloc, out, number, section)
-}
+/// The lines of one section more are those of a section.
+pub fn sections_are_lines()
+    ensures { (k count : ℕ) (before : List CertSection) (section : CertSection)
+        → begun_text k count (before ++ section ∷ []) ≡ begun_text k count before
+        ++ lines_text (line.Section (length before) (length section.nodes) ∷ section_lines section []) }
+{}
 
 /// Ends the text of a certificate, all of whose sections are written.
 pub fn end_cert(out: &mut Vec<u8>) -> Result<(), AllocError>
@@ -346,7 +340,7 @@ fn put_sections(
         → out.new.items ≡ begun_text k count sections.now) }
 {
     for (number, section) in sections.iter().enumerate() {
-        put_section(alloc, out, number, section)?;
+        put_lines(alloc, out, number, section)?;
     }
     Ok(())
 }

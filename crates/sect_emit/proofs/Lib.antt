@@ -10,7 +10,6 @@ mod Adding
 mod Counting
 mod Spelling
 mod Stepping
-mod Renaming
 mod Chained
 mod Validity
 mod Denoting

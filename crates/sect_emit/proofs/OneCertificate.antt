@@ -1,19 +1,19 @@
 -- A compiled program has one certificate.
 use Rattle.std.proofs.Common.{◌≡◌, ℕ, suc, List, [], ◌∷◌, Some, length, map, refl, sym, ap, ◌∙◌, subst, arith}
-use Rattle.std.proofs.lemmas.Option.{slice_get_within}
+use Rattle.std.proofs.lemmas.{List.{length-map}, Option.{slice_get_within}}
 use Rattle.std.specs.Prelude.{slice_get}
-use Rattle.sect_lemmas.proofs.Places.{at_of, one_at}
+use Rattle.sect_lemmas.proofs.{Places.{at_of, one_at}, Replaced.{slice_get-map}}
 use Rattle.sect_types.specs.{Statements.{TextView}, Sections.{SectionView, sections_of}}
 use Rattle.sect_graph.specs.declared.flow.Node.{Node}
 use Rattle.sect_names.specs.{declared.lock.Lock.{Lock}, Needed.{end_of}, Schemes.{SchemeView, IsScheme}}
 use Rattle.sect_names.proofs.shared.Uniqueness.{same_lists}
-use Rattle.sect_infer.specs.Sets.{AreNeeded}
+use Rattle.sect_infer.specs.Sets.{LocksView, AreNeeded, AreAllInferred}
 use Rattle.sect_chains.specs.Chains.{AreChains}
 use Rattle.sect_chains.proofs.shared.Uniqueness.{chains_one}
 use Rattle.sect_cert.specs.{declared.lock.CertLock.{CertLock}, declared.certificate.CertChain.{CertChain}}
 use Rattle.sect_cert.specs.{declared.certificate.CertSection.{CertSection}, declared.certificate.Cert.{Cert}}
 use Rattle.sect_emit.specs.{Certificates.{SaysOf, IsCertificateOf}, Compiled.{CompiledView}}
-use Rattle.sect_emit.specs.Words.{list_words, chains_words}
+use Rattle.sect_emit.specs.{Words.{list_words, chains_words}, steps.Inferred.{entries_of}}
 
 -- lists are one that are as long and have one element at each place
 same_by_place : {X : Type 0} (xs ys : List X) → length xs ≡ length ys
@@ -33,6 +33,24 @@ needed_one s t last body g xs ys a b = same_by_place xs ys (a.count ∙ sym b.co
     let n = b.each i ms q in
     same_lists ls ms m.in_order n.in_order (λ l h. (n.kept_are l).1 ((m.kept_are l).0 h))
     (λ l h. (m.kept_are l).1 ((n.kept_are l).0 h)))
+
+-- what is inferred of all sections has one set for each
+pub sets_one : (s : SchemeView) → IsScheme s → (all other : List LocksView) → AreAllInferred s all
+    → AreAllInferred s other → entries_of all ≡ entries_of other
+sets_one s scheme all other one two =
+    let entry : LocksView → List Lock = λ l. l.entry in
+    same_by_place (entries_of all) (entries_of other)
+    (length-map all entry ∙ one.count ∙ sym (length-map other entry ∙ two.count)) (λ i x y p q.
+    let l = slice_get-map entry all i x p in
+    let m = slice_get-map entry other i y q in
+    let w = slice_get_within all i l.0 l.1 in
+    let of = at_of (sections_of s.program.texts) i (omega (arith, w, one.count)) in
+    let g = at_of s.graphs.sections i (omega (arith, w, one.count, scheme.graphed.section_count)) in
+    let a = (one.each i l.0 l.1 of.0 g.0 of.1 g.1).0 in
+    let b = (two.each i m.0 m.1 of.0 g.0 of.1 g.1).0 in
+    let at = needed_one s of.0.thread (end_of s i) of.0.body g.0 l.0.at m.0.at a.needed b.needed in
+    sym l.2 ∙ one_at m.0.at 0 l.0.entry m.0.entry (subst (λ ls. slice_get ls 0 ≡ Some l.0.entry) at a.first) b.first
+    ∙ m.2)
 
 abbrev section_of : List (List CertLock) → List CertLock → List CertChain → CertSection
 section_of nodes entry chains = record { nodes = nodes; entry = entry; chains = chains }

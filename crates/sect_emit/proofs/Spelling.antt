@@ -1,18 +1,15 @@
 -- Lists of what a certificate says, one element more.
-use Rattle.std.proofs.Common.{◌≡◌, ◌≢◌, ℕ, ◌+◌, ◌-◌, ◌<◌, List, [], ◌∷◌, ◌++◌, inl, inr, length, length-append, take}
-use Rattle.std.proofs.Common.{get_or, refl, sym, ap, ◌∙◌, subst, arith}
+use Rattle.std.proofs.Common.{◌≡◌, ◌≢◌, ℕ, ◌+◌, ◌-◌, ◌<◌, List, [], ◌∷◌, ◌++◌, length, take}
+use Rattle.std.proofs.Common.{get_or, refl, sym, ap, ◌∙◌, arith}
 use Rattle.std.proofs.lemmas.List.{length-take-le, length-map, map-append}
-use Rattle.std.proofs.lemmas.Option.{slice_get_within, get_or_from_slice_get, slice_get-get_or, slice_get-map}
-use Rattle.std.specs.{Prelude.{slice_get, Some, Result, Ok, Err, IfOk, map}, Option.{option_map}}
+use Rattle.std.proofs.lemmas.Option.{slice_get_within, get_or_from_slice_get, slice_get-map}
+use Rattle.std.specs.{Prelude.{slice_get, Some, map}, Option.{option_map}}
 use Rattle.std.specs.List.{AllByRecursion, AllZip}
 use Rattle.sect_front.specs.TreeView.{TreeView}
-use Rattle.sect_names.specs.{declared.link.Link.{Link}, declared.lock.Lock.{Lock}, Schemes.{SchemeView}}
+use Rattle.sect_names.specs.{declared.link.Link.{Link}, declared.lock.Lock.{Lock}}
 use Rattle.sect_cert.specs.{declared.lock.CertLock.{CertLock}, declared.certificate.CertChain.{CertChain}}
-use Rattle.sect_cert.specs.{declared.certificate.CertSection.{CertSection}, Texts.{IsSection, AreRising}}
+use Rattle.sect_cert.specs.{Texts.{AreRising}}
 use Rattle.sect_cert.specs.declared.certificate.CertStep.{CertStep}
-use Rattle.sect_infer.specs.Sets.{LocksView}
-use Rattle.sect_lemmas.proofs.Places.{one_at, pushed_at, at_of, each_at}
-use Rattle.sect_emit.specs.steps.Spelled.{IsSectionSpelled}
 use Rattle.sect_emit.specs.Words.{list_words, lock_words, step_words, chain_words, chains_words}
 use Rattle.sect_check.proofs.shared.Repeating.{taken}
 use Rattle.sect_emit.proofs.Adding.{take_next}
@@ -60,15 +57,6 @@ next_list t at i locks made old new there words before pushed =
     ∙ ap (map (list_words t)) (sym
     (take_next at i locks (slice_get_within at i locks there) (sym (get_or_from_slice_get at i locks locks there))))
 
--- the list of the first node is that of the entry
-pub first_words : (t : TreeView) (at : List (List Lock)) (entry : List Lock) (lists : List (List CertLock))
-    (first : List CertLock) → lists ≡ map (list_words t) at → slice_get at 0 ≡ Some entry
-    → slice_get lists 0 ≡ Some first → first ≡ list_words t entry
-first_words t at entry lists first words there taken =
-    let named : slice_get lists 0 ≡ Some (list_words t entry) = ap (λ (ls : List (List CertLock)). slice_get ls 0) words
-    ∙ slice_get-map (list_words t) at 0 ∙ ap (option_map (list_words t)) there in
-    one_at lists 0 first (list_words t entry) taken named
-
 -- lists that are related element by element have as many
 pub zip_length : {A B : Type 0} (R : A → B → Type 0) (xs : List A) (ys : List B) → AllZip R xs ys
     → length xs ≡ length ys
@@ -76,59 +64,6 @@ zip_length R [] [] h = refl
 zip_length R [] (y ∷ ys) h = absurd h
 zip_length R (x ∷ xs) [] h = absurd h
 zip_length R (x ∷ xs) (y ∷ ys) h = let e = zip_length R xs ys h.1 in omega (arith, e)
-
--- so many sections are spelled
-pub record AreSpelledBelow (s : SchemeView) (all : List LocksView) (n : ℕ) (sections : List CertSection) : Type 0 where
-  pub count : length sections ≡ n
-  pub each : (i : ℕ) (locks : LocksView) (x : CertSection) → slice_get all i ≡ Some locks
-      → slice_get sections i ≡ Some x → IsSectionSpelled s i locks x
-  pub good : AllByRecursion IsSection sections
-
--- one section more
-pub section_more : (s : SchemeView) (all : List LocksView) (n : ℕ) (sections : List CertSection) (locks : LocksView)
-    (x : CertSection) → n < length all → locks ≡ get_or all n locks
-    → AreSpelledBelow s all n sections → IsSectionSpelled s n locks x → IsSection x
-    → AreSpelledBelow s all (n + 1) (sections ++ x ∷ [])
-section_more s all n sections locks x within is before here good = record {
-  count = (let e = before.count in omega (arith, e, length-append sections (x ∷ [])));
-  each = λ i other y at has. elim (pushed_at sections x y i has) [
-    | inl e ↦ (
-        let same : i ≡ n = e.0 ∙ before.count in
-        let there : slice_get all n ≡ Some locks = slice_get-get_or all n locks within ∙ ap (λ z. Some z) (sym is) in
-        let one : locks ≡ other = one_at all n locks other there (subst (λ m. slice_get all m ≡ Some other) same at) in
-        subst (IsSectionSpelled s i other) e.1
-        (subst (λ m. IsSectionSpelled s m other x) (sym same) (subst (λ z. IsSectionSpelled s n z x) one here))
-        )
-    | inr k ↦ before.each i other y at k
-  ];
-  good = all_more IsSection sections x before.good good;
-}
-
-pub if_ok_both : {A E : Type 0} {P R Q : A → Type 0} (r : Result A E) → ((x : A) → P x → R x → Q x) → IfOk r P
-    → IfOk r R → IfOk r Q
-if_ok_both (Ok x) f p q = f x p q
-if_ok_both (Err e) f p q = tt
-
--- the last list once more, where a node's locks are those of the node before
-pub list_again : (t : TreeView) (at : List (List Lock)) (i : ℕ) (P : List CertLock → Type 0)
-    (old new : List (List CertLock)) → 0 < i → i < length at → slice_get at i ≡ slice_get at (i - 1)
-    → old ≡ map (list_words t) (take i at) → AllByRecursion P old
-    → ((last : List CertLock) → slice_get old (length old - 1) ≡ Some last → new ≡ old ++ last ∷ [])
-    → (new ≡ map (list_words t) (take (i + 1) at)) × AllByRecursion P new
-list_again t at i P old new some within same before good again =
-    let locks = at_of at (i - 1) (omega (arith, within)) in
-    let words = list_words t locks.0 in
-    let long : length old ≡ i =
-    ap length before ∙ length-map (take i at) (list_words t) ∙ length-take-le i at (omega (arith, within)) in
-    let there : slice_get old (length old - 1) ≡ Some words =
-    ap (λ n. slice_get old (n - 1)) long
-    ∙ ap (λ (ls : List (List CertLock)). slice_get ls (i - 1)) before
-    ∙ slice_get-map (list_words t) (take i at) (i - 1)
-    ∙ ap (option_map (list_words t)) (taken at i (i - 1) (omega (arith, some)) ∙ locks.1) in (
-      next_list t at i locks.0 words old new (same ∙ locks.1) refl before (again words there),
-      subst (AllByRecursion P) (sym (again words there))
-          (all_more P old words good (each_at P old good (length old - 1) words there)),
-    )
 
 -- one step more of a chain
 pub next_step : (t : TreeView) (links : List Link) (i : ℕ) (link : Link) (old new : List CertStep) → i < length links

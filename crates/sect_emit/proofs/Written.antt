@@ -10,13 +10,14 @@ use Rattle.sect_modes.specs.declared.mode.Mode.TheVariants.{Exclusive}
 use Rattle.sect_modes.specs.Mode.{intention_of}
 use Rattle.sect_infer.specs.Sets.{LocksView, AreInferredAt, AreAllInferred}
 use Rattle.sect_cert.specs.{declared.certificate.CertSection.{CertSection}, declared.certificate.Cert.{Cert}}
-use Rattle.sect_cert.specs.Texts.{IsNumber, IsSection, begun_text, certificate_text}
+use Rattle.sect_cert.specs.Texts.{IsNumber, IsSection, HasText, begun_text, certificate_text}
 use Rattle.sect_check.specs.Valid.{IsValid}
-use Rattle.sect_emit.specs.{Certified.{IsCertifiedBy}, declared.plan.Grip.{Grip}}
+use Rattle.sect_emit.specs.{Certified.{IsCertifiedBy}, Certificates.{IsCertificateOf}, Compiled.{CompiledView}}
+use Rattle.sect_emit.specs.declared.plan.Grip.{Grip}
 use Rattle.sect_emit.specs.Plan.{grip, gathered, class_mode, intended, AreWishesFor, AreFixedWishes, IsFixedPart}
 use Rattle.sect_emit.specs.steps.{Inferred.{entries_of, AreFixedParts, IsWhole}, Spelled.{IsSectionSpelled, IsSpelled}}
 use Rattle.sect_emit.specs.steps.{Wishes.{IsClassedLock}, Certifying.{IsInferredSection, IsBegun, IsWritten}}
-use Rattle.sect_emit.proofs.{Spelling.{all_more}, Wholes.{classed_entry, compiled, sets_least, is_certificate}}
+use Rattle.sect_emit.proofs.{OneCertificate.{sets_one}, Spelling.{all_more}, Wholes.{classed_entry, compiled, sets_least, is_certificate}}
 use Rattle.sect_modes.specs.declared.key.Key.TheVariants as key
 use Rattle.sect_names.specs.declared.lock.Lock.TheVariants as lock
 
@@ -133,3 +134,16 @@ certified_by s scheme typed tree valid source k text accepted written =
       valid = valid all written.inferred written.cert written.names;
       spelled = written.spelled;
     }
+
+-- what is read of the text of a program's certificate is the program's certificate
+pub read_certificate : (s : SchemeView) → IsScheme s → (all : List LocksView) (parts : List (List Grip))
+    (v : CompiledView) → record { scheme = s; sets = entries_of all; parts = parts } ≡ v → AreAllInferred s all
+    → (text : List ℕ) → IsWritten s text
+    → (cert : Cert) → ((a : Cert) → HasText a → text ≡ certificate_text a → cert ≡ a) → IsCertificateOf v cert
+read_certificate s scheme all parts v view inferred text written cert read =
+    subst (λ u. IsCertificateOf u cert) view
+    (subst (λ sets. IsCertificateOf (record { scheme = s; sets = sets; parts = parts }) cert)
+    (sets_one s scheme written.all all written.inferred inferred)
+    (subst (IsCertificateOf (record { scheme = s; sets = entries_of written.all; parts = parts }))
+    (sym (read written.cert written.good written.spelled))
+    (is_certificate s written.all parts written.inferred written.cert written.names written.good)))

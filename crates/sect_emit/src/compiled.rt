@@ -12,10 +12,11 @@ ghost use Rattle.sect_emit.specs.{Compiled.{IsCompiled, AreSetsLeast}, Certifica
 ghost use Rattle.sect_emit.specs.Words.{IsChainNamed};
 ghost use Rattle.sect_cert.specs.declared.certificate.Cert.{Cert};
 
-use crate::certificate::{certificate_of, found};
+use crate::certificate::text_of;
+use crate::chains::found;
 use crate::laws::claims::spelled_locks_are_valid;
 use crate::plan::Grip;
-use sect_cert::Cert;
+use sect_cert::{Cert, read_cert};
 use sect_chains::Chain;
 use sect_infer::Locks;
 use sect_names::{Lock, Scheme};
@@ -151,6 +152,10 @@ impl Compiled {
         self.scheme.facts();
         self.scheme.program().facts();
         let _facts = self.scheme.program().tree();
-        certificate_of(alloc, &self.scheme, self.locks.as_slice())
+        let text = text_of(alloc, &self.scheme, self.locks.as_slice())?;
+        match read_cert(alloc, text.as_slice()) {
+            Ok(cert) => Ok(cert),
+            Err(_) => Err(AllocError),
+        }
     }
 }

@@ -4,22 +4,22 @@ ghost use Rattle.std.specs.Prelude.{◌≡◌, ◌≢◌, ◌≤◌, ◌<◌, �
 ghost use Rattle.std.specs.{Prelude.{slice_get, IfOk, IfSome, OnOk, IsTrue}, List.{AllByRecursion, AllZip}};
 ghost use Rattle.std.specs.Map.Iter.{deref};
 ghost use Rattle.sect_cert.specs.declared.certificate.CertStep.{CertStep};
-ghost use Rattle.sect_cert.specs.Texts.{IsBase, IsPath, IsLock, IsStep, IsChain};
+ghost use Rattle.sect_cert.specs.Texts.{IsBase, IsPath, IsLock, IsStep, IsChain, chains_lines, lines_text};
 ghost use Rattle.sect_lemmas.specs.Lists.{Has};
 ghost use Rattle.sect_names.specs.{declared.link.Link.{Link}, declared.lock.Lock.{Lock}, Locks.{IsVariable, IsPathOf}};
 ghost use Rattle.sect_names.specs.Printing.{IsNamed, AreNamed};
-ghost use Rattle.sect_front.specs.TreeView.{TreeView};
 ghost use Rattle.sect_check.specs.Names.{words_of_variable};
 ghost use Rattle.sect_emit.specs.Words.{path_words, lock_words, list_words, step_words, chain_words, chains_words};
 ghost use Rattle.sect_chains.specs.Numbered.{links_by, chains_in, HaveLocks};
 ghost use Rattle.sect_emit.specs.Words.{IsChainNamed};
-ghost use Rattle.sect_emit.specs.steps.{Spelled.{IsLastNamed}, Known.{AreKnown, IsFirstNamed}};
+ghost use Rattle.sect_emit.specs.steps.Known.{AreKnown, IsFirstNamed};
 
 use crate::known_locks::KnownLocks;
-use sect_cert::{CertBase, CertChain, CertLock, CertPath, CertStep, ChainSteps, Runs, SharedPath};
+use sect_cert::{
+    CertBase, CertChain, CertLock, CertPath, CertStep, ChainSteps, SharedPath, put_chain,
+};
 use sect_chains::{NumberedChains, NumberedStep};
 use sect_front::Items;
-use sect_infer::{Locks, Numbers};
 use sect_names::{Effect, Lock, Path, Right, field_name, precedes};
 use sect_points::Variable;
 use sect_types::Program;
@@ -88,9 +88,9 @@ const NEAR: usize = 4;
 
 /// Locks, and what they are by their names.
 #[derive(Clone, Copy)]
-struct Known<'a> {
-    locks: &'a [&'a Lock],
-    named: &'a [CertLock],
+pub struct Known<'a> {
+    pub locks: &'a [&'a Lock],
+    pub named: &'a [CertLock],
 }
 
 /// Whether two locks are equal.
@@ -161,7 +161,7 @@ fn next_lock(
 }
 
 /// A list of locks by their names, which has many of a known list's.
-fn list_of(
+pub fn list_of(
     alloc: Global,
     program: &Program,
     known: Known<'_>,
@@ -181,14 +181,12 @@ fn list_of(
     Ok(Items::from_vec(list))
 }
 
-/// The list of a section's entry by its names: it is that of the first node, whose paths are kept once for both.
-pub fn entry_of(alloc: Global, lists: &Runs<Items<CertLock>>) -> Result<Items<CertLock>, AllocError>
-    requires { 0 < length lists.now }
-    ensures { IfOk result (λ list. slice_get lists.now 0 ≡ Some list) }
+/// A list equal to this one, whose paths are kept once for both.
+pub fn shared(alloc: Global, locks: &[CertLock]) -> Result<Items<CertLock>, AllocError>
+    ensures { IfOk result (λ list. list ≡ locks.now) }
 {
-    let first = lists.at(0);
-    let mut list = Vec::with_capacity(alloc, first.len())?;
-    for lock in first.as_slice() {
+    let mut list = Vec::with_capacity(alloc, locks.len())?;
+    for lock in locks {
         list.push(lock.share()?)?;
     }
     Ok(Items::from_vec(list))
@@ -310,109 +308,33 @@ fn chain_of(
     Ok(CertChain { lock, steps })
 }
 
-/// The chains of the locks of an entry, in order, by their names, where those of the entry's locks are given.
-pub fn chains_of(
+/// Writes the lines of the chains of the locks of an entry, in order, by their names, where those of the entry's locks
+/// are given.
+pub fn put_chains(
     alloc: Global,
+    out: &mut Vec<u8>,
     program: &Program,
     chains: &NumberedChains,
     entry: &[CertLock],
-) -> Result<Items<CertChain>, AllocError>
+) -> Result<(), AllocError>
     requires few { length chains.now.chains ≤ 4294967296 }
     requires named { (links : List Link) → Has (chains_in chains.now) links → IsChainNamed program.now links }
     requires first { AllZip (IsFirstNamed program.now.source) entry.now (chains_in chains.now) }
     requires good { AllByRecursion IsLock entry.now }
-    ensures words { IfOk result (λ list. list ≡ chains_words program.now.source 0 (chains_in chains.now)) }
-    ensures good { IfOk result (λ list. AllByRecursion IsChain list) }
+    ensures lines { OnOk result (out.new.items ≡ out.old.items
+        ++ lines_text (chains_lines (chains_words program.now.source 0 (chains_in chains.now)) [])) }
+    ensures good { OnOk result (AllByRecursion IsChain (chains_words program.now.source 0 (chains_in chains.now))) }
 {
     let mut known = KnownLocks::new(alloc, chains.lock_count())?;
-    let mut list = Vec::with_capacity(alloc, chains.len())?;
     for lock in 0..chains.len() {
         let steps = chains.chain(alloc, lock)?;
-        let chain = Spelled {
+        let spelled = Spelled {
             chains,
             steps: steps.as_slice(),
             first: &entry[lock],
         };
-        list.push(chain_of(alloc, program, &mut known, lock as u32, chain)?)?;
+        let chain = chain_of(alloc, program, &mut known, lock as u32, spelled)?;
+        put_chain(alloc, out, &chain)?;
     }
-    Ok(Items::from_vec(list))
-}
-
-/// The lists of nodes by their names, the locks of the last, and room for the numbers of a node's.
-#[derive(Drop)]
-struct NamedLists<'a> {
-    lists: Runs<Items<CertLock>>,
-    last: Vec<&'a Lock>,
-    room: Numbers,
-}
-
-/// The last list, and its locks; where there is no list, none.
-fn last_of<'a>(named: &'a NamedLists<'_>) -> Known<'a>
-    ensures words { (t : TreeView) → IsLastNamed t named.now.lists (map deref named.now.last.items)
-        → result.named.now ≡ list_words t (map deref result.locks.now) }
-    ensures good { AllByRecursion (λ list. AllByRecursion IsLock list) named.now.lists
-        → AllByRecursion IsLock result.named.now }
-{
-    let count = named.lists.len();
-    if count == 0 {
-        return Known {
-            locks: &[],
-            named: &[],
-        };
-    }
-    Known {
-        locks: named.last.as_slice(),
-        named: named.lists.at(count - 1).as_slice(),
-    }
-}
-
-/// Puts a node's list by its names behind those of the nodes before. Mostly it repeats the list before.
-fn next_list<'a>(
-    alloc: Global,
-    program: &Program,
-    locks: &'a Locks,
-    node: u16,
-    named: &mut NamedLists<'a>,
-) -> Result<(), AllocError>
-    requires there { node < length locks.now.at }
-    requires named { (list : List Lock) → Has locks.now.at list → AreNamed program.now list }
-    requires words { named.old.lists ≡ map (list_words program.now.source) (take node locks.now.at) }
-    requires last { IsLastNamed program.now.source named.old.lists (map deref named.old.last.items) }
-    requires good { AllByRecursion (λ list. AllByRecursion IsLock list) named.old.lists }
-    ensures words { OnOk result (named.new.lists ≡ map (list_words program.now.source) (take (node + 1) locks.now.at)) }
-    ensures last { OnOk result (IsLastNamed program.now.source named.new.lists (map deref named.new.last.items)) }
-    ensures good { OnOk result (AllByRecursion (λ list. AllByRecursion IsLock list) named.new.lists) }
-{
-    if 0 < node && locks.are_one(node, node - 1) {
-        named.lists.push_again()?;
-        return Ok(());
-    }
-    let needed = locks.lent_at(alloc, &mut named.room, node)?;
-    let list = list_of(alloc, program, last_of(named), needed.as_slice())?;
-    named.lists.push(list)?;
-    named.last = needed;
     Ok(())
-}
-
-/// The lists of a section's nodes, of which there are so many, by their names.
-pub fn lists_of(
-    alloc: Global,
-    program: &Program,
-    locks: &Locks,
-    count: u16,
-) -> Result<Runs<Items<CertLock>>, AllocError>
-    requires count { length locks.now.at ≡ count }
-    requires named { (list : List Lock) → Has locks.now.at list → AreNamed program.now list }
-    ensures words { IfOk result (λ lists. lists ≡ map (list_words program.now.source) locks.now.at) }
-    ensures good { IfOk result (λ lists. AllByRecursion (λ list. AllByRecursion IsLock list) lists) }
-{
-    let mut named = NamedLists {
-        lists: Runs::new(alloc),
-        last: Vec::new(alloc),
-        room: Numbers::new(alloc),
-    };
-    for node in 0..count {
-        next_list(alloc, program, locks, node, &mut named)?;
-    }
-    Ok(named.lists)
 }

@@ -6,7 +6,7 @@ use Rattle.sect_answers.specs.declared.refusal.Refusal.TheVariants as refusal
 use Rattle.sect_answers.proofs.compile.program_certificate.Goals as goal
 
 pub returns-clause-answers : goal.returns-clause-answers
-returns-clause-answers c =
+returns-clause-answers g c =
     let told = c.in_ok-certify_with.ensures.certified in
     record {
       compiled = told.compiled;
@@ -17,7 +17,7 @@ returns-clause-answers c =
     }
 
 pub returns-clause-valid : goal.returns-clause-valid
-returns-clause-valid c =
+returns-clause-valid g c =
     let told = c.in_ok-certify_with.ensures.certified in
     record {
       s = told.compiled.scheme;

@@ -1,6 +1,6 @@
 use Rattle.std.proofs.Common.{◌≡◌, ◌++◌, take}
 use Rattle.sect_cert.specs.Spelling.{chain_words}
-use Rattle.sect_cert.specs.steps.Writes.{spaced, IsLockBefore}
+use Rattle.sect_cert.specs.{Spelling.{spaced}, steps.Writes.{IsLockBefore}}
 use Rattle.sect_cert.proofs.writing.put_steps.Given as goal
 
 abbrev pub invariant-loop-index : goal.invariant-loop-index

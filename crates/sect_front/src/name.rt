@@ -1,7 +1,7 @@
 //! Names.
 
 ghost use Rattle.std.specs.Prelude.{◌≡◌, ◌++◌, ◌∷◌, [], OnOk, OnErr, nat_eq, true, Some};
-ghost use Rattle.std.specs.{Cmp.Lexicographic.{pointwise}, Cmp.Rules.{comparing, hashing}};
+ghost use Rattle.std.specs.{Cmp.Lexicographic.{pointwise}, Cmp.Rules.{comparing, hashing}, String.{string_bytes}};
 ghost use Rattle.std.proofs.Common.{rules};
 ghost use Rattle.sect_front.specs.Words.{is_name};
 
@@ -67,6 +67,17 @@ impl Name {
             unreachable!();
         };
         text
+    }
+
+    /// Adds its text to another.
+    pub fn push_to(&self, text: &mut String) -> Result<(), AllocError>
+        ensures { OnOk result (string_bytes text.new ≡ string_bytes text.old ++ self.now) }
+    {
+        // Names are short, so this is quicker than to find that all bytes are a text.
+        for byte in &self.bytes[..self.len] {
+            text.push(char::from(*byte))?;
+        }
+        Ok(())
     }
 
     /// Adds its bytes to a text.

@@ -87,7 +87,7 @@ pub fn put_path(text: &mut String, program: &Program, path: &Path) -> Result<(),
     put_variable(text, program, path.base())?;
     for field in path.fields() {
         text.push_str(".")?;
-        text.push_str(field_name(program, *field).as_str())?;
+        field_name(program, *field).push_to(text)?;
     }
     Ok(())
 }
@@ -98,10 +98,7 @@ fn put_variable(text: &mut String, program: &Program, variable: Variable) -> Res
     ensures { OnOk result (string_bytes text.new ≡ string_bytes text.old ++ variable_text program.now.source variable) }
 {
     match variable {
-        Variable::Global(number) => {
-            let global = &program.tree().globals()[number as usize];
-            text.push_str(global.name.as_str())
-        }
+        Variable::Global(number) => { program.tree().globals()[number as usize].name.push_to(text) }
         Variable::Local(thread, number) => put_local(text, &program.local_name(thread, number)),
     }
 }
@@ -111,7 +108,7 @@ fn put_local(text: &mut String, local: &LocalName) -> Result<(), AllocError>
     ensures { OnOk result (string_bytes text.new ≡ string_bytes text.old ++ local_text local.now) }
 {
     match local.call {
-        None => text.push_str(local.name.as_str()),
+        None => local.name.push_to(text),
         Some(_) => Ok(write!(text, "{local}")?),
     }
 }

@@ -49,6 +49,7 @@ fn alone(alloc: Global, path: Path) -> Result<Vec<Path>, AllocError>
 }
 
 /// The path that begins with `start` in place of the variable `x`, where it begins with that.
+#[inline(always)]
 fn rebased(x: Variable, mut start: Path, path: &Path) -> Result<Path, AllocError>
     ensures { IfOk result (λ r. (q : PathView) → (q ≡ r) ↔ Replaced x (Some start) path.now q) }
 {
@@ -68,6 +69,7 @@ fn unchanged(path: &Path) -> Result<Earlier, AllocError>
 }
 
 /// The path alone, with `start` in place of the variable `x`, where it begins with that.
+#[inline(always)]
 fn moved(x: Variable, start: Path, path: &Path) -> Result<Earlier, AllocError>
     ensures { IfOk result (λ paths. (q : PathView) → IsOneOf paths q ↔ Replaced x (Some start) path.now q) }
 {
@@ -313,6 +315,7 @@ impl Scheme {
 }
 
 /// The paths that may denote before `target = value` what this path denotes after it.
+#[inline(always)]
 fn before_assignment(
     alloc: Global,
     thread: u16,
@@ -339,6 +342,7 @@ fn before_assignment(
 }
 
 /// The paths that may denote before the load `x = z.f` what this path denotes after it.
+#[inline(always)]
 fn before_load(
     alloc: Global,
     x: Variable,

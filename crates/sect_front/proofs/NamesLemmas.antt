@@ -3,12 +3,12 @@ use Rattle.std.proofs.Common.{◌≡◌, ℕ, suc, ◌+◌, ◌<◌, ◌≤◌, 
 use Rattle.std.proofs.Common.{[], ◌∷◌, ◌++◌, map, Option, Some, None, length, replicate, refl, sym, ◌∙◌, ap, arith}
 use Rattle.std.proofs.Common.{length-append, length-drop, true≢false, take, inl, inr, ◌↔◌}
 use Rattle.std.proofs.{lemmas.Bool.{leb-true, le-leb, eq-eqb, and_parts, not-true}, lemmas.Bool.Decides.{nat_tests}}
-use Rattle.std.proofs.lemmas.{Bool.{cases_Bool, and_from, false_from_ne_true}, Nat.{le_or_l, le_or_r}}
-use Rattle.std.proofs.lemmas.{List.{take_more, take_all, take-take, get_or-take}, Slice.Eq.{slice_eq-Decides}}
+use Rattle.std.proofs.lemmas.{Bool.{cases_Bool, cases_lt, and_from, false_from_ne_true}, Nat.{le_or_l, le_or_r}}
+use Rattle.std.proofs.lemmas.{List.{take_more, take_all, take-take, get_or-take, get_or_past}, Slice.Eq.{slice_eq-Decides}}
 use Rattle.std.proofs.{lemmas.List.Folds.{length-prefix_len, list_all_at}, Math.Dec.{leb}, Math.Bool.{and-false}}
 use Rattle.std.proofs.Math.Seq.{take-append_seam}
 use Rattle.std.specs.{Cmp.{unsigned_Decides}, List.{list_all, list_any, take_while, prefix_len, filter}, Str.{bytes_eq}}
-use Rattle.std.specs.Prelude.{is_some, is_none, nat_eq, codes, bit_or, bit_xor, Decides}
+use Rattle.std.specs.Prelude.{IsAscii, is_some, is_none, nat_eq, codes, bit_or, bit_xor, Decides}
 use Rattle.std.specs.Cmp.Lexicographic.{pointwise}
 use Rattle.sect_front.specs.{declared.token.Token.{Token}, Names.{IsPadded, zeros_from, length_back, bytes_back}}
 use Rattle.sect_front.specs.{Words.{is_name, is_letter, is_name_byte, is_keyword, begins}, Limits.{most_name_bytes}}
@@ -160,12 +160,18 @@ small_letter : (b : ℕ) → is_name_byte b ≡ true → b < 128
 small_letter b h = grind (arith, nat_tests)
 
 -- a name is ASCII
-pub name_small : (bytes : List ℕ) → is_name bytes ≡ true → (i : ℕ) → i < length bytes → get_or bytes i 0 < 128
+name_small : (bytes : List ℕ) → is_name bytes ≡ true → (i : ℕ) → i < length bytes → get_or bytes i 0 < 128
 name_small bytes h i lt = go (is_name_byte (get_or bytes i 0)) refl
   where
     go : (b : Bool) → is_name_byte (get_or bytes i 0) ≡ b → get_or bytes i 0 < 128
     go true e = small_letter (get_or bytes i 0) e
     go false e = let none = list_all_at is_name_byte bytes i 0 lt e in let all = (named bytes h).all in absurd cc
+
+pub name_ascii : (bytes : List ℕ) → is_name bytes ≡ true → IsAscii bytes
+name_ascii bytes h i = elim (cases_lt i (length bytes)) [
+  | inl lt ↦ omega (arith, name_small bytes h i lt)
+  | inr past ↦ omega (arith, get_or_past bytes i 0 past)
+]
 
 decided : (xs ys : List ℕ) → Decides (pointwise nat_eq xs ys) (xs ≡ ys)
 decided xs ys = slice_eq-Decides unsigned_Decides xs ys (pointwise nat_eq xs ys) refl

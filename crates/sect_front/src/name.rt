@@ -1,16 +1,16 @@
 //! Names.
 
 ghost use Rattle.std.specs.Prelude.{◌≡◌, ◌++◌, ◌∷◌, [], OnOk, OnErr, nat_eq, true, Some};
-ghost use Rattle.std.specs.{Cmp.Lexicographic.{pointwise}, Cmp.Rules.{comparing, hashing}};
+ghost use Rattle.std.specs.{Cmp.Lexicographic.{pointwise}, Cmp.Rules.{comparing, hashing}, String.{string_bytes}};
 ghost use Rattle.std.proofs.Common.{rules};
 ghost use Rattle.sect_front.specs.Words.{is_name};
 
 use crate::limits::MOST_NAME_BYTES;
 use std::alloc::AllocError;
-use std::fmt;
 use std::fmt::Write;
 use std::hash::{Hash, Hasher};
 use std::marker::Model;
+use std::{fmt, str};
 
 /// A name, which is kept inline: its bytes, and zeros behind them.
 #[derive(Clone, Copy)]
@@ -57,6 +57,27 @@ impl Name {
         ensures name { is_name self.now ≡ true }
     {
         &self.bytes[..self.len]
+    }
+
+    /// Its text.
+    pub fn as_str(&self) -> &str
+        ensures { result.now ≡ self.now }
+    {
+        let Ok(text) = str::from_utf8(&self.bytes[..self.len]) else {
+            unreachable!();
+        };
+        text
+    }
+
+    /// Adds its text to another.
+    pub fn push_to(&self, text: &mut String) -> Result<(), AllocError>
+        ensures { OnOk result (string_bytes text.new ≡ string_bytes text.old ++ self.now) }
+    {
+        // Names are short, so this is quicker than to find that all bytes are a text.
+        for byte in &self.bytes[..self.len] {
+            text.push(char::from(*byte))?;
+        }
+        Ok(())
     }
 
     /// Adds its bytes to a text.
@@ -111,9 +132,6 @@ impl fmt::Display for Name {
     ghost output = { λ n. Some n };
 
     fn fmt<W: fmt::Write>(&self, f: &mut fmt::Formatter<W>) -> fmt::Result {
-        for byte in &self.bytes[..self.len] {
-            f.write_char(char::from(*byte))?;
-        }
-        Ok(())
+        f.write_str(self.as_str())
     }
 }

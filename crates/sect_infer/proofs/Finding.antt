@@ -12,9 +12,9 @@ use Rattle.sect_names.specs.{declared.lock.Lock.{Lock}, Schemes.{SchemeView}, Lo
 use Rattle.sect_names.specs.{Needed.{end_locks, CarriedOver, IsNeededOn, IsNeeded, IsNeededFrom}, Order.{AreMaximal}}
 use Rattle.sect_names.proofs.shared.Maximals.{maximal_as, maximal_least}
 use Rattle.sect_infer.specs.steps.{Needs.{need, IsDerived, AreLawful}, Working.{IsSettled}, Listing.{IsOrder, listed}}
-use Rattle.sect_infer.specs.steps.Found.{AreFound, AreAllOnAll, IsFound, IsOnAll}
+use Rattle.sect_infer.specs.steps.Found.{AreFound, AreAllOnAll, IsFound, IsOnAll, AreFirstFound}
 use Rattle.sect_infer.specs.Numberings.{NumberingView, HasLock, AreNumbers, IsNumbering}
-use Rattle.sect_infer.specs.Sets.{LocksView, AreNeeded, AreLocksOf}
+use Rattle.sect_infer.specs.Sets.{LocksView, AreNeeded, AreLocksOf, AreTaken}
 use Rattle.sect_infer.proofs.{Settling.{derived_lock}, Listing.{maximal_of, listed_maximal}, Meaning.{derived_from}}
 use Rattle.sect_front.specs.declared.tree.Locking.TheVariants as locking
 use Rattle.sect_names.specs.declared.lock.Lock.TheVariants as lock
@@ -50,6 +50,23 @@ module _ (s : SchemeView) (t : ℕ) (g : List Node) where
         (λ n h. (j, subst (λ ms. Has ms n) (sym here) h))));
   }
 
+  -- and so that of the first node alone
+  pub first_found : (a : NumberingView) (lists : List (List ℕ)) (order : List ℕ) → IsSettled s t g a lists
+      → IsOrder a.keys (slice_index_or lists 0 [] ∷ []) order
+      → AreFirstFound s t g (listed a order (slice_index_or lists 0 []))
+  first_found a lists order settled o =
+      let ns = slice_index_or lists 0 [] in
+      maximal_of s (HasLock a.keys ns) (λ l. IsDerived s t g (need 0 l)) (listed a order ns)
+      (settled.derived 0) (settled.covered 0)
+      (listed_maximal s a settled.numbered.numbering (ns ∷ []) order o ns (settled.numbered.numbers 0)
+      (λ n h. (0, h)))
+
+  pub first_lawful : AreLawful s t g → (locks : List Lock) → AreFirstFound s t g locks → (l : Lock) → Has locks l
+      → IsLockOf s t l
+  first_lawful lawful locks found l h =
+      let d = ((found.kept_are l).0 h).0 in
+      (derived_lock s t g lawful d.0 (need 0 l) d.1).1
+
   -- the locks at each node are the program's
   pub found_lawful : AreLawful s t g → (lists : List (List Lock)) → AreFound s t g lists → (j : ℕ) (locks : List Lock)
       → slice_get lists j ≡ Some locks → (l : Lock) → Has locks l → IsLockOf s t l
@@ -65,18 +82,28 @@ module _ (s : SchemeView) (t : ℕ) (g : List Node) where
       λ h. (h.0, (graph.rests 0 (omega arith) h.0).0 ((graph.paths h.0).1 h.1), h.2),
     )
 
+    -- what is needed from the first node on is taken at the entry
+    pub taken_of : (entry : List Lock) → AreMaximal s (IsNeededFrom s t last body g 0) entry
+        → AreTaken s last (record { thread = t; body = body }) entry
+    taken_of entry most =
+        let max = maximal_as s (IsNeededFrom s t last body g 0) (IsNeeded s t last body) entry needed_first most in
+        record {
+          needed = λ l h. ((max.kept_are l).0 h).0;
+          least = maximal_least s t last body entry max;
+          in_order = max.in_order;
+        }
+
     -- lists that have what is needed at each node are the section's locks
     pub locks_of : (locks : LocksView) → slice_get locks.at 0 ≡ Some locks.entry → AreNeeded s t last body g locks.at
         → AreLocksOf s last (record { thread = t; body = body }) g locks
     locks_of locks first needed =
-        let max = maximal_as s (IsNeededFrom s t last body g 0) (IsNeeded s t last body) locks.entry needed_first
-        (needed.each 0 locks.entry first) in
+        let taken = taken_of locks.entry (needed.each 0 locks.entry first) in
         record {
           needed = needed;
           first = first;
-          entry_needed = λ l h. ((max.kept_are l).0 h).0;
-          least = maximal_least s t last body locks.entry max;
-          in_order = max.in_order;
+          entry_needed = taken.needed;
+          least = taken.least;
+          in_order = taken.in_order;
         }
 
   module _ (body : TextView) (graph : IsGraphOf body g) where
@@ -124,6 +151,13 @@ module _ (s : SchemeView) (t : ℕ) (g : List Node) where
           (λ l e. subst (IsNeededFrom s t on_all body g j) (sym e) (needed_all j within))
           (λ l n. (lock.All, refl, tt)) (all.each j locks at);
     }
+
+  -- what is found at the first node is taken
+  pub first_taken : (body : TextView) → IsGraphOf body g → (locks : List Lock) → AreFirstFound s t g locks
+      → AreTaken s [] (record { thread = t; body = body }) locks
+  first_taken body graph locks found = taken_of [] body graph locks
+      (maximal_as s (λ l. IsDerived s t g (need 0 l)) (IsNeededFrom s t [] body g 0) locks
+      (λ l. derived_from s t g body graph 0 l (omega arith)) found)
 
   -- so what is found are the locks of a section that takes what it needs, or the lock on all
   pub inferred_of : (body : TextView) → IsGraphOf body g → (locks : LocksView) → IsFound s t g locks

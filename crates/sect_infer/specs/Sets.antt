@@ -30,6 +30,13 @@ pub record AreLocksOf (s : SchemeView) (last : List Lock) (section : SectionView
   pub least : IsLeast s section.thread last section.body locks.entry
   pub in_order : AreInOrder locks.entry
 
+-- a section whose end generates those locks takes these at its entry: each is needed there, and they are the least set
+-- that protects, in canonical order
+pub record AreTaken (s : SchemeView) (last : List Lock) (section : SectionView) (entry : List Lock) : Type 0 where
+  pub needed : (l : Lock) → Has entry l → IsNeeded s section.thread last section.body l
+  pub least : IsLeast s section.thread last section.body entry
+  pub in_order : AreInOrder entry
+
 -- each lock at a node is one that sections of the thread may take
 abbrev pub AreOfProgram : SchemeView → ℕ → LocksView → Type 0
 AreOfProgram s t locks =

@@ -78,6 +78,7 @@ pub fn carry_one(
 
 impl Transfer<'_> {
     /// Finds the lock with this effect on a path, if that has a class.
+    #[inline(always)]
     fn find_on(
         self,
         alloc: Global,
@@ -122,6 +123,7 @@ impl Transfer<'_> {
 
     /// Finds the locks with this effect on each of the paths that may denote before the node what a path denotes after
     /// it.
+    #[inline(always)]
     fn find_each_on(
         self,
         alloc: Global,

@@ -17,5 +17,5 @@ pub use locks::Locks;
 pub use numbering::Numbering;
 pub use numbers::Numbers;
 pub use order::in_order;
-pub use section::{infer, infer_unmarked, room_for};
+pub use section::{entry_locks, infer, infer_unmarked, room_for};
 pub use workers::{InferFault, MOST_WORKERS, Seen, check_workers, infer_all, limit_of_workers};

@@ -1,6 +1,6 @@
 //! The locks of a section, node by node.
 
-ghost use Rattle.std.specs.Prelude.{◌≡◌, ◌↔◌, ◌<◌, ℕ, List, map, length, slice_get, Some, IfOk, IsTrue};
+ghost use Rattle.std.specs.Prelude.{◌≡◌, ◌↔◌, ◌<◌, ◌∷◌, [], ℕ, List, map, length, slice_get, Some, IfOk, IsTrue};
 ghost use Rattle.std.specs.Map.Iter.{deref};
 ghost use Rattle.sect_lemmas.specs.Lists.{Has};
 ghost use Rattle.sect_names.specs.declared.lock.Lock.{Lock};
@@ -136,6 +136,27 @@ fn list(
     copies(alloc, locks.as_slice())
 }
 
+/// Those of the locks with these numbers that no other of them covers, in canonical order, where no others are asked
+/// for.
+pub fn list_alone(
+    alloc: Global,
+    numbering: &Numbering,
+    numbers: &[usize],
+) -> Result<Vec<Lock>, AllocError>
+    requires apart { AreApart numbering.now.keys }
+    requires count { length numbering.now.above ≡ length numbering.now.keys }
+    ensures { IfOk result (λ locks. (order : List ℕ) × IsOrder numbering.now.keys (numbers.now ∷ []) order
+        × (locks.items ≡ listed numbering.now order numbers.now)) }
+{
+    let count = numbering.len();
+    let mut found = Numbers::with_room(alloc, numbers.len(), count)?;
+    found.insert_all(numbers)?;
+    let below = all_below(alloc, &found, count)?;
+    let order = in_order(alloc, numbering, below.as_slice())?;
+    let locks = lent(alloc, &mut found, numbering, order.as_slice(), numbers)?;
+    copies(alloc, locks.as_slice())
+}
+
 impl Locks {
     /// The locks of which each node has those with its numbers.
     pub(crate) fn of(alloc: Global, numbering: Numbering, lists: Lists) -> Result<Locks, AllocError>
@@ -153,6 +174,19 @@ impl Locks {
             lists,
             entry,
         })
+    }
+
+    /// The locks that the section takes at its entry, where those of its nodes are let go.
+    pub(crate) fn into_entry(self) -> Vec<Lock>
+        ensures { result.items ≡ self.entry }
+    {
+        let Locks {
+            numbering: _,
+            order: _,
+            lists: _,
+            entry,
+        } = self;
+        entry
     }
 
     /// How many nodes there are, the exit counted.

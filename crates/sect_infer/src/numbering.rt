@@ -354,6 +354,7 @@ impl Numbering {
     }
 
     /// The number of a lock, which comes now unless it is there. If it is on a path, that is one of this class.
+    #[inline(always)]
     pub fn number_in(&mut self, alloc: Global, class: u16, lock: Lock) -> Result<usize, AllocError>
         requires { IsNumberingOfSome self.old }
         ensures { (s : SchemeView) → IsNumbering s self.old → IsOfClass s.classes lock class
@@ -369,6 +370,7 @@ impl Numbering {
     }
 
     /// The number of a lock, which comes now unless it is there. If it is on a path, this is the path's class.
+    #[inline(always)]
     fn put(&mut self, alloc: Global, class: Option<u16>, lock: Lock) -> Result<usize, AllocError>
         requires { IsNumberingOfSome self.old }
         ensures { (s : SchemeView) → IsNumbering s self.old → ClassIs s lock class
@@ -384,6 +386,7 @@ impl Numbering {
     }
 
     /// The number of the lock to read a path of this class, which comes now unless it is there.
+    #[inline(always)]
     fn put_read(
         &mut self,
         alloc: Global,
@@ -467,6 +470,7 @@ impl Numbering {
     }
 
     /// The numbers of the lock on all and of that to write this class, where they are there.
+    #[inline(always)]
     fn over_writes(
         &self,
         alloc: Global,
@@ -489,6 +493,7 @@ impl Numbering {
     }
 
     /// The numbers of the lock on all and of those to write and to read this class, where they are there.
+    #[inline(always)]
     fn over_reads(
         &self,
         alloc: Global,
@@ -533,6 +538,7 @@ impl Numbering {
     }
 
     /// Puts the number of the lock to read a class behind others, if it is there.
+    #[inline(always)]
     fn push_read(&self, above: &mut SmallVec<usize, 2>, class: u16) -> Result<(), AllocError>
         ensures { OnOk result ((locks : List Lock) → AreThere self.now.keys locks above.old.items
             → AreThere self.now.keys (locks ++ lock.Class class right.Read ∷ []) above.new.items) }
@@ -544,6 +550,7 @@ impl Numbering {
     }
 
     /// Puts the number of the lock to write a path behind others, if it is there.
+    #[inline(always)]
     fn push_write(&self, above: &mut SmallVec<usize, 2>, path: &Path) -> Result<(), AllocError>
         ensures { OnOk result ((locks : List Lock) → AreThere self.now.keys locks above.old.items
             → AreThere self.now.keys (locks ++ lock.Path path.now effect.Write ∷ []) above.new.items) }

@@ -5,11 +5,12 @@ ghost use Rattle.sect_lemmas.specs.Lists.{Has};
 ghost use Rattle.sect_types.specs.Sections.{SectionView, sections_of};
 ghost use Rattle.sect_graph.specs.declared.flow.Node.{Node};
 ghost use Rattle.sect_names.specs.{declared.lock.Lock.{Lock}, Locks.{IsLockOf}, Needed.{end_of}};
-ghost use Rattle.sect_infer.specs.steps.{Needs.{AreLawful}, Found.{IsFound, IsOnAll}};
-ghost use Rattle.sect_infer.specs.Sets.{AreLocksOf, AreUnmarkedAt};
+ghost use Rattle.sect_infer.specs.steps.{Needs.{AreLawful}, Found.{IsFound, IsOnAll, AreFirstFound}};
+ghost use Rattle.sect_infer.specs.steps.Working.{IsSettled};
+ghost use Rattle.sect_infer.specs.Sets.{AreLocksOf, AreTaken, AreUnmarkedAt};
 
 use crate::lists::Lists;
-use crate::locks::Locks;
+use crate::locks::{Locks, list_alone};
 use crate::numbering::Numbering;
 use crate::numbers::Numbers;
 use crate::work::{Analysed, Solution, settle};
@@ -62,6 +63,25 @@ pub fn infer_unmarked(alloc: Global, scheme: &Scheme, section: u16) -> Result<Lo
     found(alloc, scheme, thread, flow)
 }
 
+/// The locks that a section takes at its entry, as `infer` gives them. Those of the other nodes aren't put in order.
+pub fn entry_locks(alloc: Global, scheme: &Scheme, section: u16) -> Result<Vec<Lock>, AllocError>
+    requires { section < length (sections_of scheme.now.program.texts) }
+    ensures locks { (of : SectionView) → slice_get (sections_of scheme.now.program.texts) section ≡ Some of
+        → IfOk result (λ locks. AreTaken scheme.now (end_of scheme.now section) of locks.items) }
+    ensures lawful { (of : SectionView) → slice_get (sections_of scheme.now.program.texts) section ≡ Some of
+        → IfOk result (λ locks. (lock : Lock) → Has locks.items lock → IsLockOf scheme.now of.thread lock) }
+{
+    scheme.facts();
+    scheme.program().facts();
+    only_the_programs(scheme, section);
+    let thread = scheme.program().section(section).thread;
+    let flow = scheme.graph().section(section);
+    match end_lock(scheme.program().locking(section)) {
+        None => first_found(alloc, scheme, thread, flow),
+        Some(_) => Ok(on_all_of(alloc, scheme, flow)?.into_entry()),
+    }
+}
+
 /// What the nodes of a section's graph generate and carry back are locks of the program, which the clause says.
 fn only_the_programs(scheme: &Scheme, section: u16)
     ensures { (of : SectionView) (g : List Node) → slice_get (sections_of scheme.now.program.texts) section ≡ Some of
@@ -81,11 +101,10 @@ pub fn room_for(flow: &Flow) -> usize {
     nodes.min(MOST_NODES_WITH_ROOM) + 4
 }
 
-/// The locks of a graph whose nodes need locks of the program alone: at each node the maximal ones of those that are
-/// derived there.
-fn found(alloc: Global, scheme: &Scheme, thread: u16, flow: &Flow) -> Result<Locks, AllocError>
+/// What is found at the nodes of a graph that need locks of the program alone.
+fn settled(alloc: Global, scheme: &Scheme, thread: u16, flow: &Flow) -> Result<Solution, AllocError>
     requires { AreLawful scheme.now thread flow.now }
-    ensures { IfOk result (IsFound scheme.now thread flow.now) }
+    ensures { IfOk result (λ solution. IsSettled scheme.now thread flow.now solution.numbering solution.lists) }
 {
     let section = Analysed {
         scheme,
@@ -98,7 +117,31 @@ fn found(alloc: Global, scheme: &Scheme, thread: u16, flow: &Flow) -> Result<Loc
         found: Numbers::new(alloc),
     };
     settle(alloc, section, &mut solution)?;
+    Ok(solution)
+}
+
+/// The locks of a graph whose nodes need locks of the program alone: at each node the maximal ones of those that are
+/// derived there.
+fn found(alloc: Global, scheme: &Scheme, thread: u16, flow: &Flow) -> Result<Locks, AllocError>
+    requires { AreLawful scheme.now thread flow.now }
+    ensures { IfOk result (IsFound scheme.now thread flow.now) }
+{
+    let solution = settled(alloc, scheme, thread, flow)?;
     Locks::of(alloc, solution.numbering, solution.lists)
+}
+
+/// The same at the first node alone.
+fn first_found(
+    alloc: Global,
+    scheme: &Scheme,
+    thread: u16,
+    flow: &Flow,
+) -> Result<Vec<Lock>, AllocError>
+    requires { AreLawful scheme.now thread flow.now }
+    ensures { IfOk result (λ locks. AreFirstFound scheme.now thread flow.now locks.items) }
+{
+    let solution = settled(alloc, scheme, thread, flow)?;
+    list_alone(alloc, &solution.numbering, solution.lists.of(0))
 }
 
 /// The lock on all at each node of a graph, and at its exit.

@@ -48,18 +48,6 @@ fn alone(alloc: Global, path: Path) -> Result<Vec<Path>, AllocError>
     Ok(paths)
 }
 
-/// The path that begins with `start` in place of the variable `x`, where it begins with that.
-fn rebased(x: Variable, mut start: Path, path: &Path) -> Result<Path, AllocError>
-    ensures { IfOk result (λ r. (q : PathView) → (q ≡ r) ↔ Replaced x (Some start) path.now q) }
-{
-    if path.base() == x {
-        start.append(path.fields())?;
-        Ok(start)
-    } else {
-        Ok(path.try_clone()?)
-    }
-}
-
 /// The path alone, which stays.
 fn unchanged(path: &Path) -> Result<Earlier, AllocError>
     ensures { IfOk result (λ paths. (q : PathView) → IsOneOf paths q ↔ (q ≡ path.now)) }
@@ -68,10 +56,16 @@ fn unchanged(path: &Path) -> Result<Earlier, AllocError>
 }
 
 /// The path alone, with `start` in place of the variable `x`, where it begins with that.
-fn moved(x: Variable, start: Path, path: &Path) -> Result<Earlier, AllocError>
+#[inline(always)]
+fn moved(x: Variable, mut start: Path, path: &Path) -> Result<Earlier, AllocError>
     ensures { IfOk result (λ paths. (q : PathView) → IsOneOf paths q ↔ Replaced x (Some start) path.now q) }
 {
-    Ok(Earlier::Alone(rebased(x, start, path)?))
+    if path.base() == x {
+        start.append(path.fields())?;
+        Ok(Earlier::Alone(start))
+    } else {
+        unchanged(path)
+    }
 }
 
 /// The path, unless it begins with the variable `x`.
@@ -313,6 +307,7 @@ impl Scheme {
 }
 
 /// The paths that may denote before `target = value` what this path denotes after it.
+#[inline(always)]
 fn before_assignment(
     alloc: Global,
     thread: u16,
@@ -339,6 +334,7 @@ fn before_assignment(
 }
 
 /// The paths that may denote before the load `x = z.f` what this path denotes after it.
+#[inline(always)]
 fn before_load(
     alloc: Global,
     x: Variable,

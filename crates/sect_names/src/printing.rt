@@ -1,6 +1,7 @@
 //! Locks as they are printed.
 
-ghost use Rattle.std.specs.{Prelude.{◌≡◌, ◌++◌, OnOk, Some}, String.{string_bytes}};
+ghost use Rattle.std.specs.{Prelude.{◌≡◌, ◌++◌, OnOk, Some, codes}, String.{string_bytes}};
+ghost use Rattle.sect_types.specs.LocalNames.{local_text};
 ghost use Rattle.sect_names.specs.Locks.{IsVariable, IsField, IsPathOf};
 ghost use Rattle.sect_names.specs.Printing.{IsNamed, AreNamed, effect_text, right_text, variable_text, field_name};
 ghost use Rattle.sect_names.specs.Printing.{path_text, lock_text, locks_text};
@@ -9,7 +10,7 @@ use crate::lock::{Effect, Lock, Right};
 use crate::path::Path;
 use sect_front::Name;
 use sect_points::Variable;
-use sect_types::{Field, Program};
+use sect_types::{Field, LocalName, Program};
 use std::alloc::AllocError;
 use std::fmt;
 use std::fmt::Write;
@@ -59,14 +60,23 @@ pub fn put_lock(text: &mut String, program: &Program, lock: &Lock) -> Result<(),
     ensures { OnOk result (string_bytes text.new ≡ string_bytes text.old ++ lock_text program.now.source lock.now) }
 {
     match lock {
-        Lock::All => text.push_str("W all")?,
-        Lock::Class(class, right) => write!(text, "{right} class {class}")?,
+        Lock::All => text.push_str("W all"),
+        Lock::Class(class, right) => Ok(write!(text, "{right} class {class}")?),
         Lock::Path(path, effect) => {
-            write!(text, "{effect} ")?;
-            put_path(text, program, path)?;
+            put_effect(text, *effect)?;
+            put_path(text, program, path)
         }
     }
-    Ok(())
+}
+
+/// Adds what a lock allows of the object of its path, and a blank.
+fn put_effect(text: &mut String, effect: Effect) -> Result<(), AllocError>
+    ensures { OnOk result (string_bytes text.new ≡ string_bytes text.old ++ effect_text effect ++ codes " ") }
+{
+    match effect {
+        Effect::Read => text.push_str("R "),
+        Effect::Write => text.push_str("W "),
+    }
 }
 
 /// Adds a path of a program to a text, as `head.next`.
@@ -76,7 +86,8 @@ pub fn put_path(text: &mut String, program: &Program, path: &Path) -> Result<(),
 {
     put_variable(text, program, path.base())?;
     for field in path.fields() {
-        write!(text, ".{}", field_name(program, *field))?;
+        text.push_str(".")?;
+        field_name(program, *field).push_to(text)?;
     }
     Ok(())
 }
@@ -87,14 +98,19 @@ fn put_variable(text: &mut String, program: &Program, variable: Variable) -> Res
     ensures { OnOk result (string_bytes text.new ≡ string_bytes text.old ++ variable_text program.now.source variable) }
 {
     match variable {
-        Variable::Global(number) => {
-            write!(text, "{}", program.tree().globals()[number as usize].name)?;
-        }
-        Variable::Local(thread, number) => {
-            write!(text, "{}", program.local_name(thread, number))?;
-        }
+        Variable::Global(number) => { program.tree().globals()[number as usize].name.push_to(text) }
+        Variable::Local(thread, number) => put_local(text, &program.local_name(thread, number)),
     }
-    Ok(())
+}
+
+/// Adds what a local is called.
+fn put_local(text: &mut String, local: &LocalName) -> Result<(), AllocError>
+    ensures { OnOk result (string_bytes text.new ≡ string_bytes text.old ++ local_text local.now) }
+{
+    match local.call {
+        None => local.name.push_to(text),
+        Some(_) => Ok(write!(text, "{local}")?),
+    }
 }
 
 /// The name of a field.

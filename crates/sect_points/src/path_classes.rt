@@ -8,7 +8,7 @@ ghost use Rattle.sect_points.specs.{Sets.{InSets}, Paths.{path_of, VariableHas, 
 ghost use Rattle.sect_points.specs.Partitions.{ClassesView, IsParted, HasClass};
 ghost use Rattle.sect_points.specs.{Filled.{IsFilled, AreFilled, FieldHas}, PathClasses.{ArePathClasses, KeepsClasses}};
 
-use crate::holders::Variable;
+use crate::holders::{Holder, Variable};
 use crate::rows::Rows;
 use crate::sets::PointsTo;
 use crate::sites::SiteSet;
@@ -109,8 +109,8 @@ impl Classes {
     }
 
     /// The sites that have something in a field.
-    fn filled_in(&self, field: u16) -> SiteSet
-        ensures { (base : ℕ) → HasSite result.words base ↔ IsFilled self.now.sets base field }
+    fn filled_in(&self, field: u16) -> &SiteSet
+        ensures { (base : ℕ) → HasSite result.now.words base ↔ IsFilled self.now.sets base field }
     {
         self.filled.get_or_none(field as usize)
     }
@@ -161,7 +161,7 @@ fn field_site(classes: &Classes, bases: &SiteSet, field: u16) -> Option<u16>
 {
     let points = classes.points();
     points.bounds();
-    let base = bases.common(&classes.filled_in(field))?;
+    let base = bases.common(classes.filled_in(field))?;
     points.slot(base, field).first()
 }
 
@@ -176,7 +176,7 @@ fn second_field_site(classes: &Classes, bases: &SiteSet, first: u16, second: u16
     points.bounds();
     let filled = classes.filled_in(first);
     let mut from = 0;
-    while let Some(base) = bases.next_common(&filled, from) {
+    while let Some(base) = bases.next_common(filled, from) {
         let found = field_site(classes, points.slot(base, first), second);
         if found.is_some() {
             return found;
@@ -186,8 +186,35 @@ fn second_field_site(classes: &Classes, bases: &SiteSet, first: u16, second: u16
     None
 }
 
+/// A site of a variable.
+fn variable_site(points: &PointsTo, base: Variable) -> Option<u16>
+    ensures some { IfSome result (λ site. VariableHas (InSets points.now) base site × (site < points.now.sites)) }
+    ensures none { IfNone result ((site : ℕ) → site < points.now.sites
+        → VariableHas (InSets points.now) base site → ⊥) }
+{
+    points.bounds();
+    match base {
+        Variable::Local(thread, local) => points.first_of(Holder::Local(thread, local)),
+        Variable::Global(global) if global < points.sites() => Some(global),
+        Variable::Global(_) => None,
+    }
+}
+
+/// The site of a path that is found where each step goes on from the least site alone.
+fn leading_site(points: &PointsTo, base: Variable, fields: &[Field]) -> Option<u16>
+    ensures { IfSome result (λ site. PathHas (InSets points.now) (path_of base fields.now) site
+        × (site < points.now.sites)) }
+{
+    points.bounds();
+    let mut site = variable_site(points, base)?;
+    for field in fields {
+        site = points.first_of(Holder::Slot(site, field.number))?;
+    }
+    Some(site)
+}
+
 /// A site of a path. Only the sites of what stands before its last two fields are gathered.
-fn path_site(classes: &Classes, base: Variable, fields: &[Field]) -> Option<u16>
+fn gathered_site(classes: &Classes, base: Variable, fields: &[Field]) -> Option<u16>
     ensures some { IfSome result (λ site. PathHas (InSets classes.now.sets) (path_of base fields.now) site
         × (site < classes.now.sets.sites)) }
     ensures none { IfNone result ((site : ℕ) → site < classes.now.sets.sites
@@ -202,6 +229,19 @@ fn path_site(classes: &Classes, base: Variable, fields: &[Field]) -> Option<u16>
             let bases = path_sites(points, base, front);
             second_field_site(classes, &bases, next.number, last.number)
         }
+    }
+}
+
+/// A site of a path. Mostly the least site of each step leads to one.
+fn path_site(classes: &Classes, base: Variable, fields: &[Field]) -> Option<u16>
+    ensures some { IfSome result (λ site. PathHas (InSets classes.now.sets) (path_of base fields.now) site
+        × (site < classes.now.sets.sites)) }
+    ensures none { IfNone result ((site : ℕ) → site < classes.now.sets.sites
+        → PathHas (InSets classes.now.sets) (path_of base fields.now) site → ⊥) }
+{
+    match leading_site(classes.points(), base, fields) {
+        Some(site) => Some(site),
+        None => gathered_site(classes, base, fields),
     }
 }
 

@@ -26,3 +26,7 @@ pub record IsFound (s : SchemeView) (t : ℕ) (g : List Node) (locks : LocksView
 pub record IsOnAll (s : SchemeView) (count : ℕ) (locks : LocksView) : Type 0 where
   pub all : AreAllOnAll s count locks.at
   pub first : slice_get locks.at 0 ≡ Some locks.entry
+
+-- the maximal ones of the locks that are derived at the first node
+abbrev pub AreFirstFound : SchemeView → ℕ → List Node → List Lock → Type 0
+AreFirstFound s t g = AreMaximal s (λ l. IsDerived s t g (need 0 l))

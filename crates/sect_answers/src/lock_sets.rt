@@ -11,7 +11,7 @@ ghost use Rattle.sect_answers.specs.Answers.{IsAnswer, IsDue};
 use crate::format::Format;
 use crate::refusal::Refusal;
 use sect_emit::compile_scheme;
-use sect_infer::infer;
+use sect_infer::entry_locks;
 use sect_json::locks_document;
 use sect_names::{Scheme, accept, put_locks};
 use std::alloc::{AllocError, Global};
@@ -75,9 +75,9 @@ fn put_section(
         × (string_bytes text.new ≡ string_bytes text.old ++ section_line scheme.now.program.source section locks)) }
 {
     scheme.facts();
-    let locks = infer(alloc, scheme, section)?;
+    let locks = entry_locks(alloc, scheme, section)?;
     write!(text, "section {section}: ")?;
-    put_locks(text, scheme.program(), locks.entry())?;
+    put_locks(text, scheme.program(), locks.as_slice())?;
     text.push_str("\n")?;
     Ok(())
 }

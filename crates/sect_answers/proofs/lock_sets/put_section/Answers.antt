@@ -1,5 +1,5 @@
 -- What is needed at a section's entry is its least set, and what that names is there.
-use Rattle.std.proofs.{Common.{◌≡◌, ◌++◌, List, ℕ, ap, ◌∙◌, sym, subst, arith}, lemmas.List.{append_assoc}}
+use Rattle.std.proofs.{Common.{◌≡◌, ◌++◌, List, ℕ, ap, ◌∙◌, sym, subst}, lemmas.List.{append_assoc}}
 use Rattle.std.specs.{Prelude.{codes}, Fmt.{decimal}, String.{string_bytes}}
 use Rattle.sect_lemmas.specs.Lists.{Has}
 use Rattle.sect_lemmas.proofs.Places.{at_of}
@@ -13,20 +13,17 @@ pub put_locks-requires : goal.put_locks-requires
 put_locks-requires c =
     let s = c.args.scheme.now in
     let of = at_of (sections_of s.program.texts) c.args.section c.requires in
-    let g = at_of s.graphs.sections c.args.section (omega (arith, c.requires, c.facts.ensures.graphed.section_count)) in
-    let told = c.in_ok-locks.ensures.locks of.0 g.0 of.1 g.1 in
-    let named : AreNamed s.program c.entry.result.now = λ l has.
-    named_lock s of.0.thread l (c.in_ok-locks.ensures.lawful of.0 of.1 0 _ told.first l
-    (subst (λ (ls : List Lock). Has ls l) c.entry.ensures has)) in
-    subst (λ (p : ProgramView). AreNamed p c.entry.result.now) (sym c.program.ensures) named
+    let named : AreNamed s.program c.as_slice.result.now = λ l has.
+    named_lock s of.0.thread l (c.in_ok-locks.ensures.lawful of.0 of.1 l
+    (subst (λ (ls : List Lock). Has ls l) c.as_slice.ensures.value has)) in
+    subst (λ (p : ProgramView). AreNamed p c.as_slice.result.now) (sym c.program.ensures) named
 
 pub returns : goal.returns
 returns c = λ of at.
     let s = c.args.scheme.now in
     let i = c.args.section in
-    let g = at_of s.graphs.sections i (omega (arith, c.requires, c.facts.ensures.graphed.section_count)) in
-    let told = c.in_ok-locks.ensures.locks of g.0 at g.1 in
-    let set = c.entry.result.now in
+    let told = c.in_ok-locks.ensures.locks of at in
+    let set = c.as_slice.result.now in
     let old = string_bytes c.args.text.now in
     let head : List ℕ = codes "section " ++ decimal i ++ codes ": " in
     let locks = locks_text s.program.source set in
@@ -37,7 +34,7 @@ returns c = λ of at.
     let pushed : string_bytes c.push_str.new.self ≡ string_bytes c.put_locks.new.text ++ codes "\n" =
     c.in_ok-push_str.ensures.bytes in (
       set,
-      subst (IsLeastInOrder s i of) (sym c.entry.ensures) (told.least, told.in_order),
+      subst (IsLeastInOrder s i of) (sym c.as_slice.ensures.value) (told.least, told.in_order),
       pushed ∙ ap (λ (b : List ℕ). b ++ codes "\n")
           (put ∙ ap (λ (b : List ℕ). b ++ locks) wrote ∙ append_assoc old head locks)
           ∙ append_assoc old (head ++ locks) (codes "\n"),

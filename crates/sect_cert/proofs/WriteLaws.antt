@@ -5,7 +5,8 @@ use Rattle.std.proofs.lemmas.List.{at_drop_all, drop_more, flat_map_more, take_m
 use Rattle.std.proofs.lemmas.Option.{get_or_from_slice_get}
 use Rattle.std.specs.{Prelude.{codes, slice_get, take}, Option.{option_map}, Fmt.{decimal}}
 use Rattle.std.specs.List.{join_with_byte, flat_map}
-use Rattle.sect_cert.specs.{Paths.{base_text, path_text}, Spelling.{spaced, lock_words, some_words, list_words, step_words}}
+use Rattle.sect_cert.specs.{Paths.{base_text, path_text}, Spelling.{spaced, lock_words, some_words, list_words}}
+use Rattle.sect_cert.specs.Spelling.{step_words}
 use Rattle.sect_cert.specs.{Spelling.{steps_words, chain_words}, Lines.{line_text}}
 use Rattle.sect_cert.specs.Texts.{nodes_lines, chains_lines, section_lines, sections_lines, header_text, fed}
 use Rattle.sect_cert.specs.{Texts.{certificate_text, lines_text, begun_text}, declared.lock.CertPath.{CertPath}}

@@ -95,6 +95,7 @@ impl<'a> Parts<'a> {
         self.rest = back;
         Some(part)
     }
+
     /// Takes the next part, as `next` does, where it may be long.
     pub fn next_long(&mut self) -> Option<&'a [u8]>
         ensures { MatchOption result (self.old ≡ []) (λ part. self.old ≡ part.now ∷ self.new) }

@@ -17,7 +17,8 @@ use Rattle.sect_emit.specs.declared.plan.Grip.{Grip}
 use Rattle.sect_emit.specs.Plan.{grip, gathered, class_mode, intended, AreWishesFor, AreFixedWishes, IsFixedPart}
 use Rattle.sect_emit.specs.steps.{Inferred.{entries_of, AreFixedParts, IsWhole}, Spelled.{IsSectionSpelled, IsSpelled}}
 use Rattle.sect_emit.specs.steps.{Wishes.{IsClassedLock}, Certifying.{IsInferredSection, IsBegun, IsWritten}}
-use Rattle.sect_emit.proofs.{OneCertificate.{sets_one}, Spelling.{all_more}, Wholes.{classed_entry, compiled, sets_least, is_certificate}}
+use Rattle.sect_emit.proofs.{OneCertificate.{sets_one}, Spelling.{all_more}}
+use Rattle.sect_emit.proofs.Wholes.{classed_entry, compiled, sets_least, is_certificate}
 use Rattle.sect_modes.specs.declared.key.Key.TheVariants as key
 use Rattle.sect_names.specs.declared.lock.Lock.TheVariants as lock
 

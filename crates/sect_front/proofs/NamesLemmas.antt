@@ -4,7 +4,8 @@ use Rattle.std.proofs.Common.{[], ◌∷◌, ◌++◌, map, Option, Some, None, 
 use Rattle.std.proofs.Common.{length-append, length-drop, true≢false, take, inl, inr, ◌↔◌}
 use Rattle.std.proofs.{lemmas.Bool.{leb-true, le-leb, eq-eqb, and_parts, not-true}, lemmas.Bool.Decides.{nat_tests}}
 use Rattle.std.proofs.lemmas.{Bool.{cases_Bool, cases_lt, and_from, false_from_ne_true}, Nat.{le_or_l, le_or_r}}
-use Rattle.std.proofs.lemmas.{List.{take_more, take_all, take-take, get_or-take, get_or_past}, Slice.Eq.{slice_eq-Decides}}
+use Rattle.std.proofs.lemmas.List.{take_more, take_all, take-take, get_or-take, get_or_past}
+use Rattle.std.proofs.lemmas.Slice.Eq.{slice_eq-Decides}
 use Rattle.std.proofs.{lemmas.List.Folds.{length-prefix_len, list_all_at}, Math.Dec.{leb}, Math.Bool.{and-false}}
 use Rattle.std.proofs.Math.Seq.{take-append_seam}
 use Rattle.std.specs.{Cmp.{unsigned_Decides}, List.{list_all, list_any, take_while, prefix_len, filter}, Str.{bytes_eq}}

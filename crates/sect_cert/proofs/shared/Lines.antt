@@ -1,5 +1,5 @@
 -- The lines of a section, one behind another.
-use Rattle.std.proofs.Common.{◌≡◌, ℕ, ◌+◌, List, [], ◌∷◌, ◌++◌, length, refl, sym, ap, ◌∙◌, append_assoc, append-nil, arith}
+use Rattle.std.proofs.Common.{◌≡◌, ℕ, ◌+◌, List, [], ◌∷◌, ◌++◌, length, refl, sym, ap, ◌∙◌, append_assoc, arith}
 use Rattle.sect_cert.specs.{Texts.{nodes_lines, chains_lines, section_lines, lines_text}, Lines.{line_text}}
 use Rattle.sect_cert.specs.{declared.lock.CertLock.{CertLock}, declared.certificate.CertChain.{CertChain}}
 use Rattle.sect_cert.specs.{declared.certificate.CertSection.{CertSection}, declared.line.CertLine.{CertLine}}
@@ -9,7 +9,8 @@ use Rattle.sect_cert.specs.declared.line.CertLine.TheVariants as line
 pub joined : (xs ys : List CertLine) → lines_text (xs ++ ys) ≡ lines_text xs ++ lines_text ys
 joined [] ys = refl
 joined (x ∷ xs) ys =
-    ap (λ t. line_text x ++ 10 ∷ t) (joined xs ys) ∙ sym (append_assoc (line_text x) (10 ∷ lines_text xs) (lines_text ys))
+    ap (λ t. line_text x ++ 10 ∷ t) (joined xs ys)
+    ∙ sym (append_assoc (line_text x) (10 ∷ lines_text xs) (lines_text ys))
 
 -- what follows the lines of nodes
 nodes_then : (j : ℕ) (ns : List (List CertLock)) (w : List CertLine) → nodes_lines j ns w ≡ nodes_lines j ns [] ++ w
@@ -38,7 +39,8 @@ next_node ns n node front old new is before put =
     ∙ ap (λ x. front ++ lines_text x) (ap (λ m. lines ++ line.Node m n ∷ []) e ∙ sym (node_more 0 ns n)))))
 
 -- one chain more
-chain_more : (cs : List CertChain) (c : CertChain) → chains_lines (cs ++ c ∷ []) [] ≡ chains_lines cs [] ++ line.Chain c ∷ []
+chain_more : (cs : List CertChain) (c : CertChain)
+    → chains_lines (cs ++ c ∷ []) [] ≡ chains_lines cs [] ++ line.Chain c ∷ []
 chain_more [] c = refl
 chain_more (d ∷ cs) c = ap (λ x. line.Chain d ∷ x) (chain_more cs c)
 
@@ -55,8 +57,9 @@ next_chain cs c front old new before put =
 
 -- the lines of a section, piece by piece
 section_joined : (i : ℕ) (s : CertSection)
-    → lines_text (line.Section i (length s.nodes) ∷ section_lines s []) ≡ lines_text (line.Section i (length s.nodes) ∷ [])
-    ++ (lines_text (nodes_lines 0 s.nodes []) ++ (lines_text (line.Entry s.entry ∷ []) ++ lines_text (chains_lines s.chains [])))
+    → lines_text (line.Section i (length s.nodes) ∷ section_lines s [])
+    ≡ lines_text (line.Section i (length s.nodes) ∷ []) ++ (lines_text (nodes_lines 0 s.nodes [])
+    ++ (lines_text (line.Entry s.entry ∷ []) ++ lines_text (chains_lines s.chains [])))
 section_joined i s =
     let head = line.Section i (length s.nodes) ∷ [] in
     let nodes = nodes_lines 0 s.nodes [] in

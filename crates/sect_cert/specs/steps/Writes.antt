@@ -1,7 +1,8 @@
 -- Texts as they are written, piece by piece.
 use Rattle.std.specs.Prelude.{◌≡◌, ℕ, zero, suc, ◌+◌, List, [], ◌∷◌, ◌++◌, Some, length, slice_get, codes}
 use Rattle.std.specs.List.{flat_map}
-use Rattle.sect_cert.specs.{Spelling.{spaced, lock_words, list_words, step_words}, Lines.{line_text}, Texts.{header_text}}
+use Rattle.sect_cert.specs.{Spelling.{spaced, lock_words, list_words, step_words}, Lines.{line_text}}
+use Rattle.sect_cert.specs.Texts.{header_text}
 use Rattle.sect_cert.specs.{declared.lock.CertLock.{CertLock}, declared.certificate.CertStep.{CertStep}}
 use Rattle.sect_cert.specs.{declared.certificate.CertChain.{CertChain}, declared.certificate.CertSection.{CertSection}}
 use Rattle.sect_cert.specs.declared.line.CertLine.{CertLine}

@@ -1,4 +1,5 @@
-use Rattle.std.proofs.Common.{◌≡◌, ◌<◌, ◌+◌, ◌∙◌, ◌++◌, ◌∷◌, [], Some, length, take, refl, sym, ap, subst, arith, append-nil}
+use Rattle.std.proofs.Common.{◌≡◌, ◌<◌, ◌+◌, ◌∙◌, ◌++◌, ◌∷◌, [], Some, length, take, refl, sym, ap, subst}
+use Rattle.std.proofs.Common.{arith, append-nil}
 use Rattle.std.proofs.lemmas.{List.{length-map}, Option.{slice_get-get_or, slice_get-map, get_or_from_slice_get}}
 use Rattle.std.specs.{Prelude.{slice_get}, Option.{option_map}, List.{AllByRecursion}}
 use Rattle.sect_lemmas.proofs.{Membership.{Has-slice_get}, Places.{one_at, each_at, zipped_at}}

@@ -1,8 +1,10 @@
-use Rattle.std.proofs.Common.{◌≡◌, ◌+◌, ◌<◌, ◌≤◌, ◌∙◌, ◌++◌, ◌∷◌, [], List, length, map, take, refl, sym, ap, subst, arith, append-nil}
+use Rattle.std.proofs.Common.{◌≡◌, ◌+◌, ◌<◌, ◌≤◌, ◌∙◌, ◌++◌, ◌∷◌, [], List, length, map, take, refl, sym, ap}
+use Rattle.std.proofs.Common.{subst, arith, append-nil}
 use Rattle.std.proofs.lemmas.List.{length-map, length-take-le, take_all}
 use Rattle.std.specs.{List.{AllByRecursion}, Map.Iter.{deref}}
 use Rattle.sect_lemmas.proofs.Places.{at_of}
-use Rattle.sect_cert.specs.{declared.lock.CertLock.{CertLock}, Texts.{IsLock, nodes_lines, lines_text}, Spelling.{spaced}}
+use Rattle.sect_cert.specs.{declared.lock.CertLock.{CertLock}, Spelling.{spaced}}
+use Rattle.sect_cert.specs.Texts.{IsLock, nodes_lines, lines_text}
 use Rattle.sect_cert.specs.Spelling as spelling
 use Rattle.sect_cert.proofs.shared.Lines.{next_node}
 use Rattle.sect_emit.specs.{Words.{list_words}, steps.Spelled.{IsListAt}}

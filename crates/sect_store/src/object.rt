@@ -18,9 +18,9 @@ use std::marker::Model;
 pub fn first_data(alloc: Global, types: &[ValueType]) -> Result<Vec<Datum>, AllocError>
     ensures { IfOk result (λ all. all.items ≡ map first_datum types.now) }
 {
-    let mut all = Vec::new(alloc);
+    let mut all = Vec::with_capacity(alloc, types.len())?;
     for of in types {
-        all.push(first(*of))?;
+        all.push_reserved(first(*of));
     }
     Ok(all)
 }

@@ -1,6 +1,7 @@
 //! An outcome as it is printed.
 
-ghost use Rattle.std.specs.{Prelude.{◌≡◌, ◌++◌, OnOk, [], slice_index_or}, String.{string_bytes}, List.{flat_map}};
+ghost use Rattle.std.specs.{Prelude.{◌≡◌, ◌++◌, OnOk, [], slice_index_or, codes}, String.{string_bytes}};
+ghost use Rattle.std.specs.{List.{flat_map}, Fmt.{decimal}};
 ghost use Rattle.sect_types.specs.{Programs.{sites_of}, Sight.{names_of_globals, names_of_declared}};
 ghost use Rattle.sect_store.specs.Printing.{by_place, thread_line, order_line, out_line, datum_text, fields_at};
 ghost use Rattle.sect_store.specs.Printing.{field_text, fields_text, made_lines, store_lines, outcome_text};
@@ -10,6 +11,7 @@ use crate::object::Object;
 use crate::outcome::Outcome;
 use crate::site::site_records;
 use crate::store::Store;
+use itoa::Buffer;
 use sect_front::Declaration;
 use sect_types::{Datum, End, ObjectName, Program};
 use std::alloc::{AllocError, Global};
@@ -54,7 +56,8 @@ pub fn put_order(text: &mut String, order: &[u16]) -> Result<(), AllocError>
     }
     text.push_str("order")?;
     for thread in order {
-        write!(text, " {thread}")?;
+        text.push_str(" ")?;
+        put_number(text, *thread as usize)?;
     }
     text.push_str("\n")
 }
@@ -102,7 +105,8 @@ fn put_made(
     ensures { OnOk result (string_bytes text.new ≡ string_bytes text.old ++ made_lines program.now thread row.now) }
 {
     for (number, object) in row.iter().enumerate() {
-        write!(text, "object {thread}#{number}")?;
+        text.push_str("object ")?;
+        put_made_name(text, thread, number)?;
         put_fields(text, program, sites, object)?;
     }
     Ok(())
@@ -138,7 +142,11 @@ fn put_field(
 {
     match fields.get(number) {
         None => text.push_str(" =")?,
-        Some(field) => write!(text, " {}=", field.name)?,
+        Some(field) => {
+            text.push_str(" ")?;
+            field.name.push_to(text)?;
+            text.push_str("=")?;
+        }
     }
     put_datum(text, program, datum)
 }
@@ -163,7 +171,7 @@ fn put_datum(text: &mut String, program: &Program, datum: Datum) -> Result<(), A
     ensures { OnOk result (string_bytes text.new ≡ string_bytes text.old ++ datum_text program.now datum) }
 {
     match datum {
-        Datum::Number(number) => write!(text, "{number}")?,
+        Datum::Number(number) => text.push_str(Buffer::new().format(number))?,
         Datum::Null => text.push_str("null")?,
         Datum::Refers(name) => put_object_name(text, program, name)?,
     }
@@ -180,8 +188,28 @@ pub fn put_object_name(
 {
     match name {
         ObjectName::Global(number) => put_global_name(text, program, number as usize),
-        ObjectName::Made { thread, number } => Ok(write!(text, "{thread}#{number}")?),
+        ObjectName::Made { thread, number } => {
+            put_made_name(text, thread as usize, number as usize)
+        }
     }
+}
+
+/// Adds what an object is called that a thread made.
+fn put_made_name(text: &mut String, thread: usize, number: usize) -> Result<(), AllocError>
+    ensures { OnOk result (string_bytes text.new
+        ≡ string_bytes text.old ++ decimal thread ++ codes "#" ++ decimal number) }
+{
+    put_number(text, thread)?;
+    text.push_str("#")?;
+    put_number(text, number)
+}
+
+/// Adds a number.
+fn put_number(text: &mut String, number: usize) -> Result<(), AllocError>
+    ensures { OnOk result (string_bytes text.new ≡ string_bytes text.old ++ decimal number) }
+{
+    let mut buffer = Buffer::new();
+    text.push_str(buffer.format(number))
 }
 
 /// Adds the name of a global; nothing where there is no such global.
@@ -195,6 +223,6 @@ pub fn put_global_name(
 {
     match program.tree().globals().get(number) {
         None => Ok(()),
-        Some(global) => Ok(write!(text, "{}", global.name)?),
+        Some(global) => global.name.push_to(text),
     }
 }

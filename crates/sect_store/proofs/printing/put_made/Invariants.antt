@@ -5,6 +5,6 @@ use Rattle.sect_store.proofs.printing.put_made.Given as goal
 
 abbrev pub invariant-loop-number : goal.invariant-loop-number
 invariant-loop-number l = record {
-  added : string_bytes l.text ++ by_place (made_line l.program l.thread) l.number-counter (drop l.number-counter l.row)
+  added : string_bytes l.text ++ by_place (made_line l.program l.thread) l.number (drop l.number l.row)
       ≡ string_bytes l.fn.text ++ by_place (made_line l.program l.thread) 0 l.row;
 }

@@ -89,11 +89,12 @@ fn progress_text(
 {
     let mut text = String::new(alloc);
     let run = &progress.run;
+    let events = run.events.since(alloc, 0)?;
     put_turns(
         &mut text,
         program,
         progress.made.as_slice(),
-        run.events.as_slice(),
+        events.as_slice(),
     )?;
     put_outcome(alloc, &mut text, program, &run.outcome)?;
     Ok(text)

@@ -90,13 +90,13 @@ fn charted_turn(
     match world.turn(thread) {
         Ok(turned) => {
             note_turn(waiting, thread, turned, world.granted())?;
-            let (_, made) = world.trace().split_at(events);
+            let made = world.trace().since(alloc, events)?;
             let (_, printed) = world.output().split_at(delivered);
             let turn = Turn {
                 world,
                 thread,
                 turned,
-                events: made,
+                events: made.as_slice(),
                 delivered: printed,
                 waiting: waiting.as_slice(),
             };

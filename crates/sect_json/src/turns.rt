@@ -40,12 +40,13 @@ fn progress_value(
         (blocks_of progress.now.made.items progress.now.run.events.items) progress.now.run.outcome) }
 {
     let run = &progress.run;
+    let events = run.events.since(alloc, 0)?;
     let printer = Printer::new(alloc, program)?;
     let turns = turn_values(
         alloc,
         program,
         progress.made.as_slice(),
-        run.events.as_slice(),
+        events.as_slice(),
     )?;
     let members = Members::new(alloc)
         .with_made("outcome", outcome_value(alloc, &printer, &run.outcome))?

@@ -4,7 +4,7 @@ ghost use Rattle.std.specs.Prelude.{◌<◌};
 
 use sect_emit::{Compiled, compile};
 use sect_run::{Gate, run_threads};
-use sect_world::{Deed, Event, EventKind, Run};
+use sect_world::{Deed, Event, EventKind};
 use std::alloc::{AllocError, Global};
 use std::process::Abort;
 use std::sync::Wait;
@@ -123,9 +123,9 @@ const OWN: [EventKind; 6] = [
     EventKind::Leave,
 ];
 
-/// How many events of a kind a thread has in a run.
-fn made(run: &Run, thread: u16, kind: EventKind) -> usize {
-    run.events
+/// How many events of a kind a thread has among these.
+fn made(events: &[Event], thread: u16, kind: EventKind) -> usize {
+    events
         .iter()
         .filter(|event| event.thread == thread && kind_of(event) == kind)
         .count()
@@ -146,11 +146,12 @@ fn expect_told(
     let compiled = compiled(rt.alloc(), text)?;
     let gate = Counts::new(rt.alloc(), 2, first)?;
     let run = run_threads(rt, rt.alloc(), &compiled, 10_000, &gate)?;
+    let events = run.events.since(rt.alloc(), 0)?;
     for thread in 0..2u16 {
-        assert_eq!(rt; made(&run, thread, EventKind::Leave), 1);
+        assert_eq!(rt; made(events.as_slice(), thread, EventKind::Leave), 1);
         for kind in kinds {
             let told = gate.of(thread, *kind) as usize;
-            assert_eq!(rt; told, made(&run, thread, *kind), "{thread}");
+            assert_eq!(rt; told, made(events.as_slice(), thread, *kind), "{thread}");
         }
     }
     Ok(())
@@ -210,9 +211,10 @@ fn expect_untold(
     };
     let run = run_threads(rt, rt.alloc(), &compiled, 10_000, &gate)?;
     assert_eq!(rt; gate.told.load(Ordering::SeqCst), 0);
+    let events = run.events.since(rt.alloc(), 0)?;
     for thread in 0..2u16 {
-        assert_eq!(rt; made(&run, thread, EventKind::Act), 3);
-        assert_eq!(rt; made(&run, thread, EventKind::Leave), 1);
+        assert_eq!(rt; made(events.as_slice(), thread, EventKind::Act), 3);
+        assert_eq!(rt; made(events.as_slice(), thread, EventKind::Leave), 1);
     }
     Ok(())
 }
@@ -308,6 +310,7 @@ fn one_leave_wakes_three_readers(rt: HostRuntime) -> Result<(), Fail> {
     let run = run_threads(&rt, rt.alloc(), &compiled, 10_000, &gate)?;
     assert_eq!(rt; gate.late.load(Ordering::SeqCst), 0);
     assert_eq!(rt; gate.inside.load(Ordering::SeqCst), 3);
-    assert_eq!(rt; let_in(run.events.as_slice()), 3);
+    let events = run.events.since(rt.alloc(), 0)?;
+    assert_eq!(rt; let_in(events.as_slice()), 3);
     Ok(())
 }

@@ -3,4 +3,5 @@ pub mod Counting
 pub mod Fits
 pub mod Moves
 pub mod Taking
+pub mod Tracing
 pub mod Wishing

@@ -1,7 +1,6 @@
 //! A thread asks for a key.
 
-ghost use Rattle.std.specs.Prelude.{◌≡◌, ◌<◌, ◌++◌, ◌∷◌, [], length, false, Some, slice_get, OnErr, IfOk, vec_len};
-ghost use Rattle.std.specs.Prelude.{vec_capacity};
+ghost use Rattle.std.specs.Prelude.{◌≡◌, ◌<◌, ◌≤◌, ◌+◌, ◌++◌, ◌∷◌, [], length, false, Some, slice_get, OnErr, IfOk};
 ghost use Rattle.sect_table.specs.{Contents.{holds}, Sound.{IsKept as IsTableKept}};
 ghost use Rattle.sect_emit.specs.declared.plan.Grip.{Grip as Wish};
 ghost use Rattle.sect_world.specs.declared.runner.Runner.{Runner as Asker};
@@ -9,6 +8,7 @@ ghost use Rattle.sect_world.specs.steps.{Fits.{take_of}, Taking.{Wishes, IsAsked
 
 use crate::event::{Deed, Event};
 use crate::runner::Runner;
+use crate::trace::Trace;
 use crate::turned::{EventKind, Turned};
 use sect_emit::Grip;
 use sect_table::{Answer, Grant, Table, TableFault};
@@ -34,12 +34,12 @@ pub fn first_wish(runner: &Runner) -> Option<Grip>
 }
 
 /// A thread comes to hold the first key that it wants: one event.
-pub fn take(trace: &mut Vec<Event>, runners: &mut Vec<Runner>, grant: Grant)
-    requires room { vec_len trace.old < vec_capacity trace.old }
+pub fn take(trace: &mut Trace, runners: &mut Vec<Runner>, grant: Grant)
+    requires room { 0 < trace.old.room }
     requires thread { HasRoomAt grant.thread runners.old.items }
     ensures trace { trace.new.items ≡ trace.old.items ++ take_of grant ∷ [] }
     ensures runners { runners.new.items ≡ advanced_at grant.thread runners.old.items }
-    ensures room { vec_capacity trace.new ≡ vec_capacity trace.old }
+    ensures room { trace.old.room ≤ trace.new.room + 1 }
 {
     runners[grant.thread as usize].taken += 1;
     let Grant { thread, key, mode } = grant;
@@ -52,7 +52,7 @@ pub fn take(trace: &mut Vec<Event>, runners: &mut Vec<Runner>, grant: Grant)
 /// A thread asks for the first key that it wants: it comes to hold it, or it waits. A thread that waits already goes on
 /// waiting.
 pub fn ask(
-    trace: &mut Vec<Event>,
+    trace: &mut Trace,
     runners: &mut Vec<Runner>,
     table: &mut Table,
     thread: u16,

@@ -12,6 +12,7 @@ ghost use Rattle.sect_world.specs.steps.{Fits.{takes}, Taking.{CanAdvance, all_a
 use crate::asking::take;
 use crate::event::Event;
 use crate::runner::{Phase, Runner};
+use crate::trace::Trace;
 use sect_emit::Compiled;
 use sect_table::{Grant, Grants, Table};
 use sect_types::{End, Fault};
@@ -26,12 +27,12 @@ pub struct LetIn {
 
 /// Each grant is a `take` event of the thread that waited; `granted` tells whose.
 fn take_grants(
-    trace: &mut Vec<Event>,
+    trace: &mut Trace,
     runners: &mut Vec<Runner>,
     granted: &mut Vec<u16>,
     grants: &[Grant],
 )
-    requires room { vec_len trace.old + length grants.now ≤ vec_capacity trace.old }
+    requires room { length grants.now ≤ trace.old.room }
     requires place { vec_len granted.old + length grants.now ≤ vec_capacity granted.old }
     requires advance { CanAdvance grants.now runners.old.items }
     ensures trace { trace.new.items ≡ trace.old.items ++ takes grants.now }
@@ -47,7 +48,7 @@ fn take_grants(
 
 /// What the event's thread holds goes to who waits for it: the event, and a `take` event of each that is let in.
 pub fn give_back(
-    trace: &mut Vec<Event>,
+    trace: &mut Trace,
     runners: &mut Vec<Runner>,
     table: &mut Table,
     let_in: &mut LetIn,
@@ -56,7 +57,7 @@ pub fn give_back(
     requires thread { event.thread < length table.old.held }
     requires idle { is_waiting event.thread table.old ≡ false }
     requires grants { length table.old.held ≤ let_in.old.grants.threads }
-    requires room { vec_len trace.old + 1 + length table.old.held ≤ vec_capacity trace.old }
+    requires room { 1 + length table.old.held ≤ trace.old.room }
     requires place { length table.old.held ≤ vec_capacity let_in.old.granted }
     requires advance { CanAdvance (released event.thread table.old).grants runners.old.items }
     ensures trace { trace.new.items ≡ trace.old.items ++ event ∷ takes (released event.thread table.old).grants }

@@ -22,6 +22,7 @@ use crate::inside::{Inside, step_inside};
 use crate::labels::next_label;
 use crate::outside::{Entrant, begin, enter, is_met, step_outside};
 use crate::runner::{Phase, Runner, first_runners, have_ended, put_ends};
+use crate::trace::Trace;
 use crate::turned::{EventKind, Turned, WorldFault};
 use sect_emit::{Compiled, Grip};
 use sect_modes::{Key, Mode};
@@ -34,7 +35,7 @@ use std::marker::Model;
 /// A run: its events, and what it has come to.
 #[derive(Drop)]
 pub struct Run {
-    pub events: Vec<Event>,
+    pub events: Trace,
     pub outcome: Outcome,
 }
 
@@ -44,7 +45,7 @@ pub struct Run {
 #[derive(Drop)]
 pub struct Moment {
     fuel: u32,
-    trace: Vec<Event>,
+    trace: Trace,
     order: Vec<u16>,
     store: Store,
     output: Vec<i64>,
@@ -110,7 +111,7 @@ impl<'a> World<'a> {
         let threads = program.thread_count() as usize;
         let moment = Moment {
             fuel,
-            trace: Vec::new(alloc),
+            trace: Trace::new(alloc),
             order: Vec::new(alloc),
             store: Store::first(alloc, program)?,
             output: Vec::new(alloc),
@@ -136,10 +137,10 @@ impl<'a> World<'a> {
     }
 
     /// The events, in order.
-    pub fn trace(&self) -> &[Event]
-        ensures { result.now ≡ self.now.trace }
+    pub fn trace(&self) -> &Trace
+        ensures { result.now.items ≡ self.now.trace }
     {
-        self.moment.trace.as_slice()
+        &self.moment.trace
     }
 
     /// The threads of the `leave` events, in order.
@@ -281,7 +282,7 @@ impl<'a> World<'a> {
         ensures ok { IfOk result (λ turned. IsTurned thread turned self.old self.new) }
         ensures err { OnErr result (self.new ≡ self.old) }
     {
-        let alloc = *self.moment.trace.allocator();
+        let alloc = self.moment.trace.allocator();
         self.moment.trace.reserve(1)?;
         step_outside(
             alloc,
@@ -303,7 +304,7 @@ impl<'a> World<'a> {
         ensures ok { IfOk result (λ turned. IsTurned thread turned self.old self.new) }
         ensures err { OnErr result (self.new ≡ self.old) }
     {
-        let alloc = *self.moment.trace.allocator();
+        let alloc = self.moment.trace.allocator();
         self.moment.trace.reserve(1)?;
         enter(
             alloc,

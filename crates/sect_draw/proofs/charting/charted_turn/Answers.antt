@@ -22,7 +22,7 @@ turn_row-requires c =
     let t = c.args.thread in
     let ok = c.in-Ok.ensures.ok in
     let told = are_told old.compiled old.state t c.in-Ok.turned ok.events new.state ok.does in
-    let made : c.split_at.result.1.now ≡ ok.events = c.split_at.ensures.back
+    let made : c.in_ok-since.made ≡ ok.events = c.since
     ∙ (ap (drop (length c.trace.result.now)) (c.trace-in-Ok.ensures ∙ ok.trace)
     ∙ (ap (λ xs. drop (length xs) (old.trace ++ ok.events)) c.trace.ensures ∙ drop-append_seam old.trace ok.events)) in
     let as_many = ap (λ (z : CompiledView). length (program_of z).texts) ok.compiled in

@@ -71,7 +71,7 @@ impl Trace {
 
     /// Makes room for so many events more.
     pub fn reserve(&mut self, more: usize) -> Result<(), AllocError>
-        ensures events { self.new.items ≡ self.old.items }
+        ensures items { self.new.items ≡ self.old.items }
         ensures room { OnOk result (more ≤ self.new.room) }
     {
         self.notes.reserve(more)?;
@@ -82,7 +82,7 @@ impl Trace {
     /// One event more, for which there is room.
     pub fn push_reserved(&mut self, event: Event)
         requires { 0 < self.old.room }
-        ensures events { self.new.items ≡ self.old.items ++ event ∷ [] }
+        ensures items { self.new.items ≡ self.old.items ++ event ∷ [] }
         ensures room { self.old.room ≤ self.new.room + 1 }
     {
         let Event { thread, deed } = event;

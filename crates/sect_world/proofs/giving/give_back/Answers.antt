@@ -1,5 +1,5 @@
 -- A release brings no more grants than there are threads.
-use Rattle.std.proofs.Common.{length, ap, ◌∙◌, arith, length-append}
+use Rattle.std.proofs.Common.{length, ap, ◌∙◌, arith}
 use Rattle.sect_world.proofs.Leaving.{length-released}
 use Rattle.sect_world.proofs.giving.give_back.Goals as goal
 
@@ -8,18 +8,7 @@ take_grants-requires-clause-room c =
     let few = c.release_all.ensures.few in
     let listed = ap length c.as_slice.ensures in
     let same = ap length c.release_all.ensures.held ∙ length-released c.args.event.thread c.args.table.now in
-    let longer = ap length c.push_reserved.ensures.items ∙ length-append c.args.trace.now.items _ in
-    omega (
-      arith,
-      few,
-      listed,
-      same,
-      longer,
-      c.push_reserved.ensures.capacity,
-      c.requires.room,
-      c.push_reserved.new.self.ok,
-      c.args.trace.now.ok,
-    )
+    omega (arith, few, listed, same, c.push_reserved.ensures.room, c.requires.room)
 
 pub take_grants-requires-clause-place : goal.take_grants-requires-clause-place
 take_grants-requires-clause-place c =

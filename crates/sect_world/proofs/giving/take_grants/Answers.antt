@@ -14,8 +14,7 @@ loop-grant-preserved c =
     let inv = c.loop-grant.invariant in
     let i = c.loop-grant.grant-index in
     let gs = c.args.grants.now in
-    let here = drop_more gs i _ c.loop-grant-test.true in
-    let longer = ap length c.take.ensures.trace ∙ length-append c.loop-grant.trace.items _ in (
+    let here = drop_more gs i _ c.loop-grant-test.true in (
       subst (λ rs. CanAdvance (drop (i + 1) gs) rs) (sym c.take.ensures.runners)
           (subst (λ zs. CanAdvance zs c.loop-grant.runners.items) here inv.0).1,
       ap (all_advanced (drop (i + 1) gs)) c.take.ensures.runners
@@ -26,15 +25,7 @@ loop-grant-preserved c =
       ap (λ ts. ts ++ takers (drop (i + 1) gs)) c.push_reserved.ensures.items
           ∙ (append_assoc c.loop-grant.granted.items _ (takers (drop (i + 1) gs))
           ∙ (sym (ap (λ zs. c.loop-grant.granted.items ++ takers zs) here) ∙ inv.3)),
-      omega (
-        arith,
-        inv.4,
-        longer,
-        c.take.ensures.room,
-        c.loop-grant-test.true,
-        c.take.new.trace.ok,
-        c.loop-grant.trace.ok,
-      ),
+      omega (arith, inv.4, c.take.ensures.room, c.loop-grant-test.true),
       (let more = ap length c.push_reserved.ensures.items ∙ length-append c.loop-grant.granted.items _ in
           omega (
             arith,

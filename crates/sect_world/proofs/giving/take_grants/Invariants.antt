@@ -9,6 +9,6 @@ invariant-loop-grant l =
     × (all_advanced (drop l.grant-index l.grants) l.runners.items ≡ all_advanced l.grants l.fn.runners.items)
     × (l.trace.items ++ takes (drop l.grant-index l.grants) ≡ l.fn.trace.items ++ takes l.grants)
     × (l.granted.items ++ takers (drop l.grant-index l.grants) ≡ l.fn.granted.items ++ takers l.grants)
-    × (vec_len l.trace + (length l.grants - l.grant-index) ≤ vec_capacity l.trace)
+    × (length l.grants - l.grant-index ≤ l.trace.room)
     × (vec_len l.granted + (length l.grants - l.grant-index) ≤ vec_capacity l.granted)
     × (vec_capacity l.granted ≡ vec_capacity l.fn.granted)

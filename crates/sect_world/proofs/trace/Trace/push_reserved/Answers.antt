@@ -12,8 +12,8 @@ invariant_of-self c =
     let grips = ap length c.put_aside.ensures.taken ∙ length-append c.self.inside.taken.items _ in
     omega (arith, notes, one, grips, c.self.invariant)
 
-pub returns-clause-events : goal.returns-clause-events
-returns-clause-events c =
+pub returns-clause-items : goal.returns-clause-items
+returns-clause-items c =
     ap (λ ss. events_of ss c.put_aside.new.taken.items) c.push_reserved.ensures.items
     ∙ (ap (events_of _) c.put_aside.ensures.taken
     ∙ (events_pushed c.self.inside.notes.items _ c.self.inside.taken.items _ c.self.invariant

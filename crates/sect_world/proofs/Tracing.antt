@@ -1,8 +1,8 @@
 -- Events that are kept apart from what they take.
 use Rattle.std.proofs.Common.{◌≡◌, ◌≤◌, ◌+◌, ◌-◌, ◌++◌, ◌∷◌, ℕ, zero, suc, List, [], drop, take, length, refl, sym, ◌∙◌, ap}
-use Rattle.std.proofs.Common.{subst, arith}
+use Rattle.std.proofs.Common.{arith}
 use Rattle.std.proofs.lemmas.List.{drop-append-le, drop-drop, length-drop}
-use Rattle.sect_world.specs.{declared.event.Deed.{Deed}, declared.event.Event.{Event}, Worlds.{kind_of}}
+use Rattle.sect_world.specs.{declared.event.Deed.{Deed}, Worlds.{kind_of}}
 use Rattle.sect_world.specs.declared.turned.EventKind.{EventKind}
 use Rattle.sect_emit.specs.declared.plan.Grip.{Grip}
 use Rattle.sect_world.specs.declared.trace.Note.{Note}

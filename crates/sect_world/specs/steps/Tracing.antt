@@ -1,5 +1,5 @@
 -- How a trace keeps events: whose each is and of which kind, and aside what those take that take. `Trace` cites it.
-use Rattle.std.specs.Prelude.{◌≡◌, ◌+◌, ℕ, List, [], ◌∷◌, drop, length}
+use Rattle.std.specs.Prelude.{◌+◌, ℕ, List, [], ◌∷◌, drop}
 use Rattle.sect_world.specs.{declared.event.Deed.{Deed}, declared.event.Event.{Event}}
 use Rattle.sect_world.specs.declared.turned.EventKind.{EventKind}
 use Rattle.sect_emit.specs.declared.plan.Grip.{Grip}

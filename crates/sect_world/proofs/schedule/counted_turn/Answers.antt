@@ -7,10 +7,10 @@ use Rattle.sect_world.proofs.schedule.counted_turn.Goals as goal
 pub returns-in-Ok-clause-counted : goal.returns-in-Ok-clause-counted
 returns-in-Ok-clause-counted c =
     let turned = c.in-Ok.ensures.ok in
-    let longer = ap length c.trace.ensures
-    ∙ (ap length turned.trace ∙ length-append c.args.world.now.trace turned.events) in
-    let before = ap length c.trace-before.ensures in
-    record { what = c.in-Ok.field-0; turned = turned; count = omega (arith, longer, before) }
+    let before = c.len-before.ensures ∙ ap length c.trace.ensures in
+    let after = c.len.ensures ∙ (ap length c.trace-in-Ok.ensures
+    ∙ (ap length turned.trace ∙ length-append c.args.world.now.trace turned.events)) in
+    record { what = c.in-Ok.field-0; turned = turned; count = omega (arith, before, after) }
 
 pub returns-in-Ok-clause-within : goal.returns-in-Ok-clause-within
 returns-in-Ok-clause-within c =

@@ -1,5 +1,5 @@
 -- As many events as notes.
-use Rattle.std.proofs.Common.{◌∙◌, sym, ap, length, arith}
+use Rattle.std.proofs.Common.{ap, length, arith}
 use Rattle.sect_world.specs.Traces.{TraceView}
 use Rattle.sect_world.proofs.Tracing.{length_events}
 use Rattle.sect_world.proofs.trace.Trace.len.Goals as goal

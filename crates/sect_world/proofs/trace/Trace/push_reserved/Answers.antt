@@ -1,6 +1,6 @@
 -- An event more, and what it takes.
-use Rattle.std.proofs.Common.{◌≡◌, ◌∙◌, ◌+◌, ◌++◌, ◌∷◌, [], sym, ap, length, arith, length-append}
-use Rattle.sect_world.specs.{declared.event.Event.{Event}, declared.event.Deed.{Deed}, Traces.{TraceView}}
+use Rattle.std.proofs.Common.{◌∙◌, ◌++◌, ◌∷◌, [], ap, length, arith, length-append}
+use Rattle.sect_world.specs.{Traces.{TraceView}}
 use Rattle.sect_world.specs.steps.Tracing.{count_in, count_of, deed_of, taken_by, events_of}
 use Rattle.sect_world.proofs.Tracing.{counted, given_back, count_pushed, events_pushed}
 use Rattle.sect_world.proofs.trace.Trace.push_reserved.Goals as goal

@@ -1,5 +1,5 @@
 -- The last grips are those of the last events.
-use Rattle.std.proofs.Common.{◌≡◌, ◌∙◌, ap, length, drop, arith}
+use Rattle.std.proofs.Common.{◌∙◌, ap, length, drop, arith}
 use Rattle.sect_lemmas.proofs.Results.{if_ok}
 use Rattle.sect_world.specs.{Traces.{TraceView}, steps.Tracing.{count_in}}
 use Rattle.sect_world.proofs.Tracing.{length_events, few_behind, last_events}

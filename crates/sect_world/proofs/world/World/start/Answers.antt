@@ -17,7 +17,7 @@ invariant_of-result c =
     c.facts.ensures.compiled e.count e.first empty c.in_ok-with_threads.ensures.kept in
     let many = world.as_many_held in
     let grants = ap (λ (g : Granted). g.threads) c.in_ok-with_threads-2.ensures in (
-      rw (c.new.ensures.items, c.new-2.ensures.items, c.new-3.ensures.items, stored) world,
+      rw (c.new.ensures, c.new-2.ensures.items, c.new-3.ensures.items, stored) world,
       (
         omega (arith, many, count, grants),
         omega (arith, many, count, c.in_ok-with_capacity.ensures.capacity),
@@ -33,6 +33,6 @@ returns c =
     let stored = c.in_ok-first.ensures ∙ ap first_store same in
     let empty = subst (λ n. IsEmptyFor n c.in_ok-with_threads.field-0) count c.in_ok-with_threads.ensures.empty in
     let e = c.in_ok-first_runners.ensures in
-    rw (c.new.ensures.items, c.new-2.ensures.items, c.new-3.ensures.items, stored, c.in_ok-with_capacity.ensures.items)
+    rw (c.new.ensures, c.new-2.ensures.items, c.new-3.ensures.items, stored, c.in_ok-with_capacity.ensures.items)
     (opened c.args.compiled.now c.args.fuel c.in_ok-first_runners.field-0.items c.in_ok-with_threads.field-0 e.count
     e.first empty)

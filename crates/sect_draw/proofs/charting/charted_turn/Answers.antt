@@ -5,8 +5,8 @@ use Rattle.sect_emit.specs.Compiled.{CompiledView, program_of}
 use Rattle.sect_draw.proofs.Events.{are_told}
 use Rattle.sect_draw.proofs.charting.charted_turn.Goals as goal
 
-pub split_at-requires-in-Ok : goal.split_at-requires-in-Ok
-split_at-requires-in-Ok c =
+pub split_at-requires : goal.split_at-requires
+split_at-requires c =
     let old = c.args.world.now in
     let new = c.turn.new.self in
     let ok = c.in-Ok.ensures.ok in
@@ -22,9 +22,10 @@ turn_row-requires c =
     let t = c.args.thread in
     let ok = c.in-Ok.ensures.ok in
     let told = are_told old.compiled old.state t c.in-Ok.turned ok.events new.state ok.does in
-    let made : c.in_ok-since.made ≡ ok.events = c.since
-    ∙ (ap (drop (length c.trace.result.now)) (c.trace-in-Ok.ensures ∙ ok.trace)
-    ∙ (ap (λ xs. drop (length xs) (old.trace ++ ok.events)) c.trace.ensures ∙ drop-append_seam old.trace ok.events)) in
+    let made : c.as_slice.result.now ≡ ok.events = c.as_slice.ensures.value ∙ (c.in_ok-made-in-Ok.ensures
+    ∙ (ap (drop c.len-events.result) (c.trace-in-Ok.ensures ∙ ok.trace)
+    ∙ (ap (λ n. drop n (old.trace ++ ok.events)) (c.len-events.ensures ∙ ap length c.trace.ensures)
+    ∙ drop-append_seam old.trace ok.events))) in
     let as_many = ap (λ (z : CompiledView). length (program_of z).texts) ok.compiled in
     record {
       there = omega (arith, told.keep.kept.threads, c.in-Ok.ensures.there);

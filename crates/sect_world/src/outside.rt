@@ -12,7 +12,7 @@ ghost use Rattle.sect_world.specs.Viewing.{text_at, frame_of};
 ghost use Rattle.sect_world.specs.steps.Moves.{StepsLocally};
 
 use crate::moving::{Step, chosen, run_node};
-use crate::plans::{plan_of, wish_of};
+use crate::plans::{put_objects, put_plan, wish_of};
 use crate::runner::{Phase, Runner};
 use sect_emit::{Compiled, Grip};
 use sect_modes::at_least;
@@ -88,37 +88,14 @@ pub fn step_outside(
     Ok(())
 }
 
-/// The plan of a section for a thread in this state.
-fn plan_for(
-    alloc: Global,
-    compiled: &Compiled,
-    section: u16,
-    runner: &Runner,
-    store: &Store,
-) -> Result<Vec<Grip>, AllocError>
-    requires { section < length (sections_of (program_of compiled.now).texts) }
-    ensures { IfOk result (λ plan. plan.items
-        ≡ plan_at compiled.now section store.now runner.now.work.locals) }
-{
-    compiled.facts();
-    let plan = plan_of(
-        alloc,
-        compiled.part(section),
-        compiled.set(section),
-        store,
-        &runner.work,
-    )?;
-    Ok(plan)
-}
-
 /// A thread that comes to a section wants what the section's plan asks for in this state. Where memory is refused
-/// nothing has changed.
+/// nothing has changed. `objects` is room for those that are asked for.
 pub fn enter(
-    alloc: Global,
     compiled: &Compiled,
     section: u16,
     runner: &mut Runner,
     store: &Store,
+    objects: &mut Vec<Grip>,
 ) -> Result<(), AllocError>
     requires { section < length (sections_of (program_of compiled.now).texts) }
     ensures phase { OnOk result (runner.new.phase ≡ Entered) }
@@ -127,8 +104,13 @@ pub fn enter(
     ensures frame { OnOk result ((text : TextView) → frame_of text runner.new ≡ frame_of text runner.old) }
     ensures refused { OnErr result (runner.new ≡ runner.old) }
 {
-    let plan = plan_for(alloc, compiled, section, runner, store)?;
-    runner.wanted = plan;
+    compiled.facts();
+    put_objects(objects, store, &runner.work, compiled.set(section))?;
+    put_plan(
+        &mut runner.wanted,
+        compiled.part(section),
+        objects.as_slice(),
+    )?;
     runner.taken = 0;
     runner.phase = Phase::Entered;
     Ok(())

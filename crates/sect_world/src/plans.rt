@@ -1,8 +1,8 @@
 //! The plan of a lock set in a state.
 
-ghost use Rattle.std.specs.Prelude.{◌≡◌, ◌∷◌, [], ◌++◌, List, IfOk, OnOk};
+ghost use Rattle.std.specs.Prelude.{◌≡◌, ◌≤◌, ◌+◌, ◌∷◌, [], ◌++◌, List, length, vec_len, vec_capacity, OnOk, OnErr};
 ghost use Rattle.sect_emit.specs.declared.plan.Grip.{Grip};
-ghost use Rattle.sect_emit.specs.Plan.{key_of as key_by, gathered, object_wishes, plan_of as plan_by};
+ghost use Rattle.sect_emit.specs.Plan.{key_of as key_by, gathered, object_wishes};
 ghost use Rattle.sect_world.specs.steps.Wishing.{wishes_in};
 
 use crate::lookup::path_datum;
@@ -11,7 +11,7 @@ use sect_modes::Key;
 use sect_names::Lock;
 use sect_store::{Store, Work};
 use sect_types::{Datum, ObjectName};
-use std::alloc::{AllocError, Global};
+use std::alloc::AllocError;
 
 /// The key of an object.
 pub fn key_of(name: ObjectName) -> Key
@@ -55,36 +55,46 @@ fn add_object(
     }
 }
 
-/// The objects that a lock set asks for in this state, each with its mode, in key order.
-fn objects_of(
-    alloc: Global,
+/// Puts the objects that a lock set asks for in this state, each with its mode, in key order, in the place of what
+/// stands in `objects`.
+pub fn put_objects(
+    objects: &mut Vec<Grip>,
     store: &Store,
     work: &Work,
     locks: &[Lock],
-) -> Result<Vec<Grip>, AllocError>
-    ensures { IfOk result (λ objects.
-        objects.items ≡ gathered (object_wishes store.now work.now.locals locks.now)) }
+) -> Result<(), AllocError>
+    ensures { OnOk result (objects.new.items ≡ gathered (object_wishes store.now work.now.locals locks.now)) }
 {
-    let mut objects = Vec::new(alloc);
+    objects.clear();
     for place in (0..locks.len()).rev() {
-        add_object(&mut objects, store, work, &locks[place])?;
+        add_object(objects, store, work, &locks[place])?;
     }
-    Ok(objects)
+    Ok(())
 }
 
-/// The plan in this state of a lock set whose fixed part is this.
-pub fn plan_of(
-    alloc: Global,
-    part: &[Grip],
-    locks: &[Lock],
-    store: &Store,
-    work: &Work,
-) -> Result<Vec<Grip>, AllocError>
-    ensures { IfOk result (λ plan.
-        plan.items ≡ plan_by part.now locks.now store.now work.now.locals) }
+/// Adds these, for which there is room.
+fn add_reserved(plan: &mut Vec<Grip>, grips: &[Grip])
+    requires { vec_len plan.old + length grips.now ≤ vec_capacity plan.old }
+    ensures items { plan.new.items ≡ plan.old.items ++ grips.now }
+    ensures capacity { vec_capacity plan.new ≡ vec_capacity plan.old }
 {
-    let objects = objects_of(alloc, store, work, locks)?;
-    let mut plan = Vec::from_slice(alloc, part)?;
-    plan.extend_from_slice(objects.as_slice())?;
-    Ok(plan)
+    for grip in grips {
+        plan.push_reserved(*grip);
+    }
+}
+
+/// Puts a fixed part and objects in the place of what stands in `plan`, mostly in the room that it has. Where memory is
+/// refused the plan stays.
+pub fn put_plan(plan: &mut Vec<Grip>, part: &[Grip], objects: &[Grip]) -> Result<(), AllocError>
+    ensures ok { OnOk result (plan.new.items ≡ part.now ++ objects.now) }
+    ensures err { OnErr result (plan.new ≡ plan.old) }
+{
+    let count = part.len() + objects.len();
+    if plan.capacity() < count {
+        *plan = Vec::with_capacity(*plan.allocator(), count)?;
+    }
+    plan.clear();
+    add_reserved(plan, part);
+    add_reserved(plan, objects);
+    Ok(())
 }

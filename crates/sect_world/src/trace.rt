@@ -1,28 +1,37 @@
 //! The events of a run, in few bytes.
 
 ghost use Rattle.std.specs.Prelude.{◌≡◌, ◌≤◌, ◌<◌, ◌+◌, ◌++◌, ◌∷◌, [], length, drop, vec_len, vec_capacity, IfOk, OnOk};
-ghost use Rattle.sect_world.specs.Worlds.{kind_of as kind_in};
-ghost use Rattle.sect_world.specs.steps.Tracing.{taken_by, count_of, count_in, deed_of, events_of};
-ghost use Rattle.sect_world.specs.declared.turned.EventKind.TheVariants.{Take};
+ghost use Rattle.sect_world.specs.steps.Tracing.{noted_of, taken_by, count_of, count_in, deed_of, events_of};
 
 use crate::event::{Deed, Event};
-use crate::turned::EventKind;
-use sect_emit::Grip;
+use sect_modes::{Key, Mode};
 use std::alloc::{AllocError, Global};
 use std::marker::Model;
+
+/// What a thread does, but for the key that it takes.
+#[derive(Clone, Copy)]
+enum Noted {
+    Local,
+    Enter,
+    Take(Mode),
+    Begin,
+    Again,
+    Act,
+    Leave,
+}
 
 /// An event, but for the key that it takes.
 #[derive(Clone, Copy)]
 struct Note {
     thread: u16,
-    kind: EventKind,
+    what: Noted,
 }
 
 /// The events of a run, in order. A run may have millions, and most take no key: what is taken stands aside, in the
 /// order of the events that take it.
 pub struct Trace {
     notes: Vec<Note>,
-    taken: Vec<Grip>,
+    taken: Vec<Key>,
 }
 
 impl Drop for Trace {
@@ -89,7 +98,7 @@ impl Trace {
         put_aside(&mut self.taken, deed);
         self.notes.push_reserved(Note {
             thread,
-            kind: kind_of(deed),
+            what: note_of(deed),
         });
     }
 
@@ -102,84 +111,84 @@ impl Trace {
         let (_, taken) = self
             .taken
             .as_slice()
-            .split_at(self.taken.len() - grips_in(notes));
+            .split_at(self.taken.len() - keys_in(notes));
         events_from(alloc, notes, taken)
     }
 }
 
 /// Puts aside what is taken.
-fn put_aside(taken: &mut Vec<Grip>, deed: Deed)
+fn put_aside(taken: &mut Vec<Key>, deed: Deed)
     requires { vec_len taken.old < vec_capacity taken.old }
     ensures taken { taken.new.items ≡ taken.old.items ++ taken_by deed }
     ensures room { vec_capacity taken.new ≡ vec_capacity taken.old }
 {
-    if let Deed::Take { key, mode } = deed {
-        taken.push_reserved(Grip { key, mode });
+    if let Deed::Take { key, mode: _ } = deed {
+        taken.push_reserved(key);
     }
 }
 
-/// Of which kind a deed is.
-fn kind_of(deed: Deed) -> EventKind
-    ensures { result ≡ kind_in deed }
+/// What is noted of a deed.
+fn note_of(deed: Deed) -> Noted
+    ensures { result ≡ noted_of deed }
 {
     match deed {
-        Deed::Local => EventKind::Local,
-        Deed::Enter => EventKind::Enter,
-        Deed::Take { key: _, mode: _ } => EventKind::Take,
-        Deed::Begin => EventKind::Begin,
-        Deed::Again => EventKind::Again,
-        Deed::Act => EventKind::Act,
-        Deed::Leave => EventKind::Leave,
+        Deed::Local => Noted::Local,
+        Deed::Enter => Noted::Enter,
+        Deed::Take { key: _, mode } => Noted::Take(mode),
+        Deed::Begin => Noted::Begin,
+        Deed::Again => Noted::Again,
+        Deed::Act => Noted::Act,
+        Deed::Leave => Noted::Leave,
     }
 }
 
-/// How many grips a deed of this kind takes.
-fn grips_of(kind: EventKind) -> usize
-    ensures { result ≡ count_of kind }
+/// How many keys are taken by what is noted so.
+fn keys_of(what: Noted) -> usize
+    ensures { result ≡ count_of what }
 {
-    match kind {
-        EventKind::Take => 1,
-        EventKind::Local => 0,
-        EventKind::Enter => 0,
-        EventKind::Begin => 0,
-        EventKind::Again => 0,
-        EventKind::Act => 0,
-        EventKind::Leave => 0,
+    match what {
+        Noted::Take(_) => 1,
+        Noted::Local => 0,
+        Noted::Enter => 0,
+        Noted::Begin => 0,
+        Noted::Again => 0,
+        Noted::Act => 0,
+        Noted::Leave => 0,
     }
 }
 
-/// How many grips these take.
-fn grips_in(notes: &[Note]) -> usize
+/// How many keys these take.
+fn keys_in(notes: &[Note]) -> usize
     ensures { result ≡ count_in notes.now }
 {
     let mut count = 0;
     for note in notes {
-        count += grips_of(note.kind);
+        count += keys_of(note.what);
     }
     count
 }
 
-/// The deed of this kind, which takes this grip if it takes one.
-fn deed_at(kind: EventKind, taken: &[Grip], next: usize) -> Deed
-    requires { count_of kind + next ≤ length taken.now }
-    ensures { result ≡ deed_of kind (drop next taken.now) }
+/// The deed that is noted so, which takes the key at this place if it takes one.
+fn deed_at(what: Noted, taken: &[Key], next: usize) -> Deed
+    requires { count_of what + next ≤ length taken.now }
+    ensures { result ≡ deed_of what (drop next taken.now) }
 {
-    match kind {
-        EventKind::Local => Deed::Local,
-        EventKind::Enter => Deed::Enter,
-        EventKind::Take => {
-            let Grip { key, mode } = taken[next];
-            Deed::Take { key, mode }
-        }
-        EventKind::Begin => Deed::Begin,
-        EventKind::Again => Deed::Again,
-        EventKind::Act => Deed::Act,
-        EventKind::Leave => Deed::Leave,
+    match what {
+        Noted::Local => Deed::Local,
+        Noted::Enter => Deed::Enter,
+        Noted::Take(mode) => Deed::Take {
+            key: taken[next],
+            mode,
+        },
+        Noted::Begin => Deed::Begin,
+        Noted::Again => Deed::Again,
+        Noted::Act => Deed::Act,
+        Noted::Leave => Deed::Leave,
     }
 }
 
-/// The events of these notes, which take these grips.
-fn events_from(alloc: Global, notes: &[Note], taken: &[Grip]) -> Result<Vec<Event>, AllocError>
+/// The events that are noted so, which take these keys in order.
+fn events_from(alloc: Global, notes: &[Note], taken: &[Key]) -> Result<Vec<Event>, AllocError>
     requires { count_in notes.now ≡ length taken.now }
     ensures { IfOk result (λ events. events.items ≡ events_of notes.now taken.now) }
 {
@@ -188,9 +197,9 @@ fn events_from(alloc: Global, notes: &[Note], taken: &[Grip]) -> Result<Vec<Even
     for note in notes {
         events.push_reserved(Event {
             thread: note.thread,
-            deed: deed_at(note.kind, taken, next),
+            deed: deed_at(note.what, taken, next),
         });
-        next += grips_of(note.kind);
+        next += keys_of(note.what);
     }
     Ok(events)
 }

@@ -41,7 +41,8 @@ pub struct Run {
 
 /// A moment of a run, with the events that led to it, but for its compiled program: the fuel with which each thread
 /// began, the events, the threads of the `leave` events in order, the store, what was delivered, the threads, who holds
-/// and waits for which key, whom the last turn has let in, and room for how the threads end.
+/// and waits for which key, whom the last turn has let in, and room for how the threads end and for what a plan asks
+/// for.
 #[derive(Drop)]
 pub struct Moment {
     fuel: u32,
@@ -53,6 +54,7 @@ pub struct Moment {
     table: Table,
     let_in: LetIn,
     ends: Vec<Option<End>>,
+    objects: Vec<Grip>,
 }
 
 impl Moment {
@@ -122,6 +124,7 @@ impl<'a> World<'a> {
                 granted: Vec::with_capacity(alloc, threads)?,
             },
             ends: Vec::with_capacity(alloc, threads)?,
+            objects: Vec::new(alloc),
         };
         Ok(World { compiled, moment })
     }
@@ -304,14 +307,13 @@ impl<'a> World<'a> {
         ensures ok { IfOk result (λ turned. IsTurned thread turned self.old self.new) }
         ensures err { OnErr result (self.new ≡ self.old) }
     {
-        let alloc = self.moment.trace.allocator();
         self.moment.trace.reserve(1)?;
         enter(
-            alloc,
             self.compiled,
             section,
             &mut self.moment.runners[thread as usize],
             &self.moment.store,
+            &mut self.moment.objects,
         )?;
         self.moment.let_in.granted.clear();
         let deed = Deed::Enter;

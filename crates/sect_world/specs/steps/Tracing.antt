@@ -1,50 +1,59 @@
--- How a trace keeps events: whose each is and of which kind, and aside what those take that take. `Trace` cites it.
+-- How a trace keeps events: of each all but the key that it takes, and the keys aside. `Trace` cites it.
 use Rattle.std.specs.Prelude.{◌+◌, ℕ, List, [], ◌∷◌, drop}
+use Rattle.sect_modes.specs.declared.key.Key.{Key}
 use Rattle.sect_world.specs.{declared.event.Deed.{Deed}, declared.event.Event.{Event}}
-use Rattle.sect_world.specs.declared.turned.EventKind.{EventKind}
-use Rattle.sect_emit.specs.declared.plan.Grip.{Grip}
-use Rattle.sect_world.specs.declared.trace.Note.{Note}
+use Rattle.sect_world.specs.{declared.trace.Note.{Note}, declared.trace.Noted.{Noted}}
 use Rattle.sect_world.specs.declared.event.Deed.TheVariants as deed
-use Rattle.sect_world.specs.declared.turned.EventKind.TheVariants as kind
+use Rattle.sect_world.specs.declared.trace.Noted.TheVariants as noted
 
--- the grip that a deed takes
-abbrev pub taken_by : Deed → List Grip
+-- what is noted of a deed
+abbrev pub noted_of : Deed → Noted
+noted_of deed.Local = noted.Local
+noted_of deed.Enter = noted.Enter
+noted_of (deed.Take k m) = noted.Take m
+noted_of deed.Begin = noted.Begin
+noted_of deed.Again = noted.Again
+noted_of deed.Act = noted.Act
+noted_of deed.Leave = noted.Leave
+
+-- the key that a deed takes
+abbrev pub taken_by : Deed → List Key
 taken_by deed.Local = []
 taken_by deed.Enter = []
-taken_by (deed.Take k m) = record { key = k; mode = m } ∷ []
+taken_by (deed.Take k m) = k ∷ []
 taken_by deed.Begin = []
 taken_by deed.Again = []
 taken_by deed.Act = []
 taken_by deed.Leave = []
 
--- how many grips a deed of this kind takes
-abbrev pub count_of : EventKind → ℕ
-count_of kind.Local = 0
-count_of kind.Enter = 0
-count_of kind.Take = 1
-count_of kind.Begin = 0
-count_of kind.Again = 0
-count_of kind.Act = 0
-count_of kind.Leave = 0
+-- how many keys are taken by what is noted so
+abbrev pub count_of : Noted → ℕ
+count_of noted.Local = 0
+count_of noted.Enter = 0
+count_of (noted.Take m) = 1
+count_of noted.Begin = 0
+count_of noted.Again = 0
+count_of noted.Act = 0
+count_of noted.Leave = 0
 
--- how many grips these take
+-- how many keys these take
 abbrev pub count_in : List Note → ℕ
 count_in [] = 0
-count_in (s ∷ ss) = count_of s.kind + count_in ss
+count_in (n ∷ ns) = count_of n.what + count_in ns
 
--- the deed of this kind that takes the first of these grips, if it takes one
-abbrev pub deed_of : EventKind → List Grip → Deed
-deed_of kind.Local gs = deed.Local
-deed_of kind.Enter gs = deed.Enter
-deed_of kind.Take [] = deed.Enter
-deed_of kind.Take (g ∷ gs) = deed.Take g.key g.mode
-deed_of kind.Begin gs = deed.Begin
-deed_of kind.Again gs = deed.Again
-deed_of kind.Act gs = deed.Act
-deed_of kind.Leave gs = deed.Leave
+-- the deed that is noted so, and takes the first of these keys if it takes one
+abbrev pub deed_of : Noted → List Key → Deed
+deed_of noted.Local ks = deed.Local
+deed_of noted.Enter ks = deed.Enter
+deed_of (noted.Take m) [] = deed.Enter
+deed_of (noted.Take m) (k ∷ ks) = deed.Take k m
+deed_of noted.Begin ks = deed.Begin
+deed_of noted.Again ks = deed.Again
+deed_of noted.Act ks = deed.Act
+deed_of noted.Leave ks = deed.Leave
 
--- the events of these notes, which take these grips in order
-abbrev pub events_of : List Note → List Grip → List Event
-events_of [] gs = []
-events_of (s ∷ ss) gs =
-    record { thread = s.thread; deed = deed_of s.kind gs } ∷ events_of ss (drop (count_of s.kind) gs)
+-- the events that are noted so, which take these keys in order
+abbrev pub events_of : List Note → List Key → List Event
+events_of [] ks = []
+events_of (n ∷ ns) ks =
+    record { thread = n.thread; deed = deed_of n.what ks } ∷ events_of ns (drop (count_of n.what) ks)

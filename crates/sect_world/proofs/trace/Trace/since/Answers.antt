@@ -1,4 +1,4 @@
--- The last grips are those of the last events.
+-- The last keys are those of the last events.
 use Rattle.std.proofs.Common.{◌∙◌, ap, length, drop, arith}
 use Rattle.sect_lemmas.proofs.Results.{if_ok}
 use Rattle.sect_world.specs.{Traces.{TraceView}, steps.Tracing.{count_in}}
@@ -14,21 +14,21 @@ split_at-requires c =
 pub overflow_sub-len : goal.overflow_sub-len
 overflow_sub-len c =
     let few = few_behind c.args.count c.self.inside.notes.items c.self.inside.taken.items c.self.invariant in
-    let counted = c.grips_in.ensures
+    let counted = c.keys_in.ensures
     ∙ ap count_in (c.split_at.ensures.back ∙ ap (drop c.args.count) c.as_slice.ensures.value) in
     omega (arith, few, counted, c.len.ensures, c.self.inside.taken.ok)
 
 pub events_from-requires : goal.events_from-requires
 events_from-requires c =
-    (last_events c.args.count c.self.inside.notes.items _ c.self.inside.taken.items _ c.len.result c.grips_in.result
+    (last_events c.args.count c.self.inside.notes.items _ c.self.inside.taken.items _ c.len.result c.keys_in.result
     c.self.invariant (c.split_at.ensures.back ∙ ap (drop c.args.count) c.as_slice.ensures.value)
-    (omega (arith, c.len.ensures, c.self.inside.taken.ok)) c.grips_in.ensures
+    (omega (arith, c.len.ensures, c.self.inside.taken.ok)) c.keys_in.ensures
     (c.split_at-2.ensures.back ∙ ap (drop _) c.as_slice-2.ensures.value)).0
 
 pub returns : goal.returns
 returns c = if_ok c.events_from.result (λ events e. e
-    ∙ ((last_events c.args.count c.self.inside.notes.items _ c.self.inside.taken.items _ c.len.result c.grips_in.result
+    ∙ ((last_events c.args.count c.self.inside.notes.items _ c.self.inside.taken.items _ c.len.result c.keys_in.result
     c.self.invariant (c.split_at.ensures.back ∙ ap (drop c.args.count) c.as_slice.ensures.value)
-    (omega (arith, c.len.ensures, c.self.inside.taken.ok)) c.grips_in.ensures
+    (omega (arith, c.len.ensures, c.self.inside.taken.ok)) c.keys_in.ensures
     (c.split_at-2.ensures.back ∙ ap (drop _) c.as_slice-2.ensures.value)).1
     ∙ ap (λ (v : TraceView). drop c.args.count v.items) c.self.view_is)) c.events_from.ensures

@@ -2,7 +2,7 @@ use Rattle.std.proofs.Common.{◌≡◌, ◌+◌, ◌-◌, ◌<◌, length, drop
 use Rattle.sect_lemmas.proofs.Elements.{drop_next}
 use Rattle.sect_emit.specs.Plan.{gathered, object_wishes}
 use Rattle.sect_world.proofs.Wishing.{wishes_of_first}
-use Rattle.sect_world.proofs.plans.objects_of.Goals as goal
+use Rattle.sect_world.proofs.plans.put_objects.Goals as goal
 
 pub loop-place-preserved : goal.loop-place-preserved
 loop-place-preserved c =

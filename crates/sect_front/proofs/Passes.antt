@@ -100,7 +100,7 @@ module _ (s : TreeView) (o : Owner) (ls : List Declaration) where
   compute_passes fs b x (operand.Name n) operator.Subtract u w = simp operand_back
   compute_passes fs b x (operand.Name n) operator.Multiply u w = simp operand_back
 
-  primitive_passes : (fs : List OpenBlock) (b : BlockView) (p : leaf.Primitive) (w : List Token)
+  pub primitive_passes : (fs : List OpenBlock) (b : BlockView) (p : leaf.Primitive) (w : List Token)
       → after (at fs b (place.Head None)) (primitive_tokens p w) ≡
       after (at fs (append b (Primitive p)) (place.Head None)) w
   primitive_passes fs b (primitive.Assign x v) w = assign_passes fs b x v w

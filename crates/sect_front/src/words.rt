@@ -183,7 +183,8 @@ fn keyword(word: &[u8]) -> Option<Token>
     }
 }
 
-fn begins_letter(bytes: &[u8]) -> bool
+/// Whether a letter or `_` stands first.
+pub fn begins_letter(bytes: &[u8]) -> bool
     ensures { result ≡ begins letter_of bytes.now }
 {
     match bytes {

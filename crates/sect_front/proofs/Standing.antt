@@ -1,0 +1,85 @@
+-- Tokens that stand at the front, one after another.
+use Rattle.std.proofs.Common.{◌≡◌, ℕ, false, List, [], ◌∷◌, ◌++◌, Some, None, refl, sym, ◌∙◌, ap, subst}
+use Rattle.std.proofs.Common.{append_assoc}
+use Rattle.sect_front.specs.{Syntax.{BlockView}, TreeView.{TreeView}, Words.{is_name_byte}, Gaps.{begins_with}}
+use Rattle.sect_front.specs.{Grammar.{operand_token, operator_token}, Tokens.{primitive_tokens}, Braces.{brace}}
+use Rattle.sect_front.specs.{declared.token.Token.{Token}, declared.tree.Operand.{Operand}}
+use Rattle.sect_front.specs.{declared.tree.Operator.{Operator}, declared.tree.Declaration.{Declaration}}
+use Rattle.sect_front.specs.{declared.reader.Owner.{Owner}, declared.within.OpenBlock.{OpenBlock}}
+use Rattle.sect_front.specs.steps.{Advance.{operand_of}, Recognition.{single_sign}, Lexeme.{lexeme_of}}
+use Rattle.sect_front.specs.steps.{ReaderView.{ReaderView, among}, Standing.{Stands, AreCalm, IsAdded, IsPassed}}
+use Rattle.sect_front.proofs.Passes.{primitive_passes}
+use Rattle.sect_lemmas.proofs.Options.{some_injective, none_or_some}
+use Rattle.sect_front.specs.declared.token.Token.TheVariants as token
+use Rattle.sect_front.specs.declared.tree.Operand.TheVariants as operand
+use Rattle.sect_front.specs.declared.tree.Operator.TheVariants as operator
+use Rattle.sect_front.specs.declared.tree.Primitive as leaf
+use Rattle.sect_front.specs.declared.tree.Primitive.TheVariants as primitive
+use Rattle.sect_front.specs.declared.within.Partial.TheVariants as place
+use Rattle.sect_front.specs.steps.Read as read
+
+-- a sign of one byte behind which no `=` stands
+pub sign_lexed : (b : ℕ) (rest : List ℕ) (t : Token) → is_name_byte b ≡ false → begins_with 61 rest ≡ false
+    → single_sign b ≡ Some t → lexeme_of (b ∷ rest) ≡ Some (t, 1)
+sign_lexed b rest t word equals e = rw (word, equals, e) refl
+
+-- a token that is an operand is that operand's
+pub operand_is : (t : Token) (v : Operand) → operand_of t ≡ Some v → t ≡ operand_token v
+operand_is (token.Number n) v e = ap operand_token (some_injective (operand.Number n) v e)
+operand_is (token.Name n) v e = ap operand_token (some_injective (operand.Name n) v e)
+operand_is token.Null v e = ap operand_token (some_injective operand.Null v e)
+operand_is _ v e = absurd (none_or_some v e)
+
+-- one more token stands before those that follow
+pub added_behind : (front : List Token) (t : Token) (here rest there : List ℕ) (before after : BlockView)
+    → Stands here t rest → IsAdded (front ++ t ∷ []) rest there before after → IsAdded front here there before after
+added_behind front t here rest there before after s (p, ts, standing, tokens, added) =
+    (p, t ∷ ts, (rest, s, standing), tokens ∙ append_assoc front (t ∷ []) ts, added)
+
+calm_operand : (v : Operand) (k : ℕ) → brace k (operand_token v) ≡ k
+calm_operand (operand.Number n) k = refl
+calm_operand (operand.Name n) k = refl
+calm_operand operand.Null k = refl
+
+calm_operator : (o : Operator) (k : ℕ) → brace k (operator_token o) ≡ k
+calm_operator operator.Add k = refl
+calm_operator operator.Subtract k = refl
+calm_operator operator.Multiply k = refl
+
+-- a statement without a block has no braces
+calm_primitive : (p : leaf.Primitive) → AreCalm (primitive_tokens p [])
+calm_primitive (primitive.Assign x v) = (λ k. refl, (λ k. refl, (calm_operand v, (λ k. refl, tt))))
+calm_primitive (primitive.Compute x v o u) =
+    (λ k. refl, (λ k. refl, (calm_operand v, (calm_operator o, (calm_operand u, (λ k. refl, tt))))))
+calm_primitive (primitive.New x r) = (λ k. refl, (λ k. refl, (λ k. refl, (λ k. refl, (λ k. refl, tt)))))
+calm_primitive (primitive.Load x y f) =
+    (λ k. refl, (λ k. refl, (λ k. refl, (λ k. refl, (λ k. refl, (λ k. refl, tt))))))
+calm_primitive (primitive.Store y f v) =
+    (λ k. refl, (λ k. refl, (λ k. refl, (λ k. refl, (calm_operand v, (λ k. refl, tt))))))
+calm_primitive (primitive.Print v) = (λ k. refl, (calm_operand v, (λ k. refl, tt)))
+
+-- a statement that has been added where one may begin
+pub passed_there : (s : TreeView) (o : Owner) (ls : List Declaration) (fs : List OpenBlock) (here there : List ℕ)
+    (before after : BlockView) → IsAdded [] here there before after →
+    IsPassed here (among s o ls (record { open_blocks = fs; before = before; place = place.Head None })) there
+    (among s o ls (record { open_blocks = fs; before = after; place = place.Head None }))
+passed_there s o ls fs here there before after (p, [], standing, tokens, added) = absurd (no_tokens p tokens)
+  where
+    no_tokens : (q : leaf.Primitive) → primitive_tokens q [] ≡ [] → ⊥
+    no_tokens (primitive.Assign x v) e = cc
+    no_tokens (primitive.Compute x v o u) e = cc
+    no_tokens (primitive.New x r) e = cc
+    no_tokens (primitive.Load x y f) e = cc
+    no_tokens (primitive.Store y f v) e = cc
+    no_tokens (primitive.Print v) e = cc
+passed_there s o ls fs here there before after (p, t ∷ ts, standing, tokens, added) = (
+  t,
+  ts,
+  standing,
+  subst AreCalm tokens (calm_primitive p),
+  ap (read.after (at before)) (sym tokens) ∙ (primitive_passes s o ls fs before p []
+      ∙ ap (λ b. Some (at b)) (sym added)),
+)
+  where
+    at : BlockView → ReaderView
+    at b = among s o ls (record { open_blocks = fs; before = b; place = place.Head None })

@@ -1,14 +1,15 @@
 -- Tokens that stand at the front, one after another.
 use Rattle.std.proofs.Common.{◌≡◌, ℕ, false, List, [], ◌∷◌, ◌++◌, Some, None, refl, sym, ◌∙◌, ap, subst}
 use Rattle.std.proofs.Common.{append_assoc}
-use Rattle.sect_front.specs.{Syntax.{BlockView}, TreeView.{TreeView}, Words.{is_name_byte}, Gaps.{begins_with}}
+use Rattle.sect_front.specs.{Syntax.{StatementView, BlockView, Primitive, If, End, Then}, Trees.{append}, TreeView.{TreeView}}
+use Rattle.sect_front.specs.{declared.tree.Test.{Test}, Words.{is_name_byte}, Gaps.{begins_with}}
 use Rattle.sect_front.specs.{Grammar.{operand_token, operator_token}, Tokens.{primitive_tokens}, Braces.{brace}}
 use Rattle.sect_front.specs.{declared.token.Token.{Token}, declared.tree.Operand.{Operand}}
 use Rattle.sect_front.specs.{declared.tree.Operator.{Operator}, declared.tree.Declaration.{Declaration}}
 use Rattle.sect_front.specs.{declared.reader.Owner.{Owner}, declared.within.OpenBlock.{OpenBlock}}
 use Rattle.sect_front.specs.steps.{Advance.{operand_of}, Recognition.{single_sign}, Lexeme.{lexeme_of}}
 use Rattle.sect_front.specs.steps.{ReaderView.{ReaderView, among}, Standing.{Stands, AreCalm, IsAdded, IsPassed}}
-use Rattle.sect_front.proofs.Passes.{primitive_passes}
+use Rattle.sect_front.proofs.Passes.{primitive_passes, settled_next}
 use Rattle.sect_lemmas.proofs.Options.{some_injective, none_or_some}
 use Rattle.sect_front.specs.declared.token.Token.TheVariants as token
 use Rattle.sect_front.specs.declared.tree.Operand.TheVariants as operand
@@ -58,28 +59,52 @@ calm_primitive (primitive.Store y f v) =
     (λ k. refl, (λ k. refl, (λ k. refl, (λ k. refl, (calm_operand v, (λ k. refl, tt))))))
 calm_primitive (primitive.Print v) = (λ k. refl, (calm_operand v, (λ k. refl, tt)))
 
+no_tokens : (p : leaf.Primitive) → primitive_tokens p [] ≡ [] → ⊥
+no_tokens (primitive.Assign x v) e = cc
+no_tokens (primitive.Compute x v o u) e = cc
+no_tokens (primitive.New x r) e = cc
+no_tokens (primitive.Load x y f) e = cc
+no_tokens (primitive.Store y f v) e = cc
+no_tokens (primitive.Print v) e = cc
+
+-- a statement that has been added is passed by what takes its tokens
+added_passed : (here there : List ℕ) (before mid : BlockView) (r : ReaderView) (m : BlockView → ReaderView)
+    → ((p : leaf.Primitive) → read.after r (primitive_tokens p []) ≡ Some (m (append before (Primitive p))))
+    → IsAdded [] here there before mid → IsPassed here r there (m mid)
+added_passed here there before mid r m leads (p, [], standing, tokens, added) = absurd (no_tokens p tokens)
+added_passed here there before mid r m leads (p, t ∷ ts, standing, tokens, added) = (
+  t,
+  ts,
+  standing,
+  subst AreCalm tokens (calm_primitive p),
+  ap (read.after r) (sym tokens) ∙ (leads p ∙ ap (λ b. Some (m b)) (sym added)),
+)
+
 -- a statement that has been added where one may begin
 pub passed_there : (s : TreeView) (o : Owner) (ls : List Declaration) (fs : List OpenBlock) (here there : List ℕ)
     (before after : BlockView) → IsAdded [] here there before after →
     IsPassed here (among s o ls (record { open_blocks = fs; before = before; place = place.Head None })) there
     (among s o ls (record { open_blocks = fs; before = after; place = place.Head None }))
-passed_there s o ls fs here there before after (p, [], standing, tokens, added) = absurd (no_tokens p tokens)
-  where
-    no_tokens : (q : leaf.Primitive) → primitive_tokens q [] ≡ [] → ⊥
-    no_tokens (primitive.Assign x v) e = cc
-    no_tokens (primitive.Compute x v o u) e = cc
-    no_tokens (primitive.New x r) e = cc
-    no_tokens (primitive.Load x y f) e = cc
-    no_tokens (primitive.Store y f v) e = cc
-    no_tokens (primitive.Print v) e = cc
-passed_there s o ls fs here there before after (p, t ∷ ts, standing, tokens, added) = (
-  t,
-  ts,
-  standing,
-  subst AreCalm tokens (calm_primitive p),
-  ap (read.after (at before)) (sym tokens) ∙ (primitive_passes s o ls fs before p []
-      ∙ ap (λ b. Some (at b)) (sym added)),
-)
-  where
-    at : BlockView → ReaderView
-    at b = among s o ls (record { open_blocks = fs; before = b; place = place.Head None })
+passed_there s o ls fs here there before after added =
+    added_passed here there before after _
+    (λ b. among s o ls (record { open_blocks = fs; before = b; place = place.Head None }))
+    (λ p. primitive_passes s o ls fs before p []) added
+
+-- a statement that has been added behind an `if`, which has been added before it then
+pub passed_behind : (s : TreeView) (o : Owner) (ls : List Declaration) (fs : List OpenBlock) (here there : List ℕ)
+    (t : Test) (a before mid after : BlockView) → IsAdded [] here there before mid
+    → ((b : BlockView) (last : StatementView) → mid ≡ append b last → after ≡ append (append b (If t a)) last) →
+    IsPassed here (among s o ls (record { open_blocks = fs; before = before; place = place.AfterThen t a })) there
+    (among s o ls (record { open_blocks = fs; before = after; place = place.Head None }))
+passed_behind s o ls fs here there t a before mid after (p, ts, standing, tokens, added) last =
+    added_passed here there (append before (If t a)) after _
+    (λ b. among s o ls (record { open_blocks = fs; before = b; place = place.Head None }))
+    (λ q. settled_next s o ls fs before t a (Primitive q) []
+    ∙ primitive_passes s o ls fs (append before (If t a)) q [])
+    (p, ts, standing, tokens, last before (Primitive p) added)
+
+-- what a statement has been added to has one
+pub added_some : (front : List Token) (here there : List ℕ) (before mid : BlockView)
+    → IsAdded front here there before mid → mid ≡ End → ⊥
+added_some front here there End mid (p, ts, standing, tokens, added) e = cc
+added_some front here there (Then u c) mid (p, ts, standing, tokens, added) e = cc

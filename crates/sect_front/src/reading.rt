@@ -106,7 +106,7 @@ fn take_all(
     let mut token = Token::Class;
     let mut here = pass_gap(bytes, bytes, gaps)?;
     while !here.is_empty() {
-        if let Some(there) = reader.pass_statement(here)? {
+        if let Some(there) = reader.pass_statement(alloc, here)? {
             here = there;
             continue;
         }

@@ -126,7 +126,8 @@ impl Model for Block {
 }
 
 impl Block {
-    ghost use Rattle.sect_front.specs.Trees.{append, statement_of, block_of};
+    ghost use Rattle.std.specs.Prelude.{◌≢◌};
+    ghost use Rattle.sect_front.specs.{Syntax.{BlockView, StatementView}, Trees.{append, statement_of, block_of}};
 
     /// No statements.
     pub fn new(alloc: Global) -> Block
@@ -157,6 +158,17 @@ impl Block {
             self.statements.reserve_exact(1)?;
         }
         self.statements.push(statement)?;
+        Ok(())
+    }
+
+    /// Adds a statement before the last one.
+    pub fn push_before_last(&mut self, statement: Statement) -> Result<(), AllocError>
+        requires { self.old ≢ End }
+        ensures { (b : BlockView) (last : StatementView) → self.old ≡ append b last
+            → OnOk result (self.new ≡ append (append b (statement_of statement)) last) }
+    {
+        let last = self.statements.len() - 1;
+        self.statements.insert(last, statement)?;
         Ok(())
     }
 }

@@ -164,18 +164,44 @@ impl Within {
     }
 
     /// Adds the statement without a block that stands at the front, and gives what follows it. Where none stands there,
-    /// and where a statement has been begun, nothing changes.
-    pub fn pass_statement<'a>(&mut self, here: &'a [u8]) -> Result<Option<&'a [u8]>, AllocError>
+    /// and where no statement can begin, nothing changes.
+    pub fn pass_statement<'a>(
+        &mut self,
+        alloc: Global,
+        here: &'a [u8],
+    ) -> Result<Option<&'a [u8]>, AllocError>
         ensures { IfOk result (λ o. MatchOption o (self.new ≡ self.old)
             (λ there. (source : TreeView) (owner : Owner) (locals : List Declaration)
             → IsPassed here.now (among source owner locals self.old) there.now (among source owner locals self.new))) }
     {
         if !self.is_at_start() {
-            return Ok(None);
+            return self.pass_behind_then(alloc, here);
         }
         let Some(there) = pass_statement(here, &mut self.before)? else {
             return Ok(None);
         };
+        Ok(Some(there))
+    }
+
+    /// The same, where a statement has been begun: it may be an `if` that has no `else`.
+    fn pass_behind_then<'a>(
+        &mut self,
+        alloc: Global,
+        here: &'a [u8],
+    ) -> Result<Option<&'a [u8]>, AllocError>
+        ensures { IfOk result (λ o. MatchOption o (self.new ≡ self.old)
+            (λ there. (source : TreeView) (owner : Owner) (locals : List Declaration)
+            → IsPassed here.now (among source owner locals self.old) there.now (among source owner locals self.new))) }
+    {
+        let Partial::AfterThen(test, then) = &mut self.place else {
+            return Ok(None);
+        };
+        let Some(there) = pass_statement(here, &mut self.before)? else {
+            return Ok(None);
+        };
+        let (test, then) = (*test, mem::replace(then, Block::new(alloc)));
+        self.before.push_before_last(Statement::If(test, then))?;
+        self.lead_to_start();
         Ok(Some(there))
     }
 

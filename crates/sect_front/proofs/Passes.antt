@@ -23,6 +23,9 @@ use Rattle.sect_front.specs.declared.tree.Primitive as leaf
 use Rattle.sect_front.specs.declared.tree.Primitive.TheVariants as primitive
 use Rattle.sect_front.specs.declared.tree.Operator.TheVariants as operator
 use Rattle.sect_front.specs.declared.tree.Kind.TheVariants as kind
+use Rattle.sect_front.specs.declared.partial.PartialHead.TheVariants as line
+use Rattle.sect_front.specs.declared.partial.Branch.TheVariants as branch
+use Rattle.sect_front.specs.declared.partial.PartialBranch.TheVariants as head
 use Rattle.sect_front.specs.declared.partial.PartialCall.TheVariants as call
 use Rattle.sect_front.specs.declared.within.OpenBlock.TheVariants as open_block
 use Rattle.sect_front.specs.declared.within.Partial.TheVariants as place
@@ -114,6 +117,11 @@ module _ (s : TreeView) (o : Owner) (ls : List Declaration) where
       after (at fs b (place.Head None)) (token.If ∷ test_tokens t (token.OpenBrace ∷ w)) ≡ after
       (at (open_block.Then b t ∷ fs) End (place.Head None)) w
   test_passes fs b t w = simp (operand_back, comparison_back)
+
+  pub head_passes : (fs : List OpenBlock) (b : BlockView) (t : Test) (w : List Token) →
+      after (at fs b (place.Head None)) (token.If ∷ test_tokens t w) ≡ after
+      (at fs b (place.Head (Some (line.Branch branch.If (head.AfterClose t))))) w
+  head_passes fs b t w = simp operand_back
 
   while_passes : (fs : List OpenBlock) (b : BlockView) (t : Test) (w : List Token) →
       after (at fs b (place.Head None)) (token.While ∷ test_tokens t (token.OpenBrace ∷ w)) ≡ after

@@ -2,15 +2,19 @@
 use Rattle.std.proofs.Common.{◌≡◌, ℕ, false, List, [], ◌∷◌, ◌++◌, Some, None, refl, sym, ◌∙◌, ap, subst}
 use Rattle.std.proofs.Common.{append_assoc}
 use Rattle.sect_front.specs.{Syntax.{StatementView, BlockView, Primitive, If, End, Then}, Trees.{append}, TreeView.{TreeView}}
-use Rattle.sect_front.specs.{declared.tree.Test.{Test}, Words.{is_name_byte}, Gaps.{begins_with}}
-use Rattle.sect_front.specs.{Grammar.{operand_token, operator_token}, Tokens.{primitive_tokens}, Braces.{brace}}
+use Rattle.sect_front.specs.{declared.tree.Test.{Test}, declared.tree.Comparison.{Comparison}, Words.{is_name_byte}, Gaps.{begins_with}}
+use Rattle.sect_front.specs.{Grammar.{operand_token, operator_token, comparison_token}, Tokens.{primitive_tokens, test_tokens}, Braces.{brace}}
 use Rattle.sect_front.specs.{declared.token.Token.{Token}, declared.tree.Operand.{Operand}}
 use Rattle.sect_front.specs.{declared.tree.Operator.{Operator}, declared.tree.Declaration.{Declaration}}
 use Rattle.sect_front.specs.{declared.reader.Owner.{Owner}, declared.within.OpenBlock.{OpenBlock}}
-use Rattle.sect_front.specs.steps.{Advance.{operand_of}, Recognition.{single_sign}, Lexeme.{lexeme_of}}
-use Rattle.sect_front.specs.steps.{ReaderView.{ReaderView, among}, Standing.{Stands, AreCalm, IsAdded, IsPassed}}
-use Rattle.sect_front.proofs.Passes.{primitive_passes, settled_next}
+use Rattle.sect_front.specs.steps.{Advance.{operand_of, comparison_of}, Recognition.{single_sign}, Lexeme.{lexeme_of}}
+use Rattle.sect_front.specs.steps.WithinView.{WithinView}
+use Rattle.sect_front.specs.steps.{ReaderView.{ReaderView, among}, Standing.{Stands, AreStanding, AreCalm, IsAdded, IsPassed}}
+use Rattle.sect_front.proofs.Passes.{primitive_passes, settled_next, head_passes}
 use Rattle.sect_lemmas.proofs.Options.{some_injective, none_or_some}
+use Rattle.sect_front.specs.declared.partial.PartialHead.TheVariants as line
+use Rattle.sect_front.specs.declared.partial.Branch.TheVariants as branch
+use Rattle.sect_front.specs.declared.partial.PartialBranch.TheVariants as head
 use Rattle.sect_front.specs.declared.token.Token.TheVariants as token
 use Rattle.sect_front.specs.declared.tree.Operand.TheVariants as operand
 use Rattle.sect_front.specs.declared.tree.Operator.TheVariants as operator
@@ -108,3 +112,29 @@ pub added_some : (front : List Token) (here there : List ℕ) (before mid : Bloc
     → IsAdded front here there before mid → mid ≡ End → ⊥
 added_some front here there End mid (p, ts, standing, tokens, added) e = cc
 added_some front here there (Then u c) mid (p, ts, standing, tokens, added) e = cc
+
+-- the head of an `if` that stands where a statement may begin
+pub passed_if : (s : TreeView) (o : Owner) (ls : List Declaration) (w : WithinView) (here there : List ℕ) (t : Test)
+    → w.place ≡ place.Head None → AreStanding here (token.If ∷ test_tokens t []) there →
+    IsPassed here (among s o ls w) there (among s o ls (record {
+      open_blocks = w.open_blocks;
+      before = w.before;
+      place = place.Head (Some (line.Branch branch.If (head.AfterClose t)));
+    }))
+passed_if s o ls w here there t e standing = (
+  token.If,
+  test_tokens t [],
+  standing,
+  (λ k. refl, (λ k. refl, (calm_operand t.left, (λ k. refl, (calm_operand t.right, (λ k. refl, tt)))))),
+  subst (λ q. read.after (among s o ls (record { open_blocks = w.open_blocks; before = w.before; place = q }))
+      (token.If ∷ test_tokens t []) ≡ Some (among s o ls (record {
+        open_blocks = w.open_blocks;
+        before = w.before;
+        place = place.Head (Some (line.Branch branch.If (head.AfterClose t)));
+      }))) (sym e) (head_passes s o ls w.open_blocks w.before t []),
+)
+
+-- a token that is a comparison is that comparison's
+pub comparison_is : (t : Token) (k : Comparison) → comparison_of t ≡ Some k → t ≡ comparison_token k
+comparison_is (token.Comparison k) l e = ap comparison_token (some_injective k l e)
+comparison_is _ l e = absurd (none_or_some l e)

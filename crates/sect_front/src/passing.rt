@@ -4,15 +4,15 @@
 //! have no block, and are passed by fewer instructions so.
 
 ghost use Rattle.std.specs.Prelude.{◌≡◌, ◌∷◌, [], Some, IfOk, IfSome, MatchOption, false};
-ghost use Rattle.sect_front.specs.{Words.{is_name_byte}, Grammar.{operand_token, operator_token}};
+ghost use Rattle.sect_front.specs.{Words.{is_name_byte}, Grammar.{operand_token, operator_token}, Tokens.{test_tokens}};
 ghost use Rattle.sect_front.specs.declared.token.Token.{Token as AToken};
-ghost use Rattle.sect_front.specs.steps.{Recognition.{single_sign}, Standing.{Stands, IsAdded}};
+ghost use Rattle.sect_front.specs.steps.{Recognition.{single_sign}, Standing.{Stands, AreStanding, IsAdded}};
 
 use crate::lexer::{begins_with, behind, put_lexeme};
 use crate::name::Name;
-use crate::partial::operand;
+use crate::partial::{comparison, operand};
 use crate::token::Token;
-use crate::tree::{Block, Operand, Operator, Primitive, Statement};
+use crate::tree::{Block, Operand, Operator, Primitive, Statement, Test};
 use crate::words::begins_letter;
 use std::alloc::AllocError;
 
@@ -52,6 +52,42 @@ fn operator_at(here: &[u8]) -> Option<(Operator, &[u8])>
     }
     let rest = behind_sign(here, b'*')?;
     Some((Operator::Multiply, rest))
+}
+
+/// The test in parentheses at the front, and what follows it and the gap behind it, if one stands there.
+fn test_at(here: &[u8]) -> Option<(Test, &[u8])>
+    ensures { IfSome result (λ r. AreStanding here.now (test_tokens r.0 []) r.1.now) }
+{
+    let opened = behind_sign(here, b'(')?;
+    let mut token = Token::Class;
+    let after_left = token_at(opened, &mut token)?;
+    let left = operand(&token)?;
+    let after_comparison = token_at(after_left, &mut token)?;
+    let comparison = comparison(&token)?;
+    let after_right = token_at(after_comparison, &mut token)?;
+    let right = operand(&token)?;
+    let there = behind_sign(after_right, b')')?;
+    let test = Test {
+        left,
+        comparison,
+        right,
+    };
+    Some((test, there))
+}
+
+/// The test of the `if` at the front, and what follows it, if they stand there.
+pub fn if_at(here: &[u8]) -> Option<(Test, &[u8])>
+    ensures { IfSome result (λ r. AreStanding here.now (AToken.If ∷ test_tokens r.0 []) r.1.now) }
+{
+    if !begins_letter(here) {
+        return None;
+    }
+    let mut token = Token::Class;
+    let test = token_at(here, &mut token)?;
+    let Token::If = &token else {
+        return None;
+    };
+    test_at(test)
 }
 
 /// Adds the statement without a block that stands at the front, and gives what follows it, if one stands there.

@@ -10,7 +10,7 @@ use crate::partial::{
     Branch, Move, PartialAssign, PartialBranch, PartialCall, PartialHead, PartialStore, advance,
     goes_on, operand,
 };
-use crate::passing::pass_statement;
+use crate::passing::{if_at, pass_statement};
 use crate::token::Token;
 use crate::tree::{Block, Locking, Operand, Primitive, Statement, Test};
 use std::alloc::{AllocError, AllocFailed, Global};
@@ -178,9 +178,25 @@ impl Within {
             return self.pass_behind_then(alloc, here);
         }
         let Some(there) = pass_statement(here, &mut self.before)? else {
-            return Ok(None);
+            return Ok(self.pass_if(here));
         };
         Ok(Some(there))
+    }
+
+    /// Begins the `if` that stands at the front, up to its block, and gives what follows. Where none stands there, nothing
+    /// changes.
+    fn pass_if<'a>(&mut self, here: &'a [u8]) -> Option<&'a [u8]>
+        requires { self.old.place ≡ Partial.Head None }
+        ensures { MatchOption result (self.new ≡ self.old)
+            (λ there. (source : TreeView) (owner : Owner) (locals : List Declaration)
+            → IsPassed here.now (among source owner locals self.old) there.now (among source owner locals self.new)) }
+    {
+        let Some((test, there)) = if_at(here) else {
+            return None;
+        };
+        let head = PartialHead::Branch(Branch::If, PartialBranch::AfterClose(test));
+        self.lead_to(Partial::Head(Some(head)));
+        Some(there)
     }
 
     /// The same, where a statement has been begun: it may be an `if` that has no `else`.

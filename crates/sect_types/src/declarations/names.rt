@@ -15,6 +15,7 @@ pub const MOST_NAMES: usize = 65535;
 const FEW_NAMES: usize = 8;
 
 /// Whether two names are the same.
+#[inline(always)]
 fn are_same(one: &Name, other: &Name) -> bool
     ensures { result ≡ same_name one.now other.now }
 {

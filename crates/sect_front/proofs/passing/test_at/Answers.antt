@@ -9,8 +9,7 @@ returns c =
     let opened = c.in_ok-opened.opened.now in
     let left = c.in_ok-after_left.after_left.now in
     let compared = c.in_ok-after_comparison.after_comparison.now in
-    let right = c.in_ok-after_right.after_right.now in
-    (
+    let right = c.in_ok-after_right.after_right.now in (
       opened,
       c.in_ok-opened.ensures token.OpenParen refl,
       (

@@ -28,7 +28,7 @@ pub fn is_digit(byte: u8) -> bool
 pub fn is_name_byte(byte: u8) -> bool
     ensures { result ≡ name_byte byte }
 {
-    is_letter(byte) || is_digit(byte)
+    byte.is_ascii_alphanumeric() || byte == b'_'
 }
 
 /// How many bytes at the front may stand in a name.

@@ -1,5 +1,5 @@
 -- Lemmas on bodies.
-use Rattle.std.proofs.Common.{◌≡◌, ℕ, suc, ◌+◌, ◌-◌, List, [], ◌∷◌, ◌++◌, length, refl, sym, ◌∙◌, ap, arith}
+use Rattle.std.proofs.Common.{◌≡◌, suc, ◌-◌, List, [], ◌∷◌, ◌++◌, length, refl, ap, arith}
 use Rattle.std.specs.List.{insert}
 use Rattle.sect_front.specs.{Syntax.{StatementView, BlockView, End, Then}, declared.tree.Statement.{Statement}}
 use Rattle.sect_front.specs.Trees.{statement_of, block_of, append}

@@ -162,7 +162,8 @@ module _ (s : TreeView) (o : Owner) (ls : List Declaration) where
       arguments_pass fs b f vs [] v w
 
   -- after a choice with no else-part the next statement starts as after any other
-  pub settled_next : (fs : List OpenBlock) (b : BlockView) (t : Test) (a : BlockView) (s : StatementView) (w : List Token) →
+  pub settled_next : (fs : List OpenBlock) (b : BlockView) (t : Test) (a : BlockView) (s : StatementView)
+      (w : List Token) →
       after (at fs b (place.AfterThen t a)) (statement_tokens s w) ≡ after (at fs (append b (If t a)) (place.Head None))
       (statement_tokens s w)
   settled_next fs b t a (Primitive (primitive.Assign x v)) w = refl

@@ -1,15 +1,17 @@
 -- Tokens that stand at the front, one after another.
 use Rattle.std.proofs.Common.{◌≡◌, ℕ, false, List, [], ◌∷◌, ◌++◌, Some, None, refl, sym, ◌∙◌, ap, subst}
 use Rattle.std.proofs.Common.{append_assoc}
-use Rattle.sect_front.specs.{Syntax.{StatementView, BlockView, Primitive, If, End, Then}, Trees.{append}, TreeView.{TreeView}}
-use Rattle.sect_front.specs.{declared.tree.Test.{Test}, declared.tree.Comparison.{Comparison}, Words.{is_name_byte}, Gaps.{begins_with}}
-use Rattle.sect_front.specs.{Grammar.{operand_token, operator_token, comparison_token}, Tokens.{primitive_tokens, test_tokens}, Braces.{brace}}
+use Rattle.sect_front.specs.{Syntax.{StatementView, BlockView, Primitive, If, End, Then}, Trees.{append}}
+use Rattle.sect_front.specs.{TreeView.{TreeView}, Words.{is_name_byte}, Gaps.{begins_with}, Braces.{brace}}
+use Rattle.sect_front.specs.Grammar.{operand_token, operator_token, comparison_token}
+use Rattle.sect_front.specs.Tokens.{primitive_tokens, test_tokens}
+use Rattle.sect_front.specs.{declared.tree.Test.{Test}, declared.tree.Comparison.{Comparison}}
 use Rattle.sect_front.specs.{declared.token.Token.{Token}, declared.tree.Operand.{Operand}}
 use Rattle.sect_front.specs.{declared.tree.Operator.{Operator}, declared.tree.Declaration.{Declaration}}
 use Rattle.sect_front.specs.{declared.reader.Owner.{Owner}, declared.within.OpenBlock.{OpenBlock}}
 use Rattle.sect_front.specs.steps.{Advance.{operand_of, comparison_of}, Recognition.{single_sign}, Lexeme.{lexeme_of}}
-use Rattle.sect_front.specs.steps.WithinView.{WithinView}
-use Rattle.sect_front.specs.steps.{ReaderView.{ReaderView, among}, Standing.{Stands, AreStanding, AreCalm, IsAdded, IsPassed}}
+use Rattle.sect_front.specs.steps.{WithinView.{WithinView}, ReaderView.{ReaderView, among}}
+use Rattle.sect_front.specs.steps.Standing.{Stands, AreStanding, AreCalm, IsAdded, IsPassed}
 use Rattle.sect_front.proofs.Passes.{primitive_passes, settled_next, head_passes}
 use Rattle.sect_lemmas.proofs.Options.{some_injective, none_or_some}
 use Rattle.sect_front.specs.declared.partial.PartialHead.TheVariants as line

@@ -7,7 +7,8 @@ use Rattle.sect_front.specs.{TreeView.{TreeView}, TokenAt.{TokenAt}, Braces.{bra
 use Rattle.sect_front.specs.{Spelling.{spelling_of}, FaultPlaces.{span_from, token_span}}
 use Rattle.sect_front.specs.{Faults.{tokens_in, IsUnexpectedAt, IsTooDeepAt}, declared.token.Token.{Token}}
 use Rattle.sect_front.specs.steps.{Lexeme.{lexeme_of}, ReaderView.{ReaderView}, Read.{read_one, after, finish_of}}
-use Rattle.sect_front.specs.steps.{Standing.{AreStanding, AreCalm, IsPassed}, Verdicts.{Reached, SpellingAt, JudgesText}}
+use Rattle.sect_front.specs.steps.Standing.{AreStanding, AreCalm, IsPassed}
+use Rattle.sect_front.specs.steps.Verdicts.{Reached, SpellingAt, JudgesText}
 use Rattle.sect_front.proofs.{Reach.{reached_more}, Lexemes.{lexeme_first}}
 use Rattle.sect_front.proofs.Verdict.{ReadsTo, reads_more, unexpected, too_deep, finished, unfinished}
 use Rattle.sect_front.proofs.shared.Lexings.{gap_fits}

@@ -3,6 +3,8 @@
 ghost use Rattle.std.specs.{Prelude.{◌≡◌, ◌≤◌, Some, IfOk, true, false}, Option.{ForSome}};
 ghost use Rattle.sect_front.specs.Limits.{most_depth};
 
+mod statements;
+
 use crate::expecting::outside_takes;
 use crate::items::Items;
 use crate::name::Name;
@@ -288,8 +290,7 @@ impl Model for Reader {
 }
 
 impl Reader {
-    ghost use Rattle.std.specs.Prelude.{MatchOption};
-    ghost use Rattle.sect_front.specs.steps.{ReaderView.{reading, empty}, Standing.{IsPassed}};
+    ghost use Rattle.sect_front.specs.steps.ReaderView.{reading, empty};
     ghost use Rattle.sect_front.specs.steps.Read.{Reads, read_one, begin_step, record_step, end_record_step};
     ghost use Rattle.sect_front.specs.steps.Read.{global_step, parameter_step, procedure_step, thread_step};
     ghost use Rattle.sect_front.specs.steps.Read.{read_outside, body_step, after_kind_step, end_step, goes_on};
@@ -322,25 +323,6 @@ impl Reader {
         ensures { self.new ≡ record { source = self.old.source; stage = stage } }
     {
         self.stage = stage;
-    }
-
-    /// Adds the statement without a block that stands at the front, and gives what follows it. Where none stands there,
-    /// and where no statement can begin, nothing changes.
-    pub fn pass_statement<'a>(
-        &mut self,
-        alloc: Global,
-        here: &'a [u8],
-    ) -> Result<Option<&'a [u8]>, AllocError>
-        ensures { IfOk result (λ o. MatchOption o (self.new ≡ self.old)
-            (λ there. IsPassed here.now self.old there.now self.new)) }
-    {
-        let Stage::Inside(_, _, within) = &mut self.stage else {
-            return Ok(None);
-        };
-        let Some(there) = within.pass_statement(alloc, here)? else {
-            return Ok(None);
-        };
-        Ok(Some(there))
     }
 
     /// Takes one more token, or changes nothing.

@@ -183,8 +183,8 @@ impl Within {
         Ok(Some(there))
     }
 
-    /// Begins the `if` that stands at the front, up to its block, and gives what follows. Where none stands there, nothing
-    /// changes.
+    /// Begins the `if` that stands at the front, up to its block, and gives what follows. Where none stands there,
+    /// nothing changes.
     fn pass_if<'a>(&mut self, here: &'a [u8]) -> Option<&'a [u8]>
         requires { self.old.place ≡ Partial.Head None }
         ensures { MatchOption result (self.new ≡ self.old)

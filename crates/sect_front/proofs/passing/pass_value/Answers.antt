@@ -27,7 +27,8 @@ returns c =
         (
           c.in-Some-token_at.behind.now,
           subst (λ t. Stands second t c.in-Some-token_at.behind.now)
-              (operand_is c.token_at.new.token w (sym c.operand.ensures ∙ c.in-Some-operand.is)) c.in-Some-token_at.ensures,
+              (operand_is c.token_at.new.token w (sym c.operand.ensures ∙ c.in-Some-operand.is))
+              c.in-Some-token_at.ensures,
           (c.in-Some-behind_sign.there.now, c.in-Some-behind_sign.ensures token.Semicolon refl, refl),
         ),
       ),

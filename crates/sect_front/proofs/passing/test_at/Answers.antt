@@ -1,4 +1,4 @@
-use Rattle.std.proofs.Common.{[], ◌∷◌, refl, sym, ◌∙◌, subst}
+use Rattle.std.proofs.Common.{refl, sym, ◌∙◌, subst}
 use Rattle.sect_front.specs.steps.Standing.{Stands}
 use Rattle.sect_front.proofs.Standing.{operand_is, comparison_is}
 use Rattle.sect_front.specs.declared.token.Token.TheVariants as token

@@ -5,8 +5,9 @@ use Rattle.sect_front.specs.{Expected.{all_kinds}, Faults.{tokens_in, IsUnexpect
 use Rattle.sect_front.specs.steps.{Taking.{is_kind_taken}, Verdicts.{SpellingAt}, Read.{finish_of}}
 use Rattle.sect_front.proofs.{Lexemes.{lexeme_first}, Reach.{reached_none, reached_rest, bad_at, lexed}}
 use Rattle.sect_front.proofs.Verdict.{reads_nothing, finished, is_low, brace_most}
-use Rattle.sect_front.proofs.Texts.{ReadHere, token_here, span_here, passed, reads_on, shorter, unexpected_at, too_deep_at}
-use Rattle.sect_front.proofs.{Texts.{text_ends, nothing_left, passed_shorter, passed_reads}, Following.{kinds_expected}}
+use Rattle.sect_front.proofs.Texts.{ReadHere, token_here, span_here, passed, reads_on, shorter, unexpected_at}
+use Rattle.sect_front.proofs.Texts.{too_deep_at, text_ends, nothing_left, passed_shorter, passed_reads}
+use Rattle.sect_front.proofs.Following.{kinds_expected}
 use Rattle.sect_front.proofs.shared.Rests.{rest_more}
 use Rattle.sect_front.proofs.reading.take_all.Goals as goal
 

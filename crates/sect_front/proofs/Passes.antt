@@ -23,6 +23,9 @@ use Rattle.sect_front.specs.declared.tree.Primitive as leaf
 use Rattle.sect_front.specs.declared.tree.Primitive.TheVariants as primitive
 use Rattle.sect_front.specs.declared.tree.Operator.TheVariants as operator
 use Rattle.sect_front.specs.declared.tree.Kind.TheVariants as kind
+use Rattle.sect_front.specs.declared.partial.PartialHead.TheVariants as line
+use Rattle.sect_front.specs.declared.partial.Branch.TheVariants as branch
+use Rattle.sect_front.specs.declared.partial.PartialBranch.TheVariants as head
 use Rattle.sect_front.specs.declared.partial.PartialCall.TheVariants as call
 use Rattle.sect_front.specs.declared.within.OpenBlock.TheVariants as open_block
 use Rattle.sect_front.specs.declared.within.Partial.TheVariants as place
@@ -100,7 +103,7 @@ module _ (s : TreeView) (o : Owner) (ls : List Declaration) where
   compute_passes fs b x (operand.Name n) operator.Subtract u w = simp operand_back
   compute_passes fs b x (operand.Name n) operator.Multiply u w = simp operand_back
 
-  primitive_passes : (fs : List OpenBlock) (b : BlockView) (p : leaf.Primitive) (w : List Token)
+  pub primitive_passes : (fs : List OpenBlock) (b : BlockView) (p : leaf.Primitive) (w : List Token)
       → after (at fs b (place.Head None)) (primitive_tokens p w) ≡
       after (at fs (append b (Primitive p)) (place.Head None)) w
   primitive_passes fs b (primitive.Assign x v) w = assign_passes fs b x v w
@@ -114,6 +117,11 @@ module _ (s : TreeView) (o : Owner) (ls : List Declaration) where
       after (at fs b (place.Head None)) (token.If ∷ test_tokens t (token.OpenBrace ∷ w)) ≡ after
       (at (open_block.Then b t ∷ fs) End (place.Head None)) w
   test_passes fs b t w = simp (operand_back, comparison_back)
+
+  pub head_passes : (fs : List OpenBlock) (b : BlockView) (t : Test) (w : List Token) →
+      after (at fs b (place.Head None)) (token.If ∷ test_tokens t w) ≡ after
+      (at fs b (place.Head (Some (line.Branch branch.If (head.AfterClose t))))) w
+  head_passes fs b t w = simp operand_back
 
   while_passes : (fs : List OpenBlock) (b : BlockView) (t : Test) (w : List Token) →
       after (at fs b (place.Head None)) (token.While ∷ test_tokens t (token.OpenBrace ∷ w)) ≡ after
@@ -154,7 +162,8 @@ module _ (s : TreeView) (o : Owner) (ls : List Declaration) where
       arguments_pass fs b f vs [] v w
 
   -- after a choice with no else-part the next statement starts as after any other
-  settled_next : (fs : List OpenBlock) (b : BlockView) (t : Test) (a : BlockView) (s : StatementView) (w : List Token) →
+  pub settled_next : (fs : List OpenBlock) (b : BlockView) (t : Test) (a : BlockView) (s : StatementView)
+      (w : List Token) →
       after (at fs b (place.AfterThen t a)) (statement_tokens s w) ≡ after (at fs (append b (If t a)) (place.Head None))
       (statement_tokens s w)
   settled_next fs b t a (Primitive (primitive.Assign x v)) w = refl

@@ -2,15 +2,17 @@
 use Rattle.std.proofs.Common.{◌≡◌, ℕ, suc, ◌+◌, ◌-◌, ◌<◌, ◌≤◌, List, [], ◌∷◌, ◌++◌, Option, Some, None, length, take}
 use Rattle.std.proofs.Common.{drop, refl, sym, ◌∙◌, ap, subst, arith, append_assoc, append-nil, length-drop}
 use Rattle.std.proofs.lemmas.List.{length-take-le}
-use Rattle.std.specs.{List.{slice_get}, Option.{ok_or}}
+use Rattle.std.specs.{List.{slice_get}, Option.{ok_or}, Prelude.{option_and_then}}
 use Rattle.sect_front.specs.{TreeView.{TreeView}, TokenAt.{TokenAt}, Braces.{brace}, Gaps.{after_gap}, Lexing.{Spells}}
 use Rattle.sect_front.specs.{Spelling.{spelling_of}, FaultPlaces.{span_from, token_span}}
 use Rattle.sect_front.specs.{Faults.{tokens_in, IsUnexpectedAt, IsTooDeepAt}, declared.token.Token.{Token}}
-use Rattle.sect_front.specs.steps.{Lexeme.{lexeme_of}, ReaderView.{ReaderView}, Read.{read_one, finish_of}}
+use Rattle.sect_front.specs.steps.{Lexeme.{lexeme_of}, ReaderView.{ReaderView}, Read.{read_one, after, finish_of}}
+use Rattle.sect_front.specs.steps.Standing.{AreStanding, AreCalm, IsPassed}
 use Rattle.sect_front.specs.steps.Verdicts.{Reached, SpellingAt, JudgesText}
 use Rattle.sect_front.proofs.{Reach.{reached_more}, Lexemes.{lexeme_first}}
 use Rattle.sect_front.proofs.Verdict.{ReadsTo, reads_more, unexpected, too_deep, finished, unfinished}
 use Rattle.sect_front.proofs.shared.Lexings.{gap_fits}
+use Rattle.sect_lemmas.proofs.Options.{some_injective, none_or_some}
 use Rattle.sect_front.specs.declared.reading.ReadFault.TheVariants as fault
 
 -- so far the text has been read
@@ -91,6 +93,40 @@ reads_on bytes here r m k t n h e some low =
       reads = subst (λ w. ReadsTo w m (brace k t)) (sym (tokens_push h.places (token_here bytes here t)))
           (reads_more (tokens_in h.places) r m k t h.reads some low);
     }
+
+-- what follows some tokens is shorter than what begins with them
+standing_shorter : (here there : List ℕ) (ts : List Token) → AreStanding here ts there → length there ≤ length here
+standing_shorter here there [] h = omega (arith, ap length h)
+standing_shorter here there (t ∷ ts) (rest, s, h) =
+    omega (arith, standing_shorter rest there ts h, ap length s.behind, shorter here t s.count s.lexed)
+
+pub passed_shorter : (here there : List ℕ) (r m : ReaderView) → IsPassed here r there m → length there < length here
+passed_shorter here there r m (t, ts, (rest, s, h), calm, e) =
+    omega (arith, standing_shorter rest there ts h, ap length s.behind, shorter here t s.count s.lexed)
+
+-- some tokens that are no braces have been taken
+standing_reads : (bytes here there : List ℕ) (r m : ReaderView) (k : ℕ) (ts : List Token) → k ≤ 32
+    → ReadHere bytes here r k → AreStanding here ts there → AreCalm ts → after r ts ≡ Some m
+    → ReadHere bytes there m k
+standing_reads bytes here there r m k [] low h standing calm e =
+    rw (← standing, ← some_injective r m e) h
+standing_reads bytes here there r m k (t ∷ ts) low h (rest, s, standing) (calm, others) e =
+    go (λ next read all. standing_reads bytes rest there next m k ts low read standing others all) (read_one r t) refl e
+  where
+    go : ((next : ReaderView) → ReadHere bytes rest next k → after next ts ≡ Some m → ReadHere bytes there m k)
+        → (o : Option ReaderView) → read_one r t ≡ o → option_and_then (λ x. after x ts) o ≡ Some m
+        → ReadHere bytes there m k
+    go on None same all = absurd (none_or_some m all)
+    go on (Some next) same all =
+        on next
+        (subst (λ j. ReadHere bytes rest next j) (calm k)
+        (subst (λ x. ReadHere bytes x next (brace k t)) (sym s.behind)
+        (reads_on bytes here r next k t s.count h s.lexed same (omega (arith, calm k, low))))) all
+
+pub passed_reads : (bytes here there : List ℕ) (r m : ReaderView) (k : ℕ) → k ≤ 32 → ReadHere bytes here r k
+    → IsPassed here r there m → ReadHere bytes there m k
+passed_reads bytes here there r m k low h (t, ts, standing, calm, e) =
+    standing_reads bytes here there r m k (t ∷ ts) low h standing calm e
 
 -- the token behind these has their number
 record Numbered (ps : List TokenAt) (p : TokenAt) (all : List TokenAt) : Type 0 where

@@ -11,3 +11,4 @@ pub mod Verdicts
 pub mod Lexeme
 pub mod Below
 pub mod Taking
+pub mod Standing

@@ -23,7 +23,7 @@ fn is_blank(byte: u8) -> bool
     matches!(byte, b' ' | b'\t' | b'\r' | b'\n')
 }
 
-fn begins_with(bytes: &[u8], byte: u8) -> bool
+pub fn begins_with(bytes: &[u8], byte: u8) -> bool
     ensures { result ≡ begins_so byte bytes.now }
 {
     match bytes {
@@ -300,5 +300,10 @@ pub fn behind(here: &[u8], count: usize) -> &[u8]
     ensures { result.now ≡ gap_of (drop count here.now) }
 {
     let (_, after) = here.split_at(count);
-    after_gap(after)
+    // mostly no gap stands there
+    if is_tight(after) {
+        after
+    } else {
+        after_gap(after)
+    }
 }

@@ -12,6 +12,7 @@ mod literal;
 mod name;
 mod parsing;
 mod partial;
+mod passing;
 mod printing;
 mod reader;
 mod reading;

@@ -93,6 +93,8 @@ impl Name {
 
 /// Whether the bytes of two names and the zeros behind them are the same. None is tested by itself, so that a processor
 /// compares many at a time.
+// a call takes longer than the comparison
+#[inline(always)]
 fn are_equal(one: &[u8; MOST_NAME_BYTES], other: &[u8; MOST_NAME_BYTES]) -> bool
     ensures { result ≡ pointwise nat_eq one.now other.now }
 {
@@ -108,6 +110,8 @@ impl PartialEq for Name {
 
     ghost laws = { Prim.search (comparing, rules) };
 
+    // many are compared one after another, and a call takes longer than the comparison
+    #[inline(always)]
     fn eq(&self, other: &Name) -> bool {
         self.len == other.len && are_equal(&self.bytes, &other.bytes)
     }

@@ -113,7 +113,8 @@ fn operator(token: &Token) -> Option<Operator>
     }
 }
 
-fn comparison(token: &Token) -> Option<Comparison>
+/// The comparison that a token is.
+pub fn comparison(token: &Token) -> Option<Comparison>
     ensures { result ≡ comparison_of token.now }
 {
     match token {

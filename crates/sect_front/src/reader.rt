@@ -3,6 +3,8 @@
 ghost use Rattle.std.specs.{Prelude.{◌≡◌, ◌≤◌, Some, IfOk, true, false}, Option.{ForSome}};
 ghost use Rattle.sect_front.specs.Limits.{most_depth};
 
+mod statements;
+
 use crate::expecting::outside_takes;
 use crate::items::Items;
 use crate::name::Name;

@@ -106,6 +106,10 @@ fn take_all(
     let mut token = Token::Class;
     let mut here = pass_gap(bytes, bytes, gaps)?;
     while !here.is_empty() {
+        if let Some(there) = reader.pass_statement(alloc, here)? {
+            here = there;
+            continue;
+        }
         let at = bytes.len() - here.len();
         let length = put_lexeme(here, &mut token);
         if length == 0 {

@@ -84,6 +84,9 @@ pub enum Primitive {
     Print(Operand),
 }
 
+/// A block of so many statements is long.
+const LONG_BLOCK: usize = 64;
+
 /// Statements, one after another.
 #[cycle(tree)]
 #[derive(Drop)]
@@ -126,7 +129,8 @@ impl Model for Block {
 }
 
 impl Block {
-    ghost use Rattle.sect_front.specs.Trees.{append, statement_of, block_of};
+    ghost use Rattle.std.specs.Prelude.{◌≢◌};
+    ghost use Rattle.sect_front.specs.{Syntax.{BlockView, StatementView}, Trees.{append, statement_of, block_of}};
 
     /// No statements.
     pub fn new(alloc: Global) -> Block
@@ -152,11 +156,36 @@ impl Block {
         ensures ok { OnOk result (self.new ≡ append self.old (statement_of statement)) }
         ensures err { OnErr result (self.new ≡ self.old) }
     {
-        // most blocks that stand in others have one statement
-        if self.statements.is_empty() {
-            self.statements.reserve_exact(1)?;
+        if self.statements.len() == self.statements.capacity() {
+            self.make_room()?;
         }
         self.statements.push(statement)?;
+        Ok(())
+    }
+
+    /// Makes room for more statements, where there is none: for one in a new block, since most blocks that stand in
+    /// others have one, and for three times as many in a long one, which is seldom moved then.
+    #[inline(never)]
+    fn make_room(&mut self) -> Result<(), AllocError>
+        ensures { self.new ≡ self.old }
+    {
+        let count = self.statements.len();
+        let more = if count < LONG_BLOCK {
+            count.max(1)
+        } else {
+            count.saturating_mul(3)
+        };
+        self.statements.reserve_exact(more)
+    }
+
+    /// Adds a statement before the last one.
+    pub fn push_before_last(&mut self, statement: Statement) -> Result<(), AllocError>
+        requires { self.old ≢ End }
+        ensures { (b : BlockView) (last : StatementView) → self.old ≡ append b last
+            → OnOk result (self.new ≡ append (append b (statement_of statement)) last) }
+    {
+        let last = self.statements.len() - 1;
+        self.statements.insert(last, statement)?;
         Ok(())
     }
 }

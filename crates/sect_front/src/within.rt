@@ -10,6 +10,7 @@ use crate::partial::{
     Branch, Move, PartialAssign, PartialBranch, PartialCall, PartialHead, PartialStore, advance,
     goes_on, operand,
 };
+use crate::passing::{if_at, pass_statement};
 use crate::token::Token;
 use crate::tree::{Block, Locking, Operand, Primitive, Statement, Test};
 use std::alloc::{AllocError, AllocFailed, Global};
@@ -95,8 +96,10 @@ impl Model for Within {
 }
 
 impl Within {
-    ghost use Rattle.std.specs.Prelude.{List, Some, None, IfOk, true, false};
-    ghost use Rattle.sect_front.specs.Syntax.{BlockView};
+    ghost use Rattle.std.specs.Prelude.{List, Some, None, IfOk, MatchOption, true, false};
+    ghost use Rattle.sect_front.specs.{Syntax.{BlockView}, TreeView.{TreeView}};
+    ghost use Rattle.sect_front.specs.{declared.reader.Owner.{Owner}, declared.tree.Declaration.{Declaration}};
+    ghost use Rattle.sect_front.specs.steps.{ReaderView.{among}, Standing.{IsPassed}};
     ghost use Rattle.sect_front.specs.steps.Step.{Steps, Stays, IsKept, LeadsTo, start_step, close_step, call_step};
     ghost use Rattle.sect_front.specs.steps.Step.{argument_step, after_then, moved, moved_if, stays, step_of};
     ghost use Rattle.sect_front.specs.steps.Advance.{operand_of, advance_of, assign_step};
@@ -151,6 +154,71 @@ impl Within {
             },
             _ => false,
         }
+    }
+
+    /// Whether no statement has been begun.
+    fn is_at_start(&self) -> bool
+        ensures { result ≡ true → self.now.place ≡ Partial.Head None }
+    {
+        matches!(self.place, Partial::Head(None))
+    }
+
+    /// Adds the statement without a block that stands at the front, and gives what follows it. Where none stands there,
+    /// and where no statement can begin, nothing changes.
+    pub fn pass_statement<'a>(
+        &mut self,
+        alloc: Global,
+        here: &'a [u8],
+    ) -> Result<Option<&'a [u8]>, AllocError>
+        ensures { IfOk result (λ o. MatchOption o (self.new ≡ self.old)
+            (λ there. (source : TreeView) (owner : Owner) (locals : List Declaration)
+            → IsPassed here.now (among source owner locals self.old) there.now (among source owner locals self.new))) }
+    {
+        if !self.is_at_start() {
+            return self.pass_behind_then(alloc, here);
+        }
+        let Some(there) = pass_statement(here, &mut self.before)? else {
+            return Ok(self.pass_if(here));
+        };
+        Ok(Some(there))
+    }
+
+    /// Begins the `if` that stands at the front, up to its block, and gives what follows. Where none stands there,
+    /// nothing changes.
+    fn pass_if<'a>(&mut self, here: &'a [u8]) -> Option<&'a [u8]>
+        requires { self.old.place ≡ Partial.Head None }
+        ensures { MatchOption result (self.new ≡ self.old)
+            (λ there. (source : TreeView) (owner : Owner) (locals : List Declaration)
+            → IsPassed here.now (among source owner locals self.old) there.now (among source owner locals self.new)) }
+    {
+        let Some((test, there)) = if_at(here) else {
+            return None;
+        };
+        let head = PartialHead::Branch(Branch::If, PartialBranch::AfterClose(test));
+        self.lead_to(Partial::Head(Some(head)));
+        Some(there)
+    }
+
+    /// The same, where a statement has been begun: it may be an `if` that has no `else`.
+    fn pass_behind_then<'a>(
+        &mut self,
+        alloc: Global,
+        here: &'a [u8],
+    ) -> Result<Option<&'a [u8]>, AllocError>
+        ensures { IfOk result (λ o. MatchOption o (self.new ≡ self.old)
+            (λ there. (source : TreeView) (owner : Owner) (locals : List Declaration)
+            → IsPassed here.now (among source owner locals self.old) there.now (among source owner locals self.new))) }
+    {
+        let Partial::AfterThen(test, then) = &mut self.place else {
+            return Ok(None);
+        };
+        let Some(there) = pass_statement(here, &mut self.before)? else {
+            return Ok(None);
+        };
+        let (test, then) = (*test, mem::replace(then, Block::new(alloc)));
+        self.before.push_before_last(Statement::If(test, then))?;
+        self.lead_to_start();
+        Ok(Some(there))
     }
 
     /// Sets the next token to the start of a statement.

@@ -28,7 +28,7 @@ pub fn is_digit(byte: u8) -> bool
 pub fn is_name_byte(byte: u8) -> bool
     ensures { result ≡ name_byte byte }
 {
-    is_letter(byte) || is_digit(byte)
+    byte.is_ascii_alphanumeric() || byte == b'_'
 }
 
 /// How many bytes at the front may stand in a name.
@@ -183,7 +183,8 @@ fn keyword(word: &[u8]) -> Option<Token>
     }
 }
 
-fn begins_letter(bytes: &[u8]) -> bool
+/// Whether a letter or `_` stands first.
+pub fn begins_letter(bytes: &[u8]) -> bool
     ensures { result ≡ begins letter_of bytes.now }
 {
     match bytes {

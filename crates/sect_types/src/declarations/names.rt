@@ -15,6 +15,7 @@ pub const MOST_NAMES: usize = 65535;
 const FEW_NAMES: usize = 8;
 
 /// Whether two names are the same.
+#[inline(always)]
 fn are_same(one: &Name, other: &Name) -> bool
     ensures { result ≡ same_name one.now other.now }
 {
@@ -81,13 +82,24 @@ impl Names {
     }
 
     /// The number of a name.
+    // where it is put in place of a call, room is made for more than it needs
+    #[inline(never)]
     pub fn number_of(&self, name: &Name) -> Option<u16>
         ensures { result ≡ place name.now self.now }
     {
-        if self.set.len() <= FEW_NAMES {
-            let number = place_among(self.set.as_slice(), name)?;
-            return Some(number as u16);
+        if self.set.len() > FEW_NAMES {
+            return self.number_in_set(name);
         }
+        let number = place_among(self.set.as_slice(), name)?;
+        Some(number as u16)
+    }
+
+    /// The number of a name, found by its hash.
+    // most lists are short, and are gone through by fewer instructions so
+    #[inline(never)]
+    fn number_in_set(&self, name: &Name) -> Option<u16>
+        ensures { result ≡ place name.now self.now }
+    {
         let number = self.set.get_index_of(name)?;
         Some(number as u16)
     }

@@ -7,6 +7,7 @@ ghost use Rattle.sect_types.specs.Expanded.{moved_action as moved_action_by, mov
 ghost use Rattle.sect_types.specs.Limits.{most_all_locals};
 ghost use Rattle.sect_types.specs.Rules.{knows_primitive, primitive_agrees, knows_test, test_agrees, sight};
 ghost use Rattle.sect_types.specs.Rules.{knows_operands, kind_accepts, all_accept};
+ghost use Rattle.sect_front.specs.declared.tree.Operator.{Operator};
 ghost use Rattle.sect_types.specs.steps.{Shown.{Shows}, Walks.{rule_in, of_types}};
 ghost use Rattle.sect_types.specs.steps.Written.{action_in, condition_in, argument_in};
 
@@ -177,23 +178,65 @@ impl<'a> Scope<'a> {
             (primitive_agrees self.now primitive.now) }
     {
         match primitive {
-            Primitive::Assign(x, v) => judge_assign(self.base(x), self.operand(v)),
-            Primitive::Compute(x, v, _, w) => {
-                judge_compute(self.base(x), self.operand(v), self.operand(w))
-            }
-            Primitive::New(x, of) => judge_new(self.base(x), *of, self.record_names.has(of)),
-            Primitive::Load(x, y, f) => {
-                let from = self.base(y);
-                let field = self.looked(&from, f);
-                judge_load(self.base(x), from, &field)
-            }
-            Primitive::Store(y, f, v) => {
-                let to = self.base(y);
-                let field = self.looked(&to, f);
-                judge_store(to, &field, self.operand(v))
-            }
+            Primitive::Assign(x, v) => self.judge_assigned(x, v),
+            Primitive::Compute(x, v, _, w) => self.judge_computed(x, v, w),
+            Primitive::New(x, of) => self.judge_made(x, of),
+            Primitive::Load(x, y, f) => self.judge_loaded(x, y, f),
+            Primitive::Store(y, f, v) => self.judge_stored(y, f, v),
             Primitive::Print(v) => judge_print(self.operand(v)),
         }
+    }
+
+    // each of the kinds of statements has a function of its own, since a function makes room for all that it may hold
+
+    /// The rule of types that `x = v` breaks, if any.
+    #[inline(never)]
+    fn judge_assigned(&self, x: &Name, v: &Operand) -> Result<(), Rule>
+        ensures { rule_in result ≡ of_types (knows_primitive self.now (Primitive.Assign x.now v.now))
+            (primitive_agrees self.now (Primitive.Assign x.now v.now)) }
+    {
+        judge_assign(self.base(x), self.operand(v))
+    }
+
+    /// The rule of types that `x = v + w` breaks, with whatever operator, if any.
+    #[inline(never)]
+    fn judge_computed(&self, x: &Name, v: &Operand, w: &Operand) -> Result<(), Rule>
+        ensures { (o : Operator) → rule_in result
+            ≡ of_types (knows_primitive self.now (Primitive.Compute x.now v.now o w.now))
+            (primitive_agrees self.now (Primitive.Compute x.now v.now o w.now)) }
+    {
+        judge_compute(self.base(x), self.operand(v), self.operand(w))
+    }
+
+    /// The rule of types that `x = new of` breaks, if any.
+    #[inline(never)]
+    fn judge_made(&self, x: &Name, of: &Name) -> Result<(), Rule>
+        ensures { rule_in result ≡ of_types (knows_primitive self.now (Primitive.New x.now of.now))
+            (primitive_agrees self.now (Primitive.New x.now of.now)) }
+    {
+        judge_new(self.base(x), *of, self.record_names.has(of))
+    }
+
+    /// The rule of types that `x = y.f` breaks, if any.
+    #[inline(never)]
+    fn judge_loaded(&self, x: &Name, y: &Name, f: &Name) -> Result<(), Rule>
+        ensures { rule_in result ≡ of_types (knows_primitive self.now (Primitive.Load x.now y.now f.now))
+            (primitive_agrees self.now (Primitive.Load x.now y.now f.now)) }
+    {
+        let from = self.base(y);
+        let field = self.looked(&from, f);
+        judge_load(self.base(x), from, &field)
+    }
+
+    /// The rule of types that `y.f = v` breaks, if any.
+    #[inline(never)]
+    fn judge_stored(&self, y: &Name, f: &Name, v: &Operand) -> Result<(), Rule>
+        ensures { rule_in result ≡ of_types (knows_primitive self.now (Primitive.Store y.now f.now v.now))
+            (primitive_agrees self.now (Primitive.Store y.now f.now v.now)) }
+    {
+        let to = self.base(y);
+        let field = self.looked(&to, f);
+        judge_store(to, &field, self.operand(v))
     }
 
     /// The rule of types that a test breaks, if any.

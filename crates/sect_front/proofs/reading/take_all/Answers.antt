@@ -5,8 +5,9 @@ use Rattle.sect_front.specs.{Expected.{all_kinds}, Faults.{tokens_in, IsUnexpect
 use Rattle.sect_front.specs.steps.{Taking.{is_kind_taken}, Verdicts.{SpellingAt}, Read.{finish_of}}
 use Rattle.sect_front.proofs.{Lexemes.{lexeme_first}, Reach.{reached_none, reached_rest, bad_at, lexed}}
 use Rattle.sect_front.proofs.Verdict.{reads_nothing, finished, is_low, brace_most}
-use Rattle.sect_front.proofs.Texts.{token_here, span_here, passed, reads_on, shorter, unexpected_at, too_deep_at}
-use Rattle.sect_front.proofs.{Texts.{text_ends, nothing_left}, Following.{kinds_expected}}
+use Rattle.sect_front.proofs.Texts.{ReadHere, token_here, span_here, passed, reads_on, shorter, unexpected_at}
+use Rattle.sect_front.proofs.Texts.{too_deep_at, text_ends, nothing_left, passed_shorter, passed_reads}
+use Rattle.sect_front.proofs.Following.{kinds_expected}
 use Rattle.sect_front.proofs.shared.Rests.{rest_more}
 use Rattle.sect_front.proofs.reading.take_all.Goals as goal
 
@@ -62,8 +63,9 @@ pub returns-in-Err-Unexpected-clause-fault : goal.returns-in-Err-Unexpected-clau
 returns-in-Err-Unexpected-clause-fault c =
     let bytes = c.args.bytes.now in
     let here = c.loop-here.here.now in
-    let r = c.loop-here.reader in
-    let read = c.loop-here.invariant.read in
+    let r = c.pass_statement.new.self in
+    let same = rw c.in_default.is at c.in_ok-there.ensures in
+    let read = subst (λ x. ReadHere bytes here x c.loop-here.level) (sym same) c.loop-here.invariant.read in
     let token = c.put_lexeme-length.new.token in
     let kinds = c.in_ok-kinds-in-Err-Unexpected.kinds.items in
     let span = span_here bytes here token c.put_lexeme-length.result
@@ -98,7 +100,9 @@ pub returns-then-level-gt-MOST_DEPTH-clause-fault : goal.returns-then-level-gt-M
 returns-then-level-gt-MOST_DEPTH-clause-fault c =
     let bytes = c.args.bytes.now in
     let here = c.loop-here.here.now in
-    let read = c.loop-here.invariant.read in
+    let r = c.pass_statement.new.self in
+    let same = rw c.in_default.is at c.in_ok-there.ensures in
+    let read = subst (λ x. ReadHere bytes here x c.loop-here.level) (sym same) c.loop-here.invariant.read in
     let token = c.put_lexeme-length.new.token in
     let span = span_here bytes here token c.put_lexeme-length.result
     (c.put_lexeme-length.ensures.some (grind (arith, nat_tests))) read.reached.fits in
@@ -110,10 +114,10 @@ returns-then-level-gt-MOST_DEPTH-clause-fault c =
     ) in
     c.unless_bad-then-level-gt-MOST_DEPTH.ensures (read.places ++ token_here bytes here token ∷ [])
     (rw (c.in_ok-here-2.ensures.after, c.split_at.ensures.back)
-    (passed bytes here c.loop-here.reader c.loop-here.level token c.put_lexeme-length.result read
+    (passed bytes here r c.loop-here.level token c.put_lexeme-length.result read
     (c.put_lexeme-length.ensures.some (grind (arith, nat_tests)))))
     (λ behind spells. subst (λ span. SpellingAt bytes span IsTooDeepAt) (sym span.0)
-    (too_deep_at bytes here c.loop-here.reader c.step.new.self c.loop-here.level (token_here bytes here token) read
+    (too_deep_at bytes here r c.step.new.self c.loop-here.level (token_here bytes here token) read
     c.in-Ok.ensures.reads (sym c.braces-level.ensures ∙ deep) span.1 behind spells))
 
 pub loop-here-smaller : goal.loop-here-smaller
@@ -122,14 +126,19 @@ loop-here-smaller c = rw (c.in_ok-here-2.ensures.after, c.split_at.ensures.back)
     (c.put_lexeme-length.ensures.some (grind (arith, nat_tests))))
 
 pub loop-here-preserved : goal.loop-here-preserved
-loop-here-preserved c = record {
-  read = rw (c.in_ok-here-2.ensures.after, c.split_at.ensures.back, c.braces-level.ensures)
-      (reads_on c.args.bytes.now c.loop-here.here.now c.loop-here.reader c.step.new.self c.loop-here.level
-      c.put_lexeme-length.new.token c.put_lexeme-length.result c.loop-here.invariant.read
-      (c.put_lexeme-length.ensures.some (grind (arith, nat_tests)))
-      c.in-Ok.ensures.reads (omega (arith, c.braces-level.ensures)));
-  gaps = c.pass_gap-in-loop-here.ensures.gaps;
-}
+loop-here-preserved c =
+    let bytes = c.args.bytes.now in
+    let here = c.loop-here.here.now in
+    let same = rw c.in_default.is at c.in_ok-there.ensures in
+    record {
+      read = rw (c.in_ok-here-2.ensures.after, c.split_at.ensures.back, c.braces-level.ensures)
+          (reads_on bytes here c.pass_statement.new.self c.step.new.self c.loop-here.level
+          c.put_lexeme-length.new.token c.put_lexeme-length.result
+          (subst (λ r. ReadHere bytes here r c.loop-here.level) (sym same) c.loop-here.invariant.read)
+          (c.put_lexeme-length.ensures.some (grind (arith, nat_tests)))
+          c.in-Ok.ensures.reads (omega (arith, c.braces-level.ensures)));
+      gaps = c.pass_gap-in-loop-here.ensures.gaps;
+    }
 
 pub returns-clause-shallow : goal.returns-clause-shallow
 returns-clause-shallow c = λ tree e. let read = c.loop-here.invariant.read in
@@ -142,3 +151,18 @@ returns-clause-ends c =
     let spells = lexed c.args.bytes.now read.places c.loop-here.here.now read.reached (nothing_left _ left) in
     text_ends c.args.bytes.now read.places c.loop-here.reader c.loop-here.level spells read.reads
     (finish_of c.loop-here.reader) refl
+
+pub loop-here-smaller-in-Some : goal.loop-here-smaller-in-Some
+loop-here-smaller-in-Some c =
+    passed_shorter c.loop-here.here.now c.in-Some.there.now c.loop-here.reader c.pass_statement.new.self
+    (rw c.in-Some.is at c.in_ok-there.ensures)
+
+pub loop-here-preserved-in-Some : goal.loop-here-preserved-in-Some
+loop-here-preserved-in-Some c =
+    let read = c.loop-here.invariant.read in
+    record {
+      read = passed_reads c.args.bytes.now c.loop-here.here.now c.in-Some.there.now c.loop-here.reader
+          c.pass_statement.new.self c.loop-here.level (is_low _ _ _ read.reads) read
+          (rw c.in-Some.is at c.in_ok-there.ensures);
+      gaps = c.loop-here.invariant.gaps;
+    }

@@ -343,7 +343,7 @@ fn carry_field(
     while let Some(base) = grown.next(from) {
         if base < sets.sites() {
             let all = sets.slot(base, field);
-            moved.join_slot(base, field, all);
+            moved.join_slot(base, field, &all);
         }
         from = base + 1;
     }

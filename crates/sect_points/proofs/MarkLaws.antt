@@ -471,10 +471,11 @@ pub local_growth : (t x : ℕ) (words : List ℕ) (sets moved moved' : PointsToV
     → IsGrowth moved moved' (grown (growth.Local t x) words)
 local_growth t x words sets moved moved' grew a is h s k = elim ((a.has h s).0 k) [
   | inl j ↦ inl j
-  | inr (e, j) ↦ elim (cases_eq (bit_at (slice_index (get_or (rows_of moved t) x no_sites).words (s / 64)) (s % 64)) 1) [
-    | inl one ↦ inl (subst (λ k. InSets moved k s) (sym e) one)
-    | inr none ↦ inr (e, (is s).1 (j, none))
-  ]
+  | inr (e, j) ↦ elim
+      (cases_eq (bit_at (slice_index (get_or (rows_of moved t) x no_sites).words (s / 64)) (s % 64)) 1) [
+        | inl one ↦ inl (subst (λ k. InSets moved k s) (sym e) one)
+        | inr none ↦ inr (e, (is s).1 (j, none))
+      ]
 ]
 
 pub local_part : (t x : ℕ) (sets moved moved' : PointsToView) (grew : Bool)

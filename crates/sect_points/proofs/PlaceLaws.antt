@@ -2,15 +2,16 @@
 use Rattle.std.proofs.Common.{◌≡◌, ℕ, ◌+◌, ◌-◌, ◌*◌, ◌/◌, ◌%◌, ◌^◌, ◌<◌, ◌⊎◌, ◌↔◌, List, [], ◌∷◌, ◌++◌, length}
 use Rattle.std.proofs.Common.{refl, sym, ap, ◌∙◌, subst, inl, inr, arith, replicate, get_or, slice_set}
 use Rattle.std.proofs.lemmas.List.{get_or-set_same, get_or-set_other, length-set, get_or-map, ext_get_or, length-map}
-use Rattle.std.proofs.lemmas.List.{get_or_append_left, get_or_at, get_or-replicate, length-replicate, map-set, get_or_past}
-use Rattle.std.proofs.lemmas.List.{length-append, get_or_default}
+use Rattle.std.proofs.lemmas.List.{get_or_append_left, get_or_at, get_or-replicate, length-replicate, map-set}
+use Rattle.std.proofs.lemmas.List.{length-append, get_or_default, get_or_past}
 use Rattle.std.proofs.{lemmas.List.Sums.{sum_by-set}, lemmas.Bool.{cases_eq, cases_lt}}
 use Rattle.std.proofs.lemmas.Nat.Bits.{bit_at-zero}
 use Rattle.std.specs.{Prelude.{bit_or}, Int.{bit_at}}
 use Rattle.sect_types.specs.Limits.{most_sites}
 use Rattle.sect_points.specs.{declared.sites.{SiteSet.{SiteSet}, TheConstants.{WORDS}}, Sites.{HasSite, room}}
 use Rattle.sect_points.specs.{Rows.{no_sites, RowHas, rows_room}, declared.rows.Place.{Place}}
-use Rattle.sect_points.specs.steps.Places.{empty_set, set_of, set_in, sets_at, place_at, shared, shared_count, ArePlaces}
+use Rattle.sect_points.specs.steps.Places.{empty_set, set_of, set_in, sets_at, place_at, shared, shared_count}
+use Rattle.sect_points.specs.steps.Places.{ArePlaces}
 use Rattle.sect_points.proofs.{shared.SetLaws.{row_past}, SiteLaws.{insert_site}}
 use Rattle.sect_points.specs.declared.rows.Place.TheVariants as place
 
@@ -404,7 +405,8 @@ pub first_gets : (rows sets : List SiteSet) (places : List Place) (row site : �
     → RowHas (sets_at sets (slice_set places row (place.Alone site))) other s
     ↔ (RowHas rows other s ⊎ ((other ≡ row) × (s ≡ site)))
 first_gets rows sets places row site view nothing lt most =
-    set_gets rows _ row empty_set (set_of site) (λ s. s ≡ site) (put_sets rows sets places row (place.Alone site) view) lt
+    set_gets rows _ row empty_set (set_of site) (λ s. s ≡ site)
+    (put_sets rows sets places row (place.Alone site) view) lt
     (at_place rows sets places row place.Nothing view (omega (arith, lt, length_at sets places, ap length view))
     (sym nothing))
     (λ s. (

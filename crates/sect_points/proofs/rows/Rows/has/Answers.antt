@@ -18,8 +18,10 @@ pub returns-in-Alone : goal.returns-in-Alone
 returns-in-Alone c =
     let s = stands c.args.self.now c.self.inside.sets.items c.self.inside.places.items c.args.row _ c.place_of.result
     c.self.view_is c.self.invariant c.place_of.ensures in
-    let alone = s.alone c.in-Alone.only c.in-Alone.is c.args.site in
-    (λ t. alone.1 (search (rules, t)), λ h. let is : c.in-Alone.only ≡ c.args.site = sym (alone.0 h) in search (rules, is))
+    let alone = s.alone c.in-Alone.only c.in-Alone.is c.args.site in (
+      λ t. alone.1 (search (rules, t)),
+      λ h. let is : c.in-Alone.only ≡ c.args.site = sym (alone.0 h) in search (rules, is),
+    )
 
 pub returns-in-Own : goal.returns-in-Own
 returns-in-Own c =

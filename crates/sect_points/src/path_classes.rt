@@ -162,7 +162,7 @@ fn field_site(classes: &Classes, bases: &SiteSet, field: u16) -> Option<u16>
     let points = classes.points();
     points.bounds();
     let base = bases.common(&classes.filled_in(field))?;
-    points.slot(base, field).first()
+    points.first_in(base, field)
 }
 
 /// A site of the second of two fields of one of these sites.

@@ -368,8 +368,7 @@ fn carry_field(
     let mut from = 0;
     while let Some(base) = grown.next(from) {
         if base < sets.sites() {
-            let all = sets.slot(base, field);
-            moved.join_slot(base, field, &all);
+            moved.join_slot_from(sets, base, field);
         }
         from = base + 1;
     }

@@ -9,6 +9,7 @@ use Rattle.sect_points.specs.{Sites.{HasSite, IsNext, InBoth}, declared.holders.
 use Rattle.sect_points.specs.{declared.holders.Growth.{Growth}, Partitions.{AreSlotsOfSites}}
 use Rattle.sect_points.specs.Flow.{Family, ValueHas, BaseHas, Within, Moved, family_of}
 use Rattle.sect_points.specs.Sets.{PointsToView, InSets, HasSet, SameHolders, Adds, sites_for, spread_to, sets_room}
+use Rattle.sect_points.specs.{Sets.{rows_of}, Rows.{no_sites}}
 use Rattle.sect_points.specs.{Sets.{AreBelow}, declared.holders.Holder.{Holder}}
 use Rattle.sect_points.specs.declared.holders.Holder.TheVariants.{Local, Slot}
 use Rattle.sect_types.specs.{declared.expansion.action.Value.{Value}, declared.expansion.action.Base.{Base}}
@@ -464,28 +465,26 @@ going_on list g old new moved moved' marks marks' grew going r handled growth pa
   suits = r.suits going.suits;
 }
 
-pub local_growth : (t x : ℕ) (words : List ℕ) (moved moved' : PointsToView) (grew : Bool)
-    → Adds moved moved' (sites_for (Local t x) words) grew → IsGrowth moved moved' (grown (growth.Local t x) words)
-local_growth t x words moved moved' grew a h s k = (a.has h s).0 k
-
-pub local_part : (t x : ℕ) (words : List ℕ) (sets moved moved' : PointsToView) (grew : Bool)
-    → Adds moved moved' (sites_for (Local t x) words) grew → Within (InSets moved) (InSets sets)
-    → ((s : ℕ) → HasSite words s → InSets sets (Local t x) s) → Within (InSets moved') (InSets sets)
-local_part t x words sets moved moved' grew a part there h s k = elim ((a.has h s).0 k) [
-  | inl j ↦ part h s j
-  | inr (is, j) ↦ subst (λ h. InSets sets h s) (sym is) (there s j)
+pub local_growth : (t x : ℕ) (words : List ℕ) (sets moved moved' : PointsToView) (grew : Bool)
+    → Adds moved moved' (λ h s. (h ≡ Local t x) × InSets sets (Local t x) s) grew
+    → ((s : ℕ) → HasSite words s ↔ (InSets sets (Local t x) s × (InSets moved (Local t x) s → ⊥)))
+    → IsGrowth moved moved' (grown (growth.Local t x) words)
+local_growth t x words sets moved moved' grew a is h s k = elim ((a.has h s).0 k) [
+  | inl j ↦ inl j
+  | inr (e, j) ↦ elim
+      (cases_eq (bit_at (slice_index (get_or (rows_of moved t) x no_sites).words (s / 64)) (s % 64)) 1) [
+        | inl one ↦ inl (subst (λ k. InSets moved k s) (sym e) one)
+        | inr none ↦ inr (e, (is s).1 (j, none))
+      ]
 ]
 
-pub local_here : (t x : ℕ) (all before words : List ℕ) (sets moved moved' : PointsToView) (grew : Bool)
-    → Adds moved moved' (sites_for (Local t x) words) grew
-    → ((s : ℕ) → HasSite all s ↔ InSets sets (Local t x) s) → ((s : ℕ) → HasSite before s ↔ InSets moved (Local t x) s)
-    → ((s : ℕ) → HasSite words s ↔ (HasSite all s × (HasSite before s → ⊥)))
-    → (s : ℕ) → InSets sets (Local t x) s → InSets moved' (Local t x) s
-local_here t x all before words sets moved moved' grew a is_all is_before is s h =
-    (a.has (Local t x) s).1 (elim (cases_eq (bit_at (slice_index before (s / 64)) (s % 64)) 1) [
-      | inl one ↦ inl ((is_before s).0 one)
-      | inr zero ↦ inr (refl, (is s).1 ((is_all s).1 h, zero))
-    ])
+pub local_part : (t x : ℕ) (sets moved moved' : PointsToView) (grew : Bool)
+    → Adds moved moved' (λ h s. (h ≡ Local t x) × InSets sets (Local t x) s) grew
+    → Within (InSets moved) (InSets sets) → Within (InSets moved') (InSets sets)
+local_part t x sets moved moved' grew a part h s k = elim ((a.has h s).0 k) [
+  | inl j ↦ part h s j
+  | inr (is, j) ↦ subst (λ h. InSets sets h s) (sym is) j
+]
 
 pub span_taken : (list : List ThreadAction) (old new : PointsToView) (marks0 marks1 marks2 : Marked) (grew : Bool)
     → ((h : Holder) → HasMark marks1 h → HasMark marks0 h) → IsStretch list old new marks1 marks2 grew

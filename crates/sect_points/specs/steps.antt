@@ -4,4 +4,5 @@ pub mod Solving
 pub mod Marks
 pub mod Readers
 pub mod Places
+pub mod Extents
 pub mod Standing

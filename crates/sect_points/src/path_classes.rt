@@ -109,10 +109,10 @@ impl Classes {
     }
 
     /// The sites that have something in a field.
-    fn filled_in(&self, field: u16) -> &SiteSet
-        ensures { (base : ℕ) → HasSite result.now.words base ↔ IsFilled self.now.sets base field }
+    fn filled_in(&self, field: u16) -> SiteSet
+        ensures { (base : ℕ) → HasSite result.words base ↔ IsFilled self.now.sets base field }
     {
-        self.filled.get_or_none(field as usize)
+        self.filled.get(field as usize)
     }
 }
 
@@ -161,8 +161,8 @@ fn field_site(classes: &Classes, bases: &SiteSet, field: u16) -> Option<u16>
 {
     let points = classes.points();
     points.bounds();
-    let base = bases.common(classes.filled_in(field))?;
-    points.slot(base, field).first()
+    let base = bases.common(&classes.filled_in(field))?;
+    points.first_in(base, field)
 }
 
 /// A site of the second of two fields of one of these sites.
@@ -176,8 +176,8 @@ fn second_field_site(classes: &Classes, bases: &SiteSet, first: u16, second: u16
     points.bounds();
     let filled = classes.filled_in(first);
     let mut from = 0;
-    while let Some(base) = bases.next_common(filled, from) {
-        let found = field_site(classes, points.slot(base, first), second);
+    while let Some(base) = bases.next_common(&filled, from) {
+        let found = field_site(classes, &points.slot(base, first), second);
         if found.is_some() {
             return found;
         }

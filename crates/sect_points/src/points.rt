@@ -74,6 +74,7 @@ fn empty_sets(alloc: Global, program: &Program) -> Result<PointsTo, AllocError>
     ensures room { IfOk result (IsRoomFor program.now) }
     ensures empty { IfOk result IsEmpty }
 {
+    program.facts();
     let mut sets = PointsTo::new(alloc, program.site_count())?;
     for locals in program.locals() {
         sets.add_thread(alloc, locals.as_slice().len())?;

@@ -3,7 +3,7 @@
 ghost use Rattle.std.specs.Prelude.{◌≡◌, ◌↔◌, ◌≤◌, ◌<◌, ℕ, length, true, false};
 ghost use Rattle.sect_points.specs.{Sites.{HasSite}, Flow.{ValueHas, BaseHas, Within, IsLeastFlow}};
 ghost use Rattle.sect_points.specs.Sets.{PointsToView, InSets, IsEmpty, HasSet, SameHolders, sets_room, sites_for};
-ghost use Rattle.sect_points.specs.Sets.{spread_to, AreSitesOf, AreBelow};
+ghost use Rattle.sect_points.specs.Sets.{spread_to, AreSitesOf, AreBelow, Adds};
 ghost use Rattle.sect_points.specs.declared.holders.ThreadAction.{ThreadAction};
 ghost use Rattle.sect_points.specs.declared.holders.Holder.{Holder};
 ghost use Rattle.sect_points.specs.declared.holders.Holder.TheVariants.{Local, Slot};
@@ -61,6 +61,37 @@ fn add(sets: &mut PointsTo, holder: Holder, sites: &SiteSet, marks: &mut Marks) 
     grew
 }
 
+/// Adds the sites of a value to a local's set, and tells whether there were new ones.
+fn join_value(sets: &mut PointsTo, thread: u16, target: u16, value: Value) -> bool
+    requires place { HasSet sets.old (Local thread target) }
+    requires fits { FitsValue sets.old thread value }
+    requires most { sets.old.sites ≤ MOST_SITES }
+    ensures { Adds sets.old sets.new
+        (λ h s. (h ≡ Local thread target) × ValueHas (InSets sets.old) thread value s) result }
+{
+    match value {
+        Value::Local(local) => sets.join_other(thread, target, local),
+        Value::Global(global) => sets.add_local(thread, target, global),
+        Value::Null | Value::Number(_) => false,
+    }
+}
+
+/// Adds the sites of a value to a local's set, and marks it where there were new ones.
+fn assign(sets: &mut PointsTo, thread: u16, target: u16, value: Value, marks: &mut Marks) -> bool
+    requires place { HasSet sets.old (Local thread target) }
+    requires fits { FitsValue sets.old thread value }
+    requires most { sets.old.sites ≤ MOST_SITES }
+    requires suits { Suits sets.old marks.old }
+    ensures { Grows sets.old sets.new
+        (λ h s. (h ≡ Local thread target) × ValueHas (InSets sets.old) thread value s) marks.old marks.new result }
+{
+    let grew = join_value(sets, thread, target, value);
+    if grew {
+        marks.mark(Holder::Local(thread, target));
+    }
+    grew
+}
+
 /// Adds sites to a field of all these sites, and marks what grew.
 fn spread(
     sets: &mut PointsTo,
@@ -113,10 +144,7 @@ fn turn(sets: &mut PointsTo, placed: ThreadAction, bases: &SiteSet, marks: &mut 
     sets.bounds();
     let thread = placed.thread;
     match placed.action {
-        Action::Assign(target, value) => {
-            let sites = value_sites(sets, thread, value);
-            add(sets, Holder::Local(thread, target), &sites, marks)
-        }
+        Action::Assign(target, value) => assign(sets, thread, target, value, marks),
         Action::New(target, _, site) => {
             add(
                 sets,
@@ -248,13 +276,11 @@ fn carry_local(
     ensures more { Within (InSets moved.old) (InSets moved.new) }
     ensures here { (site : ℕ) → InSets sets.old (Local thread local) site → InSets moved.new (Local thread local) site }
 {
-    let all = sets.local_or_none(thread, local);
-    let before = moved.local_or_none(thread, local);
-    let new = all.without(&before);
+    let new = sets.rest(moved, thread, local);
     if new.first().is_none() {
         return false;
     }
-    moved.join_local(thread, local, &new);
+    moved.join_from(sets, thread, local);
     pass(sets, readers, Growth::Local(thread, local), &new, marks)
 }
 
@@ -342,8 +368,7 @@ fn carry_field(
     let mut from = 0;
     while let Some(base) = grown.next(from) {
         if base < sets.sites() {
-            let all = sets.slot(base, field);
-            moved.join_slot(base, field, all);
+            moved.join_slot_from(sets, base, field);
         }
         from = base + 1;
     }

@@ -15,6 +15,6 @@ loop-base-preserved c =
     let none = none_there c.field_site-found.result _ c.field_site-found.ensures.none
     (sym c.is_some.ensures ∙ c.if-is_some.false) in
     nothing_more l.from c.in-Some.base c.args.classes.now.sets c.args.bases.now.words
-    c.filled_in-filled.result.now.words
-    c.slot.result.now.words c.args.first c.args.second
+    c.filled_in-filled.result.words
+    c.slot.result.words c.args.first c.args.second
     c.filled_in-filled.ensures c.in-Some.ensures.some slot none l.invariant

@@ -179,7 +179,7 @@ impl Block {
     }
 
     /// Adds a statement before the last one.
-    pub fn push_before_last(&mut self, statement: Statement) -> Result<(), AllocError>
+    pub(crate) fn push_before_last(&mut self, statement: Statement) -> Result<(), AllocError>
         requires { self.old ≢ End }
         ensures { (b : BlockView) (last : StatementView) → self.old ≡ append b last
             → OnOk result (self.new ≡ append (append b (statement_of statement)) last) }

@@ -3,7 +3,7 @@
 ghost use Rattle.std.specs.{Prelude.{◌≡◌, IfOk, IfErr, IsOkUnless}, String.{string_bytes}};
 ghost use Rattle.sect_names.specs.{Schemes.{SchemeView}, Sources.{IsAccepted}};
 ghost use Rattle.sect_emit.specs.Compiled.{program_of};
-ghost use Rattle.sect_world.specs.declared.world.Run.{Run as ARun};
+ghost use Rattle.sect_world.specs.declared.world.Run.{Run};
 ghost use Rattle.sect_run.specs.Ends.{IsWholeRun};
 ghost use Rattle.sect_answers.specs.{declared.refusal.Refusal.TheVariants.{Memory}, Answers.{IsDue}};
 ghost use Rattle.sect_answers.specs.{Formats.{outcome_in}, Running.{IsOutcomeOfRun}};
@@ -13,7 +13,6 @@ use crate::outcome::outcome_printed;
 use crate::refusal::Refusal;
 use sect_emit::{Compiled, compile};
 use sect_run::{Gate, RunFault, run_threads};
-use sect_world::Run;
 use std::alloc::Global;
 use std::sync::Wait;
 use std::thread::Threads;
@@ -49,10 +48,10 @@ fn outcome_of<R: Threads + Wait + Sync, G: Gate>(
     gate: &G,
     format: Format,
 ) -> Result<String, RunFault>
-    ensures { IfOk result (λ text. (run : ARun) × IsWholeRun compiled.now fuel run
+    ensures { IfOk result (λ text. (run : Run) × IsWholeRun compiled.now fuel run
         × (string_bytes text ≡ outcome_in format (program_of compiled.now) run.outcome)) }
 {
-    let Run { events: _, outcome } = run_threads(rt, alloc, compiled, fuel, gate)?;
+    let run = run_threads(rt, alloc, compiled, fuel, gate)?;
     let program = compiled.scheme().program();
-    Ok(outcome_printed(alloc, program, &outcome, format)?)
+    Ok(outcome_printed(alloc, program, &run.outcome, format)?)
 }

@@ -42,12 +42,7 @@ fn progress_value(
     let run = &progress.run;
     let events = run.events.since(alloc, 0)?;
     let printer = Printer::new(alloc, program)?;
-    let turns = turn_values(
-        alloc,
-        program,
-        progress.made.as_slice(),
-        events.as_slice(),
-    )?;
+    let turns = turn_values(alloc, program, progress.made.as_slice(), events.as_slice())?;
     let members = Members::new(alloc)
         .with_made("outcome", outcome_value(alloc, &printer, &run.outcome))?
         .with("turns", turns)?;

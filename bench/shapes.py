@@ -20,6 +20,25 @@ def comments(size):
     return ("//" + "c" * 61 + "\n") * (size // 64)
 
 
+def blanks(size):
+    """256 sections, with a line feed and blanks behind each word, as many as fill the size."""
+    words = sections(256).split()
+    return ("\n" + " " * ((size - sum(map(len, words))) // len(words) - 1)).join(words)
+
+
+def long_names(count):
+    """Loads and sums of locals, whose names are as long as names may be."""
+    chance = random.Random(1)
+    fields, globals_, locals_ = ([name.ljust(32, "_") for name in named(kind, many)]
+                                 for kind, many in (("field", 16), ("global", 256), ("local", 64)))
+    body = ["%s = %s.%s; %s = %s + %s;"
+            % (chance.choice(locals_), chance.choice(globals_), chance.choice(fields), chance.choice(locals_),
+               chance.choice(locals_), chance.choice(locals_)) for _ in range((count - 1) // 2)]
+    return ("record %s { %s }\n%s thread t { %s atomic { %s } }"
+            % ("R" * 32, declared("int", fields), declared("global " + "R" * 32, globals_), declared("int", locals_),
+               " ".join(body)))
+
+
 def assignments(count):
     """One section of sums over two locals: nothing is locked."""
     return "thread t { int a; int b; atomic { %s } }" % ("a = b; b = a + 1; " * (count // 2))
@@ -33,6 +52,35 @@ def straight(count):
             % (chance.choice(names), chance.randrange(100), chance.choice(names)) for _ in range((count - 1) // 4)]
     return ("record Acct { int bal; int cnt; }\n%s thread t { int a; int b; int c; atomic { %s } }"
             % (declared("global Acct", names), " ".join(body)))
+
+
+def references(count):
+    """One section without a branch: stores and loads through 32 locals, to which 16 globals are assigned anew."""
+    chance = random.Random(1)
+    names, roots = named("x", 32), named("g", 16)
+    begun = ["%s = %s;" % (name, roots[i % 16]) for i, name in enumerate(names)]
+    body = ["%s.next = %s; v = %s.val; %s = %s; %s.val = v;"
+            % (*(chance.choice(names) for _ in range(4)), chance.choice(roots), chance.choice(names))
+            for _ in range((count - len(begun)) // 4)]
+    return ("%s%s thread t { %s int v; %s atomic { %s } }"
+            % (record("Node", ["next"], "int val; "), declared("global Node", roots), declared("Node", names),
+               " ".join(begun), " ".join(body)))
+
+
+def walks(count):
+    """Loops in loops, 24 deep: each walks a list from where the one around it stands."""
+    chance = random.Random(1)
+    names, roots, fields = named("p", 24), named("h", 8), ["next", "prev", "up"]
+    nests = []
+    for _ in range(count // 120):
+        bases = [chance.choice(roots)] + names
+        opened = " ".join("%s = %s.%s; while (%s != null) { v = %s.val; s = s + v;"
+                          % (name, base, chance.choice(fields), name, name) for base, name in zip(bases, names))
+        nests.append("%s %s" % (opened, " ".join("%s = %s.next; }" % (name, name) for name in reversed(names))))
+    return ("%s%s thread t { %s int v; int s; atomic { %s } } "
+            "thread w { Node x; atomic { x = new Node; h0.next = x; x.prev = h1; h1.up = x; } }"
+            % (record("Node", fields, "int val; "), declared("global Node", roots), declared("Node", names),
+               " ".join(nests)))
 
 
 def paths(count):
@@ -51,14 +99,24 @@ def paths(count):
             % (declared("global A", names), locals_, " ".join(made), " ".join(used)))
 
 
-def forest(count):
-    """So many objects of 12 fields; each is walked by three fields that tests choose, so that paths are many."""
-    fields, roots = named("f", 12), named("g", count)
+def stepped(roots, fields):
+    """Objects of these globals and one more, all linked; from each global three fields are gone along that tests
+    choose, so that paths are many."""
     linked = ["%s.%s = x;" % (name, field) for name in ["x"] + roots for field in fields]
     step = " ".join("if (c == %d) { q = p.%s; }" % (i, field) for i, field in enumerate(fields))
     walked = " ".join("p = %s; q = null; %s q = p.f0;" % (root, (step + " p = q; ") * 3) for root in roots)
     return ("%s%s thread m { N x; atomic { x = new N; %s } } thread t { N p; N q; int c; atomic { %s } }"
             % (record("N", fields), declared("global N", roots), " ".join(linked), walked))
+
+
+def forest(count):
+    """So many objects of 12 fields."""
+    return stepped(named("g", count), named("f", 12))
+
+
+def tree(count):
+    """One object of so many fields."""
+    return stepped(["root"], named("f", count))
 
 
 def alias(count):
@@ -105,6 +163,35 @@ def one_of_eight(chance, globals_):
         lambda: "%s.b = %s;" % (local(of), local(of + 1)),
         lambda: "%s.c = %s;" % (local(of), local(of)),
     ])()
+
+
+def copies(count):
+    """Copies from local to local in 64 threads, against the order in which what they refer to moves."""
+    names, globals_ = named("x", 64), named("g", 256)
+    threads = []
+    for thread in range(64):
+        moved = names[: count // 64 - 1]
+        body = ["%s = %s;" % (name, other) for name, other in zip(moved, moved[1:])]
+        threads.append("thread t%d { %s %s %s = %s; atomic { x0.next = %s; } }"
+                       % (thread, declared("Node", names), " ".join(body), moved[-1], globals_[4 * thread],
+                          globals_[4 * thread + 3]))
+    return "%s%s %s" % (record("Node", ["next"]), declared("global Node", globals_), "\n".join(threads))
+
+
+def records(count):
+    """Objects of 64 records, whose 16 fields are each of another record: made, stored into and loaded from."""
+    chance = random.Random(1)
+    kinds = " ".join("record R%d { %s }" % (i, " ".join("R%d f%d;" % ((i + j) % 64, j) for j in range(16)))
+                     for i in range(64))
+    body = []
+    for _ in range(count // 4):
+        one, field, other = chance.randrange(64), chance.randrange(16), chance.randrange(16)
+        to = (one + field) % 64
+        stored = "x%d = new R%d; x%d.f%d = g%d;" % (one, one, one, field, to + 64 * chance.randrange(4))
+        body.append("%s x%d = x%d.f%d; x%d = x%d.f%d;" % (stored, to, one, field, (to + other) % 64, to, other))
+    return ("%s %s thread t { %s atomic { %s } }"
+            % (kinds, " ".join("global R%d g%d;" % (i % 64, i) for i in range(256)),
+               " ".join("R%d x%d;" % (i, i) for i in range(64)), " ".join(body)))
 
 
 def sites(count):
@@ -229,12 +316,19 @@ def counting(states):
     return "record Acct { int bal; } global Acct a; %s" % threads
 
 
+def rounds(count, locals_, body):
+    """64 threads, each of which does so many times what the body is for its number."""
+    return " ".join("thread t%d { int i; %s while (i < %d) { %s i = i + 1; } }" % (i, locals_, count, body(i))
+                    for i in range(64))
+
+
 def adding(count, globals_):
     """64 threads, in turn over the globals; each adds 1 to the object of its own so many times, a section a time."""
-    threads = " ".join("thread t%d { int i; int v; while (i < %d) { atomic { v = %s.bal; v = v + 1; %s.bal = v; } "
-                       "i = i + 1; } }" % (i, count, name, name)
-                       for i, name in ((i, globals_[i % len(globals_)]) for i in range(64)))
-    return "record Acct { int bal; } %s %s" % (declared("global Acct", globals_), threads)
+    def added(number):
+        name = globals_[number % len(globals_)]
+        return "atomic { v = %s.bal; v = v + 1; %s.bal = v; }" % (name, name)
+
+    return "record Acct { int bal; } %s %s" % (declared("global Acct", globals_), rounds(count, "int v;", added))
 
 
 def one_for_all(count):
@@ -245,3 +339,17 @@ def one_for_all(count):
 def one_for_each(count):
     """64 threads that share nothing."""
     return adding(count, named("a", 64))
+
+
+def making(count):
+    """64 threads that make eight objects a round, refer to the last by one object and read by another."""
+    made = "p = new Node; p.val = i; " * 8
+    body = "atomic { %sa.next = p; } atomic { p = b.next; if (p != null) { v = p.val; } }" % made
+    return "%s%s %s" % (record("Node", ["next"], "int val; "), declared("global Node", ["a", "b"]),
+                        rounds(count, "int v; Node p;", lambda number: body))
+
+
+def working(count):
+    """64 threads that make twenty sums of locals a round, and store the last in one object."""
+    body = "%satomic { a.bal = v; }" % ("v = v + i; " * 20)
+    return "record Acct { int bal; } global Acct a; %s" % rounds(count, "int v;", lambda number: body)

@@ -43,7 +43,7 @@ code_of fault.ServerNotInitialized = negsuc 32001
 
 abbrev pub words_of : RequestError → List ℕ
 words_of fault.ParseError = codes "the message is no JSON"
-words_of fault.InvalidRequest = codes "the request isn't one that may come now"
+words_of fault.InvalidRequest = codes "this is no request that may come now"
 words_of fault.MethodNotFound = codes "there is no such method"
 words_of fault.InvalidParams = codes "the parameters aren't those of the method"
 words_of fault.ServerNotInitialized = codes "the server waits for initialize"

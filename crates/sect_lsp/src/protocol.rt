@@ -41,7 +41,7 @@ impl RequestError {
     {
         match self {
             RequestError::ParseError => "the message is no JSON",
-            RequestError::InvalidRequest => "the request isn't one that may come now",
+            RequestError::InvalidRequest => "this is no request that may come now",
             RequestError::MethodNotFound => "there is no such method",
             RequestError::InvalidParams => "the parameters aren't those of the method",
             RequestError::ServerNotInitialized => "the server waits for initialize",

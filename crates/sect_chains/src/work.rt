@@ -13,7 +13,7 @@ ghost use Rattle.sect_chains.specs.steps.Ordering.{IsInOrder, AllBefore, AddsTo,
 use crate::keep::{KeptLink, Siblings, keep};
 use crate::marks::Marks;
 use sect_graph::Flow;
-use sect_infer::{Numbering, Numbers, carry_one, room_for};
+use sect_infer::{Numbering, Numbers, Transfer, room_for};
 use sect_names::{Link, Lock, Scheme, stays};
 use std::alloc::{AllocError, Global};
 
@@ -183,15 +183,12 @@ impl Searched<'_> {
         let label = self.flow.action(node);
         let number = trail.steps[index].number;
         fresh.clear();
-        carry_one(
-            alloc,
-            self.scheme,
-            self.thread,
-            &label,
-            &mut trail.numbering,
-            fresh,
-            number,
-        )?;
+        let transfer = Transfer {
+            scheme: self.scheme,
+            thread: self.thread,
+            label: &label,
+        };
+        transfer.carry_one(alloc, &mut trail.numbering, fresh, number)?;
         let siblings = Siblings {
             node,
             next: Some(index),

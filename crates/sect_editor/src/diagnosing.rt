@@ -8,6 +8,7 @@ use crate::mistakes::mistake_value;
 use crate::warned::warnings_of;
 use sect_emit::{Compiled, compile_scheme};
 use sect_lint::{Judgment, lint};
+use sect_names::SourceRefusal;
 use serde_json::{Value, json};
 use std::alloc::{AllocError, Global};
 
@@ -25,18 +26,18 @@ pub fn judge(alloc: Global, k: u16, uri: &str, text: &[u8]) -> Result<Judged, Al
     ensures diagnostics { IfOk result (λ j. AreDiagnostics k uri.now text.now (view j.diagnostics)) }
     ensures compiled { IfOk result (λ j. IsCompiledIf text.now k j.compiled) }
 {
-    let Ok(judgment) = lint(alloc, text, k) else {
-        return Err(AllocError);
-    };
-    match judgment {
-        Judgment::Refused(diagnostic) => {
+    match lint(alloc, text, k) {
+        Err(SourceRefusal::Memory) => Err(AllocError),
+        // k is small enough
+        Err(_) => unreachable!(),
+        Ok(Judgment::Refused(diagnostic)) => {
             let diagnostics = json!(in alloc; [mistake_value(alloc, uri, text, &diagnostic)?])?;
             Ok(Judged {
                 diagnostics,
                 compiled: None,
             })
         }
-        Judgment::Accepted(scheme) => {
+        Ok(Judgment::Accepted(scheme)) => {
             let compiled = compile_scheme(alloc, scheme)?;
             let diagnostics = warnings_of(alloc, text, &compiled)?;
             Ok(Judged {

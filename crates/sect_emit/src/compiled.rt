@@ -16,7 +16,7 @@ use crate::certificate::text_of;
 use crate::chains::found;
 use crate::laws::claims::spelled_locks_are_valid;
 use crate::plan::Grip;
-use sect_cert::{Cert, read_cert};
+use sect_cert::{Cert, CertFault, read_cert};
 use sect_chains::Chain;
 use sect_infer::Locks;
 use sect_names::{Lock, Scheme};
@@ -155,7 +155,9 @@ impl Compiled {
         let text = text_of(alloc, &self.scheme, self.locks.as_slice())?;
         match read_cert(alloc, text.as_slice()) {
             Ok(cert) => Ok(cert),
-            Err(_) => Err(AllocError),
+            Err(CertFault::Memory) => Err(AllocError),
+            // the text is that of a certificate
+            Err(_) => unreachable!(),
         }
     }
 }

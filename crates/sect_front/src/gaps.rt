@@ -5,10 +5,15 @@ ghost use Rattle.sect_front.specs.{Gaps.{after_gap as gap_of}, LongGaps.{IsRestO
 
 use crate::lexer::{after_gap, is_tight};
 use crate::span::Span;
+use memchr::memchr;
 use std::alloc::AllocError;
 
 /// A gap of so many bytes is long.
 const LONG_GAP: usize = 12;
+
+/// A statement without a block and the gap behind it may have a long gap at the end from so many bytes on; most that
+/// are shorter have none.
+const LONG_STATEMENT: usize = 32;
 
 /// A text, and gaps of it, that is blanks and comments between its tokens, in the order of the text. Any may be left
 /// out, and is then passed byte by byte.
@@ -78,9 +83,68 @@ fn pass_bytes<'a>(
     ensures gaps { AreGaps bytes.now gaps.new.items }
 {
     let after = after_gap(here);
+    keep(bytes, here, after, gaps)?;
+    Ok(after)
+}
+
+/// Adds the gap at the front of a rest of a text, behind which this follows, to the text's gaps, if it is many bytes.
+#[inline(always)]
+fn keep(
+    bytes: &[u8],
+    here: &[u8],
+    after: &[u8],
+    gaps: &mut Vec<Span>,
+) -> Result<(), AllocError>
+    requires gaps { AreGaps bytes.now gaps.old.items }
+    requires rest { IsRestOf bytes.now here.now }
+    requires after { after.now ≡ gap_of here.now }
+    ensures { AreGaps bytes.now gaps.new.items }
+{
     let (start, end) = (bytes.len() - here.len(), bytes.len() - after.len());
     if end - start >= LONG_GAP {
         gaps.push(Span { start, end })?;
     }
-    Ok(after)
+    Ok(())
+}
+
+/// Adds the gap behind a statement without a block, which stands at the front and behind which `there` follows, to the
+/// text's gaps, if it is many bytes.
+#[inline(always)]
+pub fn keep_gap(
+    bytes: &[u8],
+    here: &[u8],
+    there: &[u8],
+    gaps: &mut Vec<Span>,
+) -> Result<(), AllocError>
+    requires gaps { AreGaps bytes.now gaps.old.items }
+    requires rest { IsRestOf bytes.now here.now }
+    ensures { AreGaps bytes.now gaps.new.items }
+{
+    if here.len() < there.len() + LONG_STATEMENT {
+        return Ok(());
+    }
+    keep_gap_behind(bytes, here, there, gaps)
+}
+
+/// The same, where both are many bytes. A statement in which a comment has a `;` is left out.
+#[inline(never)]
+fn keep_gap_behind(
+    bytes: &[u8],
+    here: &[u8],
+    there: &[u8],
+    gaps: &mut Vec<Span>,
+) -> Result<(), AllocError>
+    requires gaps { AreGaps bytes.now gaps.old.items }
+    requires rest { IsRestOf bytes.now here.now }
+    ensures { AreGaps bytes.now gaps.new.items }
+{
+    let Some(at) = memchr(b';', here) else {
+        return Ok(());
+    };
+    let (_, behind) = here.split_at(at + 1);
+    let after = after_gap(behind);
+    if after.len() == there.len() {
+        keep(bytes, behind, after, gaps)?;
+    }
+    Ok(())
 }

@@ -1,7 +1,7 @@
-//! Statements without a block that are read whole where they stand.
+//! Statements without a block, and `if` with its test, that are read whole where they stand.
 //!
 //! The machine that takes one token at a time takes these too, and tells where a text stops to be one. Most statements
-//! have no block, and are passed by fewer instructions so.
+//! are such, and are passed by fewer instructions so.
 
 ghost use Rattle.std.specs.Prelude.{◌≡◌, ◌∷◌, [], Some, IfOk, IfSome, MatchOption, false};
 ghost use Rattle.sect_front.specs.{Words.{is_name_byte}, Grammar.{operand_token, operator_token}, Tokens.{test_tokens}};

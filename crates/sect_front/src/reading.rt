@@ -11,7 +11,7 @@ ghost use Rattle.sect_front.specs.declared.reader.Outside.TheVariants as Outside
 ghost use Rattle.sect_front.specs.declared.reader.Part.TheVariants as Part;
 
 use crate::expecting::kinds_taken;
-use crate::gaps::pass_gap;
+use crate::gaps::{keep_gap, pass_gap};
 use crate::lexer::{behind, lexeme, put_lexeme};
 use crate::limits::MOST_DEPTH;
 use crate::reader::Reader;
@@ -88,7 +88,8 @@ fn unless_bad(bytes: &[u8], here: &[u8], fault: ReadFault) -> ReadFault
     }
 }
 
-/// Has a new reader take all tokens of a text, unless there is a fault. Long gaps that are passed are kept.
+/// Has a new reader take all tokens of a text, unless there is a fault. Long gaps that are passed are kept, but for those
+/// in a statement that is read whole.
 fn take_all(
     alloc: Global,
     bytes: &[u8],
@@ -107,6 +108,7 @@ fn take_all(
     let mut here = pass_gap(bytes, bytes, gaps)?;
     while !here.is_empty() {
         if let Some(there) = reader.pass_statement(alloc, here)? {
+            keep_gap(bytes, here, there, gaps)?;
             here = there;
             continue;
         }
@@ -138,7 +140,7 @@ fn take_all(
 }
 
 /// The tree of a text, or the first place at which there is none: a bad lexeme comes before all other faults. Long gaps
-/// that are passed are kept.
+/// that are passed are kept, but for those in a statement that is read whole.
 pub fn read(alloc: Global, bytes: &[u8], gaps: &mut Vec<Span>) -> Result<Tree, ReadFault>
     requires { AreGaps bytes.now gaps.old.items }
     ensures judges { JudgesText bytes.now result }

@@ -5,7 +5,6 @@ use Rattle.sect_types.specs.{Statements.{TextView}, Sections.{SectionView, secti
 use Rattle.sect_graph.specs.declared.flow.Node.{Node}
 use Rattle.sect_names.specs.{declared.lock.Lock.{Lock}, Schemes.{SchemeView}, Locks.{IsLockOf}}
 use Rattle.sect_names.specs.{Needed.{IsNeeded, IsNeededFrom, IsLeast, end_of}, Order.{AreInOrder, AreMaximal}}
-use Rattle.std.proofs.Common.{◌≡◌, ℕ, ◌+◌, List, Some, length, slice_get}
 
 -- the locks at each node of a section's graph, the exit too, and those that are taken at its entry
 pub record LocksView : Type 0 where

@@ -1,11 +1,10 @@
 //! What is found to be needed at a node because of what is needed where control may go on.
 
-ghost use Rattle.std.specs.Prelude.{◌≡◌, ◌<◌, ◌≤◌, length, slice_get, Some, OnOk};
-ghost use Rattle.sect_names.specs.{declared.lock.Lock.{Lock}, Locks.{IsLockOf, depth}};
-ghost use Rattle.sect_names.specs.{Carrying.{CarriedBack, LockOn, right_for}, Touching.{LeavesOthers}};
+ghost use Rattle.std.specs.Prelude.{◌≡◌, ◌<◌, length, slice_get, Some, OnOk};
+ghost use Rattle.sect_names.specs.{declared.lock.Lock.{Lock}, Locks.{IsLockOf}};
+ghost use Rattle.sect_names.specs.{Carrying.{CarriedBack, LockOn}, Touching.{LeavesOthers}};
 ghost use Rattle.sect_infer.specs.Numberings.{HasLock, AreNumbers, IsFinding, Finds};
 ghost use Rattle.sect_infer.specs.steps.Putting.{AreOn, IsOnOneOf};
-ghost use Rattle.sect_names.specs.declared.lock.Lock.TheVariants as lock;
 
 use crate::numbering::Numbering;
 use crate::numbers::Numbers;
@@ -37,46 +36,28 @@ pub fn find(
     Ok(())
 }
 
-/// The lock with this effect on a path of this class: that of the class where the path has more than k fields.
-fn lock_in(scheme: &Scheme, class: u16, effect: Effect, path: Path) -> Lock
-    ensures short { depth path ≤ scheme.now.most → result ≡ lock.Path path effect }
-    ensures long { scheme.now.most < depth path → result ≡ lock.Class class (right_for effect) }
-{
-    if path.fields().len() > scheme.k() as usize {
-        Lock::Class(class, effect.right())
-    } else {
-        Lock::Path(path, effect)
-    }
-}
-
-/// Finds what is needed before a node for one lock that is needed after it, which has this number.
-#[inline(always)]
-pub fn carry_one(
-    alloc: Global,
-    scheme: &Scheme,
-    thread: u16,
-    label: &Label,
-    numbering: &mut Numbering,
-    found: &mut Numbers,
-    number: usize,
-) -> Result<(), AllocError>
-    requires finding { IsFinding scheme.now numbering.old found.old }
-    requires number { number < length numbering.old.keys }
-    requires lawful { (l : Lock) → slice_get numbering.old.keys number ≡ Some l → IsLockOf scheme.now thread l }
-    ensures { OnOk result ((l : Lock) → slice_get numbering.old.keys number ≡ Some l
-        → Finds scheme.now numbering.old found.old numbering.new found.new
-        (CarriedBack scheme.now thread label.now l)) }
-{
-    let transfer = Transfer {
-        scheme,
-        thread,
-        label,
-    };
-    let change = Change::of(thread, label);
-    transfer.carry_by(alloc, &change, numbering, found, number)
-}
-
 impl Transfer<'_> {
+    /// Finds what is needed before the node for one lock that is needed after it, which has this number.
+    #[inline(always)]
+    pub fn carry_one(
+        self,
+        alloc: Global,
+        numbering: &mut Numbering,
+        found: &mut Numbers,
+        number: usize,
+    ) -> Result<(), AllocError>
+        requires finding { IsFinding self.scheme.now numbering.old found.old }
+        requires number { number < length numbering.old.keys }
+        requires lawful { (l : Lock) → slice_get numbering.old.keys number ≡ Some l
+            → IsLockOf self.scheme.now self.thread l }
+        ensures { OnOk result ((l : Lock) → slice_get numbering.old.keys number ≡ Some l
+            → Finds self.entry.scheme.now numbering.old found.old numbering.new found.new
+            (CarriedBack self.entry.scheme.now self.entry.thread self.entry.label.now l)) }
+    {
+        let change = Change::of(self.thread, self.label);
+        self.carry_by(alloc, &change, numbering, found, number)
+    }
+
     /// Finds the lock with this effect on a path, if that has a class.
     #[inline(always)]
     fn find_on(
@@ -94,7 +75,7 @@ impl Transfer<'_> {
         match self.scheme.class_of(&path) {
             None => Ok(()),
             Some(class) => {
-                let lock = lock_in(self.scheme, class, effect, path);
+                let lock = self.scheme.lock_in(class, effect, path);
                 let number = numbering.number_in(alloc, class, lock)?;
                 found.insert(number)?;
                 Ok(())

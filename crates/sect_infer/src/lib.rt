@@ -12,7 +12,7 @@ mod waiting;
 mod work;
 mod workers;
 
-pub use carry::carry_one;
+pub use carry::Transfer;
 pub use locks::Locks;
 pub use numbering::Numbering;
 pub use numbers::Numbers;

@@ -1,5 +1,5 @@
 -- Paths that a statement leaves alone.
-use Rattle.std.proofs.Common.{◌≡◌, ◌↔◌, ℕ, List, [], ◌∷◌, Option, Some, None, Bool, true, false, not, IsTrue, IsFalse}
+use Rattle.std.proofs.Common.{◌≡◌, ◌↔◌, ℕ, List, [], ◌∷◌, Option, Some, None, Bool, true, false, IsTrue, IsFalse}
 use Rattle.std.proofs.Common.{refl, sym, ap, subst, ◌∙◌, inl, inr, arith}
 use Rattle.std.specs.List.{list_any}
 use Rattle.sect_lemmas.specs.Lists.{Has}
@@ -51,11 +51,6 @@ untouched_field c z f w (dot p g) q n =
       ],
       λ e. inl (p, (untouched_field c z f w p p less).1 refl, ((λ k. apart k.0), e)),
     )
-
--- what the negation of a test says
-pub not_off : (b : Bool) → IsTrue (not b) → IsFalse b
-not_off true h = sym h
-not_off false h = refl
 
 -- the lock on a path that the step leaves alone stays, if it is one of the program's
 pub untouched_lock : (s : SchemeView) (t : ℕ) (step : Label) (p : PathView) (e : Effect)

@@ -290,19 +290,20 @@ impl Scheme {
     {
         match self.class_of(path) {
             None => Ok(None),
-            Some(class) => Ok(Some(self.lock_in(class, effect, path)?)),
+            Some(class) => Ok(Some(self.lock_in(class, effect, path.try_clone()?))),
         }
     }
 
     /// The lock with this effect on a path of this class: that of the class where the path has more than k fields.
-    fn lock_in(&self, class: u16, effect: Effect, path: &Path) -> Result<Lock, AllocError>
-        ensures short { IfOk result (λ l. depth path.now ≤ self.now.most → l ≡ lock.Path path.now effect) }
-        ensures long { IfOk result (λ l. self.now.most < depth path.now → l ≡ lock.Class class (right_for effect)) }
+    pub fn lock_in(&self, class: u16, effect: Effect, path: Path) -> Lock
+        ensures short { depth path ≤ self.now.most → result ≡ lock.Path path effect }
+        ensures long { self.now.most < depth path → result ≡ lock.Class class (right_for effect) }
     {
         if path.fields().len() > self.k() as usize {
-            return Ok(Lock::Class(class, effect.right()));
+            Lock::Class(class, effect.right())
+        } else {
+            Lock::Path(path, effect)
         }
-        Ok(Lock::Path(path.try_clone()?, effect))
     }
 }
 

@@ -40,4 +40,4 @@ pub use printing::{field_name, put_lock, put_locks, put_path};
 pub use refusal::SourceRefusal;
 pub use scheme::{MOST_PATH_FIELDS, Scheme, check_k, scheme_of};
 pub use source::{accept, program_of};
-pub use touching::{Change, stays, touches};
+pub use touching::{Change, stays};

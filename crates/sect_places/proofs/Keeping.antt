@@ -10,7 +10,6 @@ use Rattle.sect_places.specs.Origins.{first_procedure, first_thread}
 use Rattle.sect_places.specs.NameUses.{records_uses, globals_uses, procedures_uses, threads_uses, name_uses}
 use Rattle.sect_places.specs.{declared.name_use.NameUse.{NameUse}, declared.wish.Wish.{Wish}}
 use Rattle.sect_places.specs.steps.Wanting.{KeptView, Passes, behind, nothing_kept, is_taken, numbers_from}
-use Rattle.sect_places.specs.declared.wish.Wish.TheVariants as wish
 
 -- nothing more goes by
 pub behind_none : (k : KeptView) → behind k [] ≡ k
@@ -44,11 +43,6 @@ module _ (t : TreeView) (rs : List Record) (gs : List GlobalObject) (ps : List P
         ∙ (a (globals_uses n gs (procedures_uses m ps (threads_uses l ts [])))
         ∙ (λ i. behind none (records_uses 0 (of_records i) (globals_uses (globals_from i) (of_globals i)
         (procedures_uses (procedures_from i) (of_procedures i) (threads_uses (threads_from i) (of_threads i) [])))))))))
-
--- where any is wanted all are kept
-pub all_wanted : (us : List NameUse) → filter (is_taken wish.All) us ≡ us
-all_wanted [] = refl
-all_wanted (u ∷ us) = ap (λ vs. u ∷ vs) (all_wanted us)
 
 -- how many are kept of those that have gone by
 abbrev pub kept_of : Wish → List NameUse → List NameUse

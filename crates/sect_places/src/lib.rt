@@ -45,6 +45,6 @@ pub use range::{TokenRange, range_span};
 pub use sections::section_items;
 pub use seek::item_range;
 pub use spans::token_spans;
-pub use uses::{item_uses, name_uses};
+pub use uses::item_uses;
 pub use wish::Wish;
 pub use words::range_words;

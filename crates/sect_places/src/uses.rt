@@ -347,10 +347,3 @@ pub fn item_uses(alloc: Global, tree: &Tree, item: usize) -> Result<Vec<NameUse>
 {
     Ok(kept_uses(alloc, tree, Wish::Own(item))?.uses)
 }
-
-/// The names of a tree, in text order.
-pub fn name_uses(alloc: Global, tree: &Tree) -> Result<Vec<NameUse>, AllocError>
-    ensures { IfOk result (λ uses. uses.items ≡ name_uses_by tree.now) }
-{
-    Ok(kept_uses(alloc, tree, Wish::All)?.uses)
-}

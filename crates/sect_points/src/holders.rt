@@ -1,4 +1,4 @@
-//! Points-to sets: which sites' objects each local and each field may refer to (Andersen's inclusions).
+//! What may hold a reference, and what a path begins with.
 
 use sect_types::Action;
 

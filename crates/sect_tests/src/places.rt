@@ -58,16 +58,18 @@ fn spans_of_every_form(rt: HostRuntime) -> Result<(), Fail> {
     Ok(())
 }
 
-/// A text with long gaps: before its first token, two between tokens, and behind its last.
+/// A text with long gaps: before its first token, three between tokens, and behind its last.
 const GAPPED: &[u8] = b"  // blanks and a comment before the first token\nrecord R {\n\
     int a; // a comment behind a declaration, and blanks\n    \n    int b; }\nglobal R g; // short\n\
-    thread t {                                        atomic { g.a = 1; } } // a comment that the end closes";
+    thread t {                                        atomic { g.a = 1; // a comment behind a statement\n  \
+    g.b = 2; } } // a comment that the end closes";
 
 /// Its long gaps.
 const GAPS: &[&[u8]] = &[
     b"  // blanks and a comment before the first token\n",
     b" // a comment behind a declaration, and blanks\n    \n    ",
     b"                                        ",
+    b" // a comment behind a statement\n  ",
     b" // a comment that the end closes",
 ];
 

@@ -164,5 +164,10 @@ loop-here-preserved-in-Some c =
       read = passed_reads c.args.bytes.now c.loop-here.here.now c.in-Some.there.now c.loop-here.reader
           c.pass_statement.new.self c.loop-here.level (is_low _ _ _ read.reads) read
           (rw c.in-Some.is at c.in_ok-there.ensures);
-      gaps = c.loop-here.invariant.gaps;
+      gaps = c.keep_gap.ensures;
     }
+
+pub keep_gap-requires-clause-rest : goal.keep_gap-requires-clause-rest
+keep_gap-requires-clause-rest c =
+    let read = c.loop-here.invariant.read in
+    reached_rest c.args.bytes.now read.places c.loop-here.here.now read.reached

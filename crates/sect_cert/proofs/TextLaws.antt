@@ -1,7 +1,7 @@
 -- What stands in a certificate with a text, line by line.
-use Rattle.sect_cert.proofs.Counts.{less, is_less}
 use Rattle.std.proofs.Common.{◌≡◌, ℕ, ◌+◌, ◌-◌, ◌<◌, ◌≤◌, true, nat_lt, List, [], ◌∷◌, ◌++◌, Some, length, refl, sym}
 use Rattle.std.proofs.Common.{◌∙◌, arith, length-append}
+use Rattle.std.proofs.lemmas.Bool.{lt-ltb, ltb-true}
 use Rattle.std.specs.{Prelude.{⊤, slice_get}, List.{AllByRecursion}}
 use Rattle.sect_cert.specs.steps.Certificates.{is_rising}
 use Rattle.sect_cert.specs.Texts.{nodes_lines, chains_lines, sections_lines, body_lines, IsLock, IsChain, IsLine}
@@ -35,7 +35,7 @@ rise_after : (before : List CertChain) (d : CertChain) (cs : List CertChain) →
     → RiseAfter (before ++ d ∷ []) cs
 rise_after before d [] h = tt
 rise_after before d (c ∷ cs) h =
-    (after_last before d c.lock ∙ less d.lock c.lock h.0, rise_after (before ++ d ∷ []) c cs h.1)
+    (after_last before d c.lock ∙ lt-ltb d.lock c.lock h.0, rise_after (before ++ d ∷ []) c cs h.1)
 
 rise_all : (cs : List CertChain) → AreRising cs → RiseAfter [] cs
 rise_all [] h = tt
@@ -45,7 +45,7 @@ rise_back : (before : List CertChain) (d : CertChain) (cs : List CertChain) → 
     → AreRising (d ∷ cs)
 rise_back before d [] h = tt
 rise_back before d (c ∷ cs) h =
-    (is_less d.lock c.lock (sym (after_last before d c.lock) ∙ h.0), rise_back (before ++ d ∷ []) c cs h.1)
+    (ltb-true d.lock c.lock (sym (after_last before d c.lock) ∙ h.0), rise_back (before ++ d ∷ []) c cs h.1)
 
 are_rising : (cs : List CertChain) → RiseAfter [] cs → AreRising cs
 are_rising [] h = tt

@@ -1,7 +1,8 @@
 -- What is printed spells the tokens of the tree.
-use Rattle.std.proofs.Common.{◌≡◌, ℕ, ◌-◌, ◌<◌, ◌≤◌, Bool, true, false, eqb, nat_lt, List, [], ◌∷◌, ◌++◌, length, drop}
+use Rattle.std.proofs.Common.{◌≡◌, ℕ, ◌-◌, ◌<◌, ◌≤◌, Bool, true, false, eqb, List, [], ◌∷◌, ◌++◌, length, drop}
 use Rattle.std.proofs.Common.{refl, sym, ◌∙◌, ap, subst, arith, append_assoc, length-append}
-use Rattle.std.proofs.{Math.Seq.{take-append_seam}, lemmas.Bool.Decides.{nat_tests}, lemmas.Bool.{and_parts}}
+use Rattle.std.proofs.{Math.Seq.{take-append_seam}, lemmas.Bool.Decides.{nat_tests}, lemmas.Bool.{and_parts, ltb-true}}
+use Rattle.std.proofs.lemmas.Bool.{eqb-true}
 use Rattle.std.specs.{List.{list_all, flat_map}, Fmt.{decimal}}
 use Rattle.sect_front.specs.{Limits.{most_bytes, most_depth}, Words.{is_letter, is_digit, begins}}
 use Rattle.sect_front.specs.{Gaps.{is_blank, after_gap}, TreeView.{TreeView}, Depth.{depth}}
@@ -48,13 +49,10 @@ digits_solid (d ∷ ds) h some =
           grind (arith, nat_tests);
     }
 
-below : (a b : ℕ) → nat_lt a b ≡ true → a < b
-below a b h = grind (arith, nat_tests)
-
 solid : (t : Token) → is_proper t ≡ true → IsSolid (spelling_of t)
 solid (token.Name n) h = name_solid n (named n h).letter
 solid (token.Number n) h =
-    let low = below n 9223372036854775808 h in digits_solid (decimal n) (decimal_digits n low) (decimal_some n low)
+    let low = ltb-true n 9223372036854775808 h in digits_solid (decimal n) (decimal_digits n low) (decimal_some n low)
 solid token.Record h = record { first = _; others = _; is = refl; no_blank = refl; no_slash = refl }
 solid token.ProtectedBy h = record { first = _; others = _; is = refl; no_blank = refl; no_slash = refl }
 solid token.Global h = record { first = _; others = _; is = refl; no_blank = refl; no_slash = refl }
@@ -251,12 +249,9 @@ tree_ends tree =
     (ends_each procedure_list tree.procedures procedure_ends))
     (ends_each thread_list tree.threads thread_ends)
 
-same_number : (a b : ℕ) → eqb a b ≡ true → a ≡ b
-same_number a b h = grind (arith, nat_tests)
-
 spread_layout : (w : List Token) → ends_line w ≡ true → spread w ≡ layout_of w
 spread_layout [] h = refl
-spread_layout (t ∷ []) h = ap (λ x. spelling_of t ++ x ∷ []) (same_number (separator t) 10 h)
+spread_layout (t ∷ []) h = ap (λ x. spelling_of t ++ x ∷ []) (eqb-true (separator t) 10 h)
 spread_layout (t ∷ u ∷ w) h = ap (λ x. spelling_of t ++ separator t ∷ x) (spread_layout (u ∷ w) h)
 
 -- what is known of a printed text

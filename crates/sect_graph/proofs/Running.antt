@@ -1,7 +1,7 @@
 -- Each node does the first step of what is still to run there.
 use Rattle.std.proofs.Common.{◌≡◌, ℕ, zero, suc, ◌+◌, ◌-◌, ◌<◌, ◌≤◌, List, [], ◌++◌, Some, None, refl, sym, ap, ◌∙◌}
-use Rattle.std.proofs.{Common.{subst, inl, inr, arith, length, true, false, nat_lt}, lemmas.Bool.{cases_lt}}
-use Rattle.std.proofs.{lemmas.Option.{slice_get_past}, lemmas.Bool.Decides.{nat_tests}}
+use Rattle.std.proofs.{Common.{subst, inl, inr, arith, length}, lemmas.Bool.{cases_lt, lt-ltb, le-ltb}}
+use Rattle.std.proofs.lemmas.Option.{slice_get_past}
 use Rattle.std.specs.Prelude.{slice_get}
 use Rattle.sect_types.specs.declared.expansion.action.Condition.{Condition}
 use Rattle.sect_types.specs.{Statements.{TextView, Stop, Do, Choose, Loop, Section, joined}, Traces.{node_count}}
@@ -10,12 +10,6 @@ use Rattle.sect_graph.specs.{declared.flow.Node.{Node}, Layout.{entry_of, nodes_
 use Rattle.sect_graph.specs.Rests.{rest_before, rest_at, Begins, RunsRests}
 use Rattle.sect_graph.proofs.Paths.{HasAt, has_front, has_all, behind, length-nodes_of}
 
-less : (m n : ℕ) → m < n → nat_lt m n ≡ true
-less m n h = grind (arith, nat_tests)
-
-not_less : (m n : ℕ) → n ≤ m → nat_lt m n ≡ false
-not_less m n h = grind (arith, nat_tests)
-
 -- behind the last node k is to run
 past : (c : TextView) (j : ℕ) (k : TextView) → node_count c ≤ j → rest_before c j k ≡ k
 past Stop j k h = refl
@@ -23,10 +17,10 @@ past (Do a r) zero k h = absurd (omega arith)
 past (Do a r) (suc j) k h = past r j k (omega arith)
 past (Choose t p q r) zero k h = absurd (omega arith)
 past (Choose t p q r) (suc j) k h =
-    rw (not_less j (node_count p) (omega arith), not_less (j - node_count p) (node_count q) (omega arith))
+    rw (le-ltb j (node_count p) (omega arith), le-ltb (j - node_count p) (node_count q) (omega arith))
     (past r (j - node_count p - node_count q) k (omega arith))
 past (Loop t p r) zero k h = absurd (omega arith)
-past (Loop t p r) (suc j) k h = rw (not_less j (node_count p) (omega arith)) (past r (j - node_count p) k (omega arith))
+past (Loop t p r) (suc j) k h = rw (le-ltb j (node_count p) (omega arith)) (past r (j - node_count p) k (omega arith))
 past (Section i p r) zero k h = absurd (omega arith)
 past (Section i p r) (suc j) k h = past r j k (omega arith)
 
@@ -50,14 +44,14 @@ same g i x y e f = cc
 says_holds : (rest : ℕ → TextView) (t : Condition) (p q r : TextView) (n : ℕ) (k : TextView)
     → Says rest (Choose t p q r) n k → Says rest p (n + 1) (joined r k)
 says_holds rest t p q r n k says i lt =
-    ap rest (omega arith) ∙ says (suc i) (omega arith) ∙ rw (less i (node_count p) lt) refl
+    ap rest (omega arith) ∙ says (suc i) (omega arith) ∙ rw (lt-ltb i (node_count p) lt) refl
 
 says_fails : (rest : ℕ → TextView) (t : Condition) (p q r : TextView) (n : ℕ) (k : TextView)
     → Says rest (Choose t p q r) n k → Says rest q (n + 1 + node_count p) (joined r k)
 says_fails rest t p q r n k says i lt =
     let e : node_count p + i - node_count p ≡ i = omega arith in
     ap rest (omega arith) ∙ says (suc (node_count p + i)) (omega arith)
-    ∙ rw (not_less (node_count p + i) (node_count p) (omega arith), e, less i (node_count q) lt) refl
+    ∙ rw (le-ltb (node_count p + i) (node_count p) (omega arith), e, lt-ltb i (node_count q) lt) refl
 
 says_behind : (rest : ℕ → TextView) (t : Condition) (p q r : TextView) (n : ℕ) (k : TextView)
     → Says rest (Choose t p q r) n k → Says rest r (n + 1 + node_count p + node_count q) k
@@ -66,9 +60,9 @@ says_behind rest t p q r n k says i lt =
     let f : node_count q + i - node_count q ≡ i = omega arith in
     ap rest (omega arith) ∙ says (suc (node_count p + node_count q + i)) (omega arith)
     ∙ rw (
-      not_less (node_count p + node_count q + i) (node_count p) (omega arith),
+      le-ltb (node_count p + node_count q + i) (node_count p) (omega arith),
       e,
-      not_less (node_count q + i) (node_count q) (omega arith),
+      le-ltb (node_count q + i) (node_count q) (omega arith),
       f,
     ) refl
 
@@ -76,14 +70,14 @@ says_behind rest t p q r n k says i lt =
 says_body : (rest : ℕ → TextView) (t : Condition) (p r : TextView) (n : ℕ) (k : TextView) → Says rest (Loop t p r) n k
     → Says rest p (n + 1) (Loop t p (joined r k))
 says_body rest t p r n k says i lt =
-    ap rest (omega arith) ∙ says (suc i) (omega arith) ∙ rw (less i (node_count p) lt) refl
+    ap rest (omega arith) ∙ says (suc i) (omega arith) ∙ rw (lt-ltb i (node_count p) lt) refl
 
 says_past : (rest : ℕ → TextView) (t : Condition) (p r : TextView) (n : ℕ) (k : TextView) → Says rest (Loop t p r) n k
     → Says rest r (n + 1 + node_count p) k
 says_past rest t p r n k says i lt =
     let e : node_count p + i - node_count p ≡ i = omega arith in
     ap rest (omega arith) ∙ says (suc (node_count p + i)) (omega arith)
-    ∙ rw (not_less (node_count p + i) (node_count p) (omega arith), e) refl
+    ∙ rw (le-ltb (node_count p + i) (node_count p) (omega arith), e) refl
 
 within : (g : List Node) (j : ℕ) (x : Node) → slice_get g j ≡ Some x → j < length g
 within g j x at = elim (cases_lt j (length g)) [
@@ -136,15 +130,15 @@ begins g rest (Choose t p q r) n next k has says on (suc j) lt x at =
     let has_q = behind g p (n + 1) after (ys ++ zs) has.1 in
     let has_r = behind g q (n + 1 + node_count p) after zs has_q in
     elim (cases_lt j (node_count p)) [
-      | inl holds ↦ rw (less j (node_count p) holds)
+      | inl holds ↦ rw (lt-ltb j (node_count p) holds)
           (begins g rest p (n + 1) after (joined r k) (has_front g (n + 1) xs (ys ++ zs) has.1)
           (says_holds rest t p q r n k says) on' j holds x (subst (λ i. slice_get g i ≡ Some x) (omega arith) at))
-      | inr other ↦ rw (not_less j (node_count p) other) (elim (cases_lt (j - node_count p) (node_count q)) [
-        | inl fails ↦ rw (less (j - node_count p) (node_count q) fails)
+      | inr other ↦ rw (le-ltb j (node_count p) other) (elim (cases_lt (j - node_count p) (node_count q)) [
+        | inl fails ↦ rw (lt-ltb (j - node_count p) (node_count q) fails)
             (begins g rest q (n + 1 + node_count p) after (joined r k) (has_front g (n + 1 + node_count p) ys zs has_q)
             (says_fails rest t p q r n k says) on' (j - node_count p) fails x
             (subst (λ i. slice_get g i ≡ Some x) (omega arith) at))
-        | inr behind ↦ rw (not_less (j - node_count p) (node_count q) behind)
+        | inr behind ↦ rw (le-ltb (j - node_count p) (node_count q) behind)
             (begins g rest r end next k has_r (says_behind rest t p q r n k says) on (j - node_count p - node_count q)
             (omega arith) x (subst (λ i. slice_get g i ≡ Some x) (omega arith) at))
       ])
@@ -164,11 +158,11 @@ begins g rest (Loop t p r) n next k has says on (suc j) lt x at =
     let zs = nodes_of r end next in
     let has_r = behind g p (n + 1) n zs has.1 in
     elim (cases_lt j (node_count p)) [
-      | inl body ↦ rw (less j (node_count p) body)
+      | inl body ↦ rw (lt-ltb j (node_count p) body)
           (begins g rest p (n + 1) n (Loop t p (joined r k)) (has_front g (n + 1) xs zs has.1)
           (says_body rest t p r n k says) (ap rest (omega arith) ∙ says zero (omega arith)) j body x
           (subst (λ i. slice_get g i ≡ Some x) (omega arith) at))
-      | inr past ↦ rw (not_less j (node_count p) past)
+      | inr past ↦ rw (le-ltb j (node_count p) past)
           (begins g rest r end next k has_r (says_past rest t p r n k says) on (j - node_count p) (omega arith) x
           (subst (λ i. slice_get g i ≡ Some x) (omega arith) at))
     ]

@@ -1,7 +1,7 @@
 -- Procedures that are marked one after another.
 use Rattle.std.proofs.Common.{◌≡◌, ◌≢◌, ◌⊎◌, inl, inr, ℕ, zero, suc, ◌+◌, ◌<◌, ◌≤◌, Bool, true, false, List, [], ◌∷◌}
 use Rattle.std.proofs.Common.{◌++◌, Option, Some, None, length, take, get_or, refl, sym, ap, subst, ◌∙◌, arith}
-use Rattle.std.proofs.{Common.{length-append, slice_get}, lemmas.Bool.{eqb-true, or_cases}}
+use Rattle.std.proofs.{Common.{length-append, slice_get}, lemmas.Bool.{eqb-true, or_cases, or_left, or_right}}
 use Rattle.std.proofs.{lemmas.List.{take_more, take_all, length-replicate}, lemmas.List.Folds.{list_any-append}}
 use Rattle.std.proofs.lemmas.Option.{slice_get_within}
 use Rattle.std.specs.{Prelude.{eqb, nat_eq, replicate, slice_index_or}, List.{list_any}}
@@ -12,7 +12,6 @@ use Rattle.sect_types.specs.steps.{Called.{AreCallersBefore, callers_of}, Standi
 use Rattle.sect_types.specs.steps.Search.{returns, reaches}
 use Rattle.sect_lemmas.proofs.{Options.{some_injective}, Elements.{is_there}}
 use Rattle.sect_lemmas.proofs.Replaced.{put_same, put_other, length-put_at, at-put_at, this_or_other}
-use Rattle.sect_lemmas.proofs.Booleans.{or_left, or_right}
 use Rattle.sect_types.proofs.{EnoughLaws.{same, there, calls_there}, ReachLaws.{returns_caller, closed_returns}}
 
 -- one mark more

@@ -1,7 +1,7 @@
 -- The expanded text of a typed text is sound where its fresh locals have the types of their declarations.
 use Rattle.std.specs.Prelude.{Bool, true, false, not, ◌&&◌, ◌||◌, is_some, nat_eq}
 use Rattle.std.proofs.Common.{◌≡◌, ℕ, zero, suc, ◌+◌, List, [], ◌∷◌, ◌++◌, map, Option, Some, None, IfSome, refl, sym}
-use Rattle.std.proofs.{Common.{◌∙◌, arith, subst, length, length-append}, lemmas.Bool.{eqb-true, and_parts}}
+use Rattle.std.proofs.{Common.{◌∙◌, arith, subst, length, length-append}, lemmas.Bool.{eqb-true, and_parts, not-false}}
 use Rattle.sect_front.specs.{declared.tree.Operand.{Operand}, declared.tree.Kind.{Kind}}
 use Rattle.sect_front.specs.declared.tree.Declaration.{Declaration}
 use Rattle.sect_front.specs.Syntax.{StatementView, Primitive, If, IfElse, While, Atomic, Call, BlockView, End, Then}
@@ -29,7 +29,7 @@ use Rattle.sect_types.specs.steps.Clean.{IsClean, IsCleanStatement, IsCleanBlock
 use Rattle.sect_types.proofs.SoundLemmas.{IsGiven, accepts_has, operand_there, joined_sound}
 use Rattle.sect_types.proofs.CountLaws.{CountsFresh, statement_freshens, block_freshens, call_freshens, of_call_long}
 use Rattle.sect_types.proofs.{MovedLaws.{StandFrom, moved_type, moved_sound, moved_holds}, Walked.{text_clean}}
-use Rattle.sect_types.proofs.Resolved.{not_false, and_not, resolved, resolved_test, moved_shared}
+use Rattle.sect_types.proofs.Resolved.{and_not, resolved, resolved_test, moved_shared}
 use Rattle.sect_types.proofs.SiteLaws.{AreClean, called_clean, typed_clean, view}
 use Rattle.sect_types.proofs.StandingTypes.{stand_first, stand_next, stand_left, stand_right, stand_whole, stand_behind}
 use Rattle.sect_types.proofs.StandingTypes.{types_in, fresh_types, fresh_left, fresh_right, call_types, types_both}
@@ -123,9 +123,9 @@ pub taken : (d : Declared) (ls : List Declaration) (at : Place) (f : List ℕ) (
     → IsClean d (AStatement (CallHead f vs) ls at) → IsTaken d ls (number_of d.procedures f) vs
 taken d ls at f vs h p e =
     let o = procedure_of d.procedures f in
-    let known = not_false (is_some (number_of d.procedures f) && knows_operands (seen d ls) vs) h.known in
+    let known = not-false (is_some (number_of d.procedures f) && knows_operands (seen d ls) vs) h.known in
     taken_by d ls o vs p (same_procedure d.procedures (number_of d.procedures f)
-    ∙ e) (not_false (as_many o vs) h.counted)
+    ∙ e) (not-false (as_many o vs) h.counted)
     (and_not _ (call_agrees (seen d ls) o vs) known h.right)
 
 stands_right : (inside b : Bool) (a : Action) → is_shared a ≡ b → (b && not inside) ≡ false → StandsRight inside a
@@ -200,7 +200,7 @@ mutual
       )
   statement_sound d all table call fresh m i ls at n a c (Call x vs) k stand h f g =
       let q = number_of d.procedures x in
-      let inside = not_false (is_inside at) h.stands in
+      let inside = not-false (is_inside at) h.stands in
       subst (λ z. IsSound (whole d all) z (call q (view d ls n) a vs k)) (sym inside)
       (m q ls n a c vs k (taken d ls at x vs h) stand f (subst (λ z. IsSound (whole d all) z k) inside g))
 

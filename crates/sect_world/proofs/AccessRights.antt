@@ -1,6 +1,7 @@
 -- What a thread may read and write before and after a step.
 use Rattle.std.proofs.Common.{true≢false, ◌≡◌, ℕ, ◌<◌, List, [], ◌∷◌, ◌++◌, length, Option, Some, None, Bool, true}
 use Rattle.std.proofs.Common.{false, ◌||◌, refl, sym, ap, ◌∙◌, append-nil, if◌then◌else◌, slice_get}
+use Rattle.std.proofs.lemmas.Bool.{or_right}
 use Rattle.sect_modes.specs.declared.mode.Mode.{Mode}
 use Rattle.sect_modes.specs.declared.mode.Mode.TheVariants.{IntentionShared, IntentionExclusive, Shared}
 use Rattle.sect_modes.specs.declared.mode.Mode.TheVariants.{SharedIntentionExclusive, Exclusive}
@@ -14,7 +15,7 @@ use Rattle.sect_emit.specs.ModeTests.{passes, is_reading_object, is_writing}
 use Rattle.sect_world.specs.Events.{guard_at, fresh_grip, grips_of}
 use Rattle.sect_world.specs.Held.{holds_all, class_mode_in, mode_of_class, is_held_at, is_held, guard_or}
 use Rattle.sect_world.specs.Held.{locked_object_at, locked_object, may_read, may_write, may_make_by}
-use Rattle.sect_lemmas.proofs.{Booleans.{or_right}, Options.{mapped}}
+use Rattle.sect_lemmas.proofs.Options.{mapped}
 use Rattle.sect_emit.proofs.shared.{Keys.{same_key}, PlanModes.{key_of-injective}, Grips.{held_more, held_one}}
 use Rattle.sect_world.proofs.AllowedChanges.{IsAllowed, sites_stay}
 use Rattle.sect_world.proofs.StepChanges.{is_new, touches, object_at-after, site_stays, global_is_old}

@@ -1,7 +1,7 @@
 -- Small facts on holds, claims and threads.
 use Rattle.std.proofs.Common.{◌≡◌, ◌≢◌, ◌⊎◌, inl, inr, ℕ, zero, suc, List, [], ◌∷◌, ◌++◌, Bool, true, false, not}
 use Rattle.std.proofs.Common.{Option, Some, None, refl, sym, ◌∙◌, ap, subst, arith}
-use Rattle.std.proofs.lemmas.Bool.{eqb-true, eq-eqb, and_parts, cases_Bool}
+use Rattle.std.proofs.lemmas.Bool.{eqb-true, eq-eqb, and_parts, cases_Bool, or_parts}
 use Rattle.std.specs.{Prelude.{slice_get, ◌==◌, ◌||◌, ◌&&◌, if◌then◌else◌}, List.{list_all}}
 use Rattle.sect_lemmas.specs.{Lists.{Has, changed_at}, Numbers.{same_number}}
 use Rattle.sect_modes.specs.{declared.mode.Mode.{Mode}, declared.key.Key.{Key}, Key.{is_same_key}}
@@ -13,7 +13,7 @@ use Rattle.sect_table.proofs.shared.Claiming.{true_or_false, mode_in-here, mode_
 use Rattle.sect_emit.specs.{declared.plan.Grip.{Grip}, Plan.{grip, held_mode}}
 use Rattle.sect_world.specs.{Events.{all_but, lets}, Waiting.{grips}}
 use Rattle.sect_lemmas.proofs.Options.{some_injective, none_or_some, mapped}
-use Rattle.sect_lemmas.proofs.{Replaced.{get-changed_at, same_number-true, same_number-refl}, Booleans.{neither}}
+use Rattle.sect_lemmas.proofs.Replaced.{get-changed_at, same_number-true, same_number-refl}
 
 -- keys, the other way
 pub other_key : (a b : Key) → is_same_key a b ≡ false → is_same_key b a ≡ false
@@ -94,7 +94,7 @@ pub in_the_way : (hs : List Claim) (t : ℕ) (m : Mode) → may_join hs t m ≡ 
 in_the_way [] t m e = absurd (let off : true ≡ false = e in cc)
 in_the_way (h ∷ hs) t m e = elim (and_false ((h.thread == t) || are_compatible h.mode m) (may_join hs t m) e) [
   | inl off ↦
-      let both = neither (h.thread == t) (are_compatible h.mode m) off in
+      let both = or_parts (h.thread == t) (are_compatible h.mode m) off in
       record {
         who = h;
         there = inl refl;
@@ -153,12 +153,12 @@ changed-put (suc n) g (y ∷ ys) x e = ap (λ zs. y ∷ zs) (changed-put n g ys 
 pub not_claiming : (t : ℕ) (cs : List Claim) → is_among t cs ≡ false → (c : Claim) → Has cs c → c.thread ≢ t
 not_claiming t (d ∷ ds) e c (inl same) =
     λ own. true_or_false (d.thread == t) (eq-eqb d.thread t (ap (λ (z : Claim). z.thread) same ∙ own))
-    (neither (d.thread == t) (is_among t ds) e).0
-not_claiming t (d ∷ ds) e c (inr h) = not_claiming t ds (neither (d.thread == t) (is_among t ds) e).1 c h
+    (or_parts (d.thread == t) (is_among t ds) e).0
+not_claiming t (d ∷ ds) e c (inr h) = not_claiming t ds (or_parts (d.thread == t) (is_among t ds) e).1 c h
 not_claiming t [] e c h = absurd h
 
 pub stay-missing : (t : ℕ) (cs : List Claim) → is_among t cs ≡ false → stay t cs ≡ cs
 stay-missing t [] e = refl
 stay-missing t (c ∷ cs) e =
-    let both = neither (c.thread == t) (is_among t cs) e in
+    let both = or_parts (c.thread == t) (is_among t cs) e in
     ap (λ b. if not b then c ∷ stay t cs else stay t cs) both.0 ∙ ap (λ z. c ∷ z) (stay-missing t cs both.1)

@@ -1,7 +1,7 @@
 -- The grants of a release are `take` events that may happen one after another.
 use Rattle.std.proofs.Common.{◌≡◌, ◌≢◌, ◌⊎◌, inl, inr, ℕ, ◌+◌, ◌≤◌, List, [], ◌∷◌, ◌++◌, length, map, drop, true, false}
 use Rattle.std.proofs.Common.{Some, None, refl, sym, ◌∙◌, ap, subst, arith, append_assoc}
-use Rattle.std.proofs.{lemmas.Bool.{eqb-true, eq-eqb, cases_Bool}, lemmas.List.{append-nil, map-append}}
+use Rattle.std.proofs.{lemmas.Bool.{eqb-true, eq-eqb, cases_Bool, or_parts}, lemmas.List.{append-nil, map-append}}
 use Rattle.std.specs.Prelude.{slice_get, ◌==◌}
 use Rattle.sect_lemmas.specs.Lists.{Has, changed_at}
 use Rattle.sect_modes.specs.{declared.mode.Mode.{Mode}, declared.key.Key.{Key}, Key.{is_same_key}}
@@ -19,7 +19,7 @@ use Rattle.sect_emit.specs.{declared.plan.Grip.{Grip}, Plan.{grip, held_mode}, C
 use Rattle.sect_emit.specs.State.{ThreadState, State, IsThread}
 use Rattle.sect_world.specs.{declared.event.Event.{Event}, Events.{taking, lets_in, all_but, Happens}, Runs.{RunsTo}}
 use Rattle.sect_world.specs.Waiting.{Asks}
-use Rattle.sect_lemmas.proofs.{Options.{some_injective}, Booleans.{neither}}
+use Rattle.sect_lemmas.proofs.Options.{some_injective}
 use Rattle.sect_world.specs.steps.Fits.{FitsBut, takes_first, granted, all_granted, take_of, takes, grants_at}
 use Rattle.sect_world.specs.steps.Fits.{entries_after, grants_of, entries_left}
 use Rattle.sect_world.proofs.Claims.{held-push, held-push_other, joins, all_but_of, lets_of, get-changed_other}
@@ -321,7 +321,7 @@ through c t k (w ∷ ws) hs es s f out away is =
     by (λ hs1 es1 s1 f1 out1 away1 is1. through c t k ws hs1 es1 s1 f1 out1 away1 is1)
     (cases_Bool (may_join hs w.thread w.mode)) where
       off : ((w.thread == t) ≡ false) × (is_among t ws ≡ false)
-      off = neither (w.thread == t) (is_among t ws) away
+      off = or_parts (w.thread == t) (is_among t ws) away
 
       other : w.thread ≢ t
       other e = true_or_false (w.thread == t) (eq-eqb w.thread t e) off.0

@@ -1,10 +1,9 @@
 -- Keys are ordered, and tested for equality.
 use Rattle.std.proofs.Common.{◌≡◌, ℕ, ◌<◌, true, refl, ap, ◌∙◌, ◌⊎◌, inl, inr, arith, ltb-true, lt-ltb, eqb-true}
-use Rattle.std.proofs.{Common.{eq-eqb}, lemmas.Bool.{and_parts, and_from, or_cases, false≢true}}
+use Rattle.std.proofs.{Common.{eq-eqb}, lemmas.Bool.{and_parts, and_from, or_cases, false≢true, or_left, or_right}}
 use Rattle.std.specs.Prelude.{◌&&◌, ◌==◌, nat_lt}
 use Rattle.sect_modes.specs.{declared.key.Key.{Key}, declared.key.Key.TheVariants.{All, Class, Global, Made}}
 use Rattle.sect_modes.specs.Key.{is_same_key, is_key_below}
-use Rattle.sect_lemmas.proofs.Booleans.{or_left, or_right}
 
 -- the test of keys says that they are equal
 pub same_key : (a b : Key) → is_same_key a b ≡ true → a ≡ b

@@ -1,11 +1,11 @@
 -- Lists that are the fronts of rows.
 use Rattle.std.proofs.Common.{◌≡◌, inl, inr, ℕ, zero, suc, ◌+◌, ◌<◌, ◌≤◌, List, [], ◌∷◌, ◌++◌, map, take, set, length}
 use Rattle.std.proofs.{Common.{length-set, length-append, refl, sym, ap, ◌∙◌, subst, arith}, lemmas.Bool.{cases_eq}}
-use Rattle.std.proofs.lemmas.List.{append-nil, get_or-map, get_or-set_same, get_or-set_other, take-append-le}
+use Rattle.std.proofs.lemmas.List.{append-nil, get_or-map, get_or-set_same, get_or-set_other, take-append-le, map-set}
 use Rattle.std.proofs.Math.Seq.{take-length}
 use Rattle.std.specs.{Prelude.{slice_index_or}, declared.vec.Vec.{Vec}, Global.{Global}}
 use Rattle.sect_lemmas.specs.Lists.{Has}
-use Rattle.sect_lemmas.proofs.{Membership.{Has-get_or}, Elements.{map-set}}
+use Rattle.sect_lemmas.proofs.Membership.{Has-get_or}
 use Rattle.sect_infer.specs.declared.lists.Front.{Front}
 use Rattle.sect_infer.specs.steps.Fronts.{front_of, fronts_of, AreEmpty, IsFront, AreFronts, HasOneMore}
 

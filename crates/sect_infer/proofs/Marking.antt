@@ -5,7 +5,7 @@ use Rattle.std.proofs.{Common.{true≢false}, lemmas.Bool.{cases_eq, or_right}}
 use Rattle.std.proofs.lemmas.List.{get_or-set_same, get_or-set_other, take_more, take_all}
 use Rattle.std.specs.{Prelude.{slice_index_or, ◌||◌}, Cmp.{unsigned_Decides}}
 use Rattle.sect_lemmas.specs.Lists.{Has}
-use Rattle.sect_lemmas.proofs.Elements.{drop_next}
+use Rattle.sect_lemmas.proofs.Elements.{drop_next, repeated}
 use Rattle.sect_lemmas.proofs.Booleans.{or_false}
 use Rattle.sect_infer.specs.Numbers.{has_number, with_number, with_numbers, AreApart, AreMarked}
 use Rattle.sect_infer.proofs.shared.Apart.{apart_push, number_tells, number_absent}
@@ -93,15 +93,10 @@ with_next ns ms i m within is =
     behind ns [] m = refl
     behind ns (k ∷ ms) m = behind (with_number ns k) ms m
 
-no_mark : (k n : ℕ) → get_or (replicate k false) n false ≡ false
-no_mark zero n = refl
-no_mark (suc k) zero = refl
-no_mark (suc k) (suc n) = no_mark k n
-
 -- room for more marks marks nothing
 pub room_marks_nothing : (marks : List Bool) (k n : ℕ)
     → get_or (marks ++ replicate k false) n false ≡ get_or marks n false
-room_marks_nothing [] k n = no_mark k n
+room_marks_nothing [] k n = repeated k n
 room_marks_nothing (m ∷ marks) k zero = refl
 room_marks_nothing (m ∷ marks) k (suc n) = room_marks_nothing marks k n
 

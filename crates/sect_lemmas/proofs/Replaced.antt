@@ -126,3 +126,17 @@ pub slice_get-map : {A B : Type 0} → (g : A → B) (xs : List A) (n : ℕ) (y 
 slice_get-map g [] n y e = absurd (none_or_some y e)
 slice_get-map g (x ∷ xs) zero y e = (x, refl, some_injective (g x) y e)
 slice_get-map g (x ∷ xs) (suc n) y e = slice_get-map g xs n y e
+
+-- what is made of an element stands at its place in the mapped list
+pub at_map : {A B : Type 0} (g : A → B) (xs : List A) (n : ℕ) (x : A) → slice_get xs n ≡ Some x
+    → slice_get (map g xs) n ≡ Some (g x)
+at_map g [] n x at = absurd (none_or_some x at)
+at_map g (y ∷ xs) zero x at = ap (λ z. Some (g z)) (some_injective y x at)
+at_map g (y ∷ xs) (suc n) x at = at_map g xs n x at
+
+-- an element put in a list, and what is made of it put in the mapped list
+pub map_put : {A B : Type 0} (g : A → B) (n : ℕ) (x : A) (xs : List A)
+    → map g (put_at n x xs) ≡ put_at n (g x) (map g xs)
+map_put g n x [] = refl
+map_put g zero x (y ∷ xs) = refl
+map_put g (suc n) x (y ∷ xs) = ap (λ ys. g y ∷ ys) (map_put g n x xs)

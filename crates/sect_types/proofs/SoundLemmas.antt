@@ -1,11 +1,12 @@
 -- What is typed is sound by number.
-use Rattle.std.proofs.Common.{◌≡◌, ℕ, nat_eq, Bool, true, false, not, ◌&&◌, List, map, Option, Some, None, IfOk, IfSome}
+use Rattle.std.proofs.Common.{◌≡◌, ℕ, nat_eq, Bool, true, false, not, ◌&&◌, List, Option, Some, None, IfOk, IfSome}
 use Rattle.std.proofs.Common.{slice_get, refl, sym, ap, ◌∙◌, true≢false, arith, ◌<◌, cond, nat_lt, length, ◌⊎◌, inl}
 use Rattle.std.proofs.{Common.{inr}, lemmas.List.{length-map}}
-use Rattle.std.specs.{Bool.{⊤}, Cmp.Lexicographic.{pointwise}, Option.{option_map}, List.{prefix_len}}
+use Rattle.std.proofs.lemmas.Bool.{and_parts}
+use Rattle.std.specs.{Bool.{⊤}, Cmp.Lexicographic.{pointwise}, List.{prefix_len}}
 use borrow.Author.Tests.{ltb-true}
 use Rattle.std.specs.Prelude.{unwrap_or}
-use Rattle.std.proofs.{lemmas.Option.{slice_get-map}, lemmas.Bool.{and_parts}}
+use Rattle.sect_lemmas.proofs.Replaced.{at_map}
 use Rattle.sect_front.specs.{declared.tree.Kind.{Kind}, declared.tree.Operand.{Operand}}
 use Rattle.sect_front.specs.{declared.tree.Operator.{Operator}, declared.tree.Comparison.{Comparison}}
 use Rattle.sect_front.specs.{declared.tree.Test.{Test}, declared.tree.GlobalObject.{GlobalObject}}
@@ -35,10 +36,6 @@ use Rattle.sect_front.specs.declared.tree.Primitive.TheVariants as primitive
 use Rattle.sect_types.specs.declared.rules.resolve.Denoted.TheVariants as denoted
 use Rattle.sect_types.specs.declared.rules.resolve.Given.TheVariants as given
 use Rattle.sect_types.specs.declared.expansion.action.Action.TheVariants as action
-
-at_map : {A B : Type 0} (f : A → B) (xs : List A) (i : ℕ) (x : A) → slice_get xs i ≡ Some x
-    → slice_get (map f xs) i ≡ Some (f x)
-at_map f xs i x e = slice_get-map f xs i ∙ ap (option_map f) e
 
 -- two types that are the same as written are the same by number
 same_types : (rs : List (List ℕ)) (k l : Kind) → same_kind k l ≡ true → type_of rs k ≡ type_of rs l

@@ -2,10 +2,10 @@
 use Rattle.std.proofs.Common.{◌≡◌, ◌≢◌, inl, inr, ℕ, zero, suc, ◌<◌, List, [], ◌∷◌, ◌++◌, length, map, true, false, not}
 use Rattle.std.proofs.Common.{Some, None, refl, sym, ◌∙◌, ap, subst, arith, append_assoc}
 use Rattle.std.proofs.{lemmas.Bool.{eqb-true, eq-eqb, and_parts, cases_Bool}, lemmas.List.{append-nil}}
-use Rattle.std.specs.{Prelude.{ℤ, slice_get, slice_index_or, slice_set, is_some, ◌==◌, ◌||◌}, List.{list_any}}
+use Rattle.std.specs.{Prelude.{ℤ, slice_index_or, slice_set, is_some, ◌==◌, ◌||◌}, List.{list_any}}
 use Rattle.sect_lemmas.specs.Lists.{Has, put_at}
 use Rattle.sect_lemmas.proofs.{Membership.{Has-cases, Has-right}, Options.{some_injective, none_or_some}}
-use Rattle.sect_lemmas.proofs.Replaced.{at-put_at}
+use Rattle.sect_lemmas.proofs.{Replaced.{at-put_at}, Places.{at_of}}
 use Rattle.sect_modes.specs.{declared.mode.Mode.{Mode}, declared.key.Key.{Key}, Key.{is_same_key}}
 use Rattle.sect_table.specs.{declared.claims.Claim.{Claim}, declared.claims.Hold.{Hold}, declared.claims.Grant.{Grant}}
 use Rattle.sect_table.specs.declared.claims.Answer.TheVariants.{Granted, Queued}
@@ -91,11 +91,6 @@ holder_there [] u k m e = absurd (none_or_some m e)
 holder_there (x ∷ xs) zero k m e = omega arith
 holder_there (x ∷ xs) (suc u) k m e = let r = holder_there xs u k m e in omega arith
 
-thread_there : (xs : List ThreadState) (u : ℕ) → u < length xs → (x : ThreadState) × (slice_get xs u ≡ Some x)
-thread_there [] u lt = absurd (omega arith)
-thread_there (x ∷ xs) zero lt = (x, refl)
-thread_there (x ∷ xs) (suc u) lt = thread_there xs u (omega arith)
-
 -- the mode in which the machine has a thread's key is the table's
 pub table_tells : (c : Contents) (s : State) → IsKept c → Fits c s → (u : ℕ) (th : ThreadState) → IsThread s u th
     → (k : Key) → held_mode k th.held ≡ mode_for u (entry_of k c.entries).holders
@@ -115,7 +110,7 @@ holder_of c s kept f k h there =
     (apart_left (entry_of k c.entries).holders (entry_of k c.entries).waiters (kept.sound.apart k)) there in
     let within : h.thread < length c.held =
     holder_there c.held h.thread k h.mode (kept.sound.agree h.thread k ∙ mode) in
-    let x = thread_there s.threads h.thread (subst (λ n. h.thread < n) f.as_many within) in
+    let x = at_of s.threads h.thread (subst (λ n. h.thread < n) f.as_many within) in
     record { thread = x.0; at = x.1; mode = table_tells c s kept f h.thread x.0 x.1 k ∙ mode }
 
 -- who waits in the table asks in the machine

@@ -1,9 +1,9 @@
 use Rattle.std.proofs.{Common.{arith, subst}, lemmas.List.{length-map}}
 use Rattle.sect_types.specs.{Sections.{sections_of}, Programs.{ProgramView, IsWithinLimits}, Sound.{AreSound}}
-use Rattle.sect_lemmas.proofs.{Places.{at_of}, Results.{if_ok}}
+use Rattle.sect_lemmas.proofs.{Places.{at_of, zip_length}, Results.{if_ok}}
 use Rattle.sect_names.specs.Needed.{end_of}
 use Rattle.sect_chains.specs.{Chains.{IsFirstChain}, Numbered.{chains_in, links_by}}
-use Rattle.sect_emit.proofs.{Chained.{chains_named, section_lawful}, Counting.{few_locks}, Spelling.{zip_length}}
+use Rattle.sect_emit.proofs.{Chained.{chains_named, section_lawful}, Counting.{few_locks}}
 use Rattle.sect_emit.proofs.chains.numbered.Goals as goal
 
 pub numbered_chains-requires-clause-locks : goal.numbered_chains-requires-clause-locks

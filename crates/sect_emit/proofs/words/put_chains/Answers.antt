@@ -2,12 +2,12 @@ use Rattle.std.proofs.Common.{◌≡◌, ◌<◌, ◌+◌, ◌∙◌, ◌++◌, 
 use Rattle.std.proofs.Common.{arith, append-nil}
 use Rattle.std.proofs.lemmas.{List.{length-map}, Option.{slice_get-get_or, slice_get-map, get_or_from_slice_get}}
 use Rattle.std.specs.{Prelude.{slice_get}, Option.{option_map}, List.{AllByRecursion}}
-use Rattle.sect_lemmas.proofs.{Membership.{Has-slice_get}, Places.{one_at, each_at, zipped_at}}
+use Rattle.sect_lemmas.proofs.{Membership.{Has-slice_get}, Places.{one_at, each_at, zipped_at, zip_length}}
 use Rattle.sect_cert.specs.Texts.{IsLock, IsChain, chains_lines, lines_text}
 use Rattle.sect_cert.proofs.shared.Lines.{next_chain as one_chain}
 use Rattle.sect_chains.specs.Numbered.{links_by, chains_in}
 use Rattle.sect_emit.specs.{Words.{chains_words}, steps.Known.{IsFirstNamed}}
-use Rattle.sect_emit.proofs.{KnownLemmas.{known_none}, Spelling.{next_chain, all_more, zip_length}}
+use Rattle.sect_emit.proofs.{KnownLemmas.{known_none}, Spelling.{next_chain, all_more}}
 use Rattle.sect_emit.proofs.words.put_chains.Goals as goal
 
 pub loop-lock-init : goal.loop-lock-init

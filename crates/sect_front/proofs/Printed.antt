@@ -2,7 +2,7 @@
 use Rattle.std.proofs.Common.{◌≡◌, ℕ, ◌-◌, ◌<◌, ◌≤◌, Bool, true, false, eqb, List, [], ◌∷◌, ◌++◌, length, drop}
 use Rattle.std.proofs.Common.{refl, sym, ◌∙◌, ap, subst, arith, append_assoc, length-append}
 use Rattle.std.proofs.{Math.Seq.{take-append_seam}, lemmas.Bool.Decides.{nat_tests}, lemmas.Bool.{and_parts, ltb-true}}
-use Rattle.std.proofs.lemmas.Bool.{eqb-true}
+use Rattle.std.proofs.{lemmas.Bool.{eqb-true}, lemmas.List.{drop_at}}
 use Rattle.std.specs.{List.{list_all, flat_map}, Fmt.{decimal}}
 use Rattle.sect_front.specs.{Limits.{most_bytes, most_depth}, Words.{is_letter, is_digit, begins}}
 use Rattle.sect_front.specs.{Gaps.{is_blank, after_gap}, TreeView.{TreeView}, Depth.{depth}}
@@ -144,10 +144,6 @@ spread_gap (t ∷ w) h = solid_gap (spelling_of t) (separator t ∷ spread w)
 blank_gap : (b : ℕ) (w : List ℕ) → is_blank b ≡ true → after_gap (b ∷ w) ≡ after_gap w
 blank_gap b w h = rw h refl
 
-drop_front : (v w : List ℕ) → drop (length v) (v ++ w) ≡ w
-drop_front [] w = refl
-drop_front (x ∷ v) w = drop_front v w
-
 -- where each token stands in a text of so many bytes
 abbrev places_of : ℕ → List Token → List TokenAt
 places_of total [] = []
@@ -172,7 +168,8 @@ first_printed t w h =
       within = omega (arith, length-append (spelling_of t) (separator t ∷ w));
       some = omega (arith, ap length s.is);
       spells = record { is = take-append_seam (spelling_of t) (separator t ∷ w); proper = h };
-      free = ap (stands t) (drop_front (spelling_of t) (separator t ∷ w)) ∙ stands_before t w;
+      free = ap (stands t) (drop_at (spelling_of t) (separator t ∷ w) (length (spelling_of t)) refl)
+          ∙ stands_before t w;
     }
 
 reach : (total : ℕ) (bytes : List ℕ) (w : List Token) → list_all is_proper w ≡ true → after_gap bytes ≡ spread w
@@ -181,7 +178,8 @@ reach total bytes [] h gap fits = record { rest = bytes; reaches = refl; gap = g
 reach total bytes (t ∷ w) h gap fits =
     let proper = and_parts (is_proper t) (list_all is_proper w) h in
     let next : drop (length (spelling_of t)) (after_gap bytes) ≡ separator t ∷ spread w =
-    ap (drop (length (spelling_of t))) gap ∙ drop_front (spelling_of t) (separator t ∷ spread w) in
+    ap (drop (length (spelling_of t))) gap
+    ∙ drop_at (spelling_of t) (separator t ∷ spread w) (length (spelling_of t)) refl in
     let more = reach total (drop (length (spelling_of t)) (after_gap bytes)) w proper.1
     (ap after_gap next ∙ (blank_gap (separator t) (spread w) (separator_blank t) ∙ spread_gap w proper.1))
     (omega (arith, fits, length-append (spelling_of t) (separator t ∷ spread w))) in

@@ -1,6 +1,7 @@
 -- How one range is found among those of the parts of a tree.
 use Rattle.std.proofs.Common.{◌≡◌, ℕ, zero, suc, ◌+◌, ◌-◌, ◌*◌, ◌<◌, ◌≤◌, List, [], ◌∷◌, Some, length, get_or, drop}
 use Rattle.std.proofs.{Common.{slice_get, sym, ◌∙◌, ap, arith, subst}, lemmas.Option.{slice_get_past}}
+use Rattle.std.proofs.lemmas.List.{drop_all}
 use Rattle.sect_lemmas.proofs.{Options.{none_or_some}, Places.{at_of}, Elements.{drop_next}}
 use Rattle.sect_front.specs.{TreeView.{TreeView}, Grammar.{tokens_of}, declared.tree.Declaration.{Declaration}}
 use Rattle.sect_front.specs.{declared.tree.Record.{Record}, declared.tree.Procedure.{Procedure}}
@@ -10,7 +11,7 @@ use Rattle.sect_places.specs.Counts.{records_count, procedures_count, threads_co
 use Rattle.sect_places.specs.Ranges.{AreAmong, range, declarations_ranges, globals_ranges, item_tokens}
 use Rattle.sect_types.specs.Items.{items}
 use Rattle.sect_places.specs.steps.Seeking.{IsFound, IsBehind, parts_ranges, parts_count}
-use Rattle.sect_places.proofs.{Past.{count_is}, Owned.{are_own, own_many}, Walked.{IsList, drop_all}}
+use Rattle.sect_places.proofs.{Past.{count_is}, Owned.{are_own, own_many}, Walked.{IsList}}
 
 -- of fields, parameters or locals, and of globals
 pub declared_found : (n : ℕ) (ds : List Declaration) (k : ℕ) → k < length ds
@@ -73,11 +74,11 @@ module _ {X : Type 0} (size : X → ℕ) (total : List X → ℕ)
   }
 
   pub sought_count : length xs ≤ i → at ≡ from + total xs
-  sought_count end = omega (arith, h.counted, ap total (drop_all xs i end), is.none)
+  sought_count end = omega (arith, h.counted, ap total (drop_all i xs end), is.none)
 
   pub sought_behind : length xs ≤ i → IsBehind k (all from xs) m
   sought_behind end w =
-      h.behind w ∙ ap (λ ys. slice_get (all at ys w) m) (drop_all xs i end)
+      h.behind w ∙ ap (λ ys. slice_get (all at ys w) m) (drop_all i xs end)
       ∙ ap (λ ys. slice_get ys m) (is.nothing at w)
 
 -- a range that is found among others is one of them

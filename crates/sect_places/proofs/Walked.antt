@@ -1,6 +1,6 @@
 -- Loops that add what the parts of a list give, one part after another.
-use Rattle.std.proofs.Common.{◌≡◌, ℕ, zero, suc, ◌+◌, ◌<◌, ◌≤◌, List, [], ◌∷◌, ◌++◌, length, get_or, drop, refl, sym}
-use Rattle.std.proofs.Common.{◌∙◌, ap, arith}
+use Rattle.std.proofs.Common.{◌≡◌, ℕ, ◌+◌, ◌<◌, ◌≤◌, List, [], ◌∷◌, ◌++◌, length, get_or, drop, refl, sym}
+use Rattle.std.proofs.{Common.{◌∙◌, ap, arith}, lemmas.List.{drop_all}}
 use Rattle.sect_lemmas.proofs.Elements.{drop_next}
 use Rattle.sect_places.specs.steps.Adding.{Adds}
 
@@ -50,18 +50,12 @@ walked_more size total each all is xs i from at next old now new x h lt e sum ad
       ∙ (ap (λ ys. now ++ all at ys w) (sym (drop_next xs i x lt e)) ∙ h.added w)));
 }
 
-pub drop_all : {X : Type 0} (xs : List X) (i : ℕ) → length xs ≤ i → drop i xs ≡ []
-drop_all [] zero h = refl
-drop_all [] (suc i) h = refl
-drop_all (x ∷ xs) zero h = absurd (omega arith)
-drop_all (x ∷ xs) (suc i) h = drop_all xs i (omega arith)
-
 pub walked_count : {X A : Type 0} (size : X → ℕ) (total : List X → ℕ) (each : ℕ → X → List A → List A)
     (all : ℕ → List X → List A → List A) → IsList size total each all
     → (xs : List X) (i from at : ℕ) (old now : List A)
     → Walked total all xs i from at old now → length xs ≤ i → at ≡ from + total xs
 walked_count size total each all is xs i from at old now h end =
-    omega (arith, h.counted, ap total (drop_all xs i end), is.none)
+    omega (arith, h.counted, ap total (drop_all i xs end), is.none)
 
 pub walked_all : {X A : Type 0} (size : X → ℕ) (total : List X → ℕ) (each : ℕ → X → List A → List A)
     (all : ℕ → List X → List A → List A) → IsList size total each all
@@ -69,4 +63,4 @@ pub walked_all : {X A : Type 0} (size : X → ℕ) (total : List X → ℕ) (eac
     → Walked total all xs i from at old now → length xs ≤ i → Adds old now (all from xs)
 walked_all size total each all is xs i from at old now h end = λ w.
     ap (λ r. now ++ r) (sym (is.nothing at w))
-    ∙ (ap (λ ys. now ++ all at ys w) (sym (drop_all xs i end)) ∙ h.added w)
+    ∙ (ap (λ ys. now ++ all at ys w) (sym (drop_all i xs end)) ∙ h.added w)

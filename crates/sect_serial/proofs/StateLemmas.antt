@@ -1,8 +1,8 @@
 -- States that are kept while outcomes are sought, and all that whole sections lead to.
 use Rattle.std.proofs.Common.{◌≡◌, ◌<◌, ◌≤◌, ◌+◌, inl, inr, ℕ, false, List, [], ◌∷◌, ◌++◌}
 use Rattle.std.proofs.Common.{Option, Some, None, refl, sym, ap, subst, ◌∙◌, arith, length, slice_get}
-use Rattle.std.proofs.{Common.{length-append}, lemmas.Bool.{cases_lt}, lemmas.List.{length-map}}
-use Rattle.std.proofs.lemmas.Option.{slice_get_past, slice_get_within}
+use Rattle.std.proofs.{Common.{length-append}, lemmas.Bool.{cases_lt}, lemmas.List.{length-map, append-nil}}
+use Rattle.std.proofs.{lemmas.Option.{slice_get_past, slice_get_within}, lemmas.List.{append_assoc}}
 use Rattle.sect_lemmas.specs.Lists.{Has}
 use Rattle.sect_lemmas.proofs.{Distinct.{distinct_none}, Membership.{Has-cases, Has-unmap}, Elements.{slice_get-left}}
 use Rattle.sect_lemmas.proofs.{Options.{some_injective, none_or_some}, Places.{Has-index}, Elements.{get_front}}
@@ -67,25 +67,17 @@ kept_is_there most es fs r order (inl k) =
 kept_is_there most es fs r order (inr k) =
     subst (λ (xs : States). Has (states_in xs) (trimmed r)) (sym k.2) (key_last trimmed es r order)
 
-append_none : {A : Type 0} (xs : List A) → xs ≡ xs ++ []
-append_none [] = refl
-append_none (x ∷ xs) = ap (λ ys. x ∷ ys) (append_none xs)
-
-append_twice : {A : Type 0} (xs ys zs : List A) → (xs ++ ys) ++ zs ≡ xs ++ (ys ++ zs)
-append_twice [] ys zs = refl
-append_twice (x ∷ xs) ys zs = ap (λ rs. x ∷ rs) (append_twice xs ys zs)
-
 pub grows_none : (es : States) → Grows es es
-grows_none es = ([], append_none es)
+grows_none es = ([], sym (append-nil es))
 
 pub kept_grows : (most : ℕ) (es fs : States) (r : RunView) (order : List ℕ) → Keeps most r order es fs → Grows es fs
-kept_grows most es fs r order (inl k) = ([], k.1 ∙ append_none es)
+kept_grows most es fs r order (inl k) = ([], k.1 ∙ sym (append-nil es))
 kept_grows most es fs r order (inr k) = ((r, order) ∷ [], k.2)
 
 pub grows_more : (es fs gs : States) → Grows es fs → Grows fs gs → Grows es gs
 grows_more es fs gs a b = (
   a.0 ++ b.0,
-  b.1 ∙ ap (λ (xs : States). xs ++ b.0) a.1 ∙ append_twice es a.0 b.0,
+  b.1 ∙ ap (λ (xs : States). xs ++ b.0) a.1 ∙ append_assoc es a.0 b.0,
 )
 
 pub grows_has : (es fs : States) (r : RunView) → Grows es fs → Has (states_in es) r → Has (states_in fs) r

@@ -1,7 +1,7 @@
 -- Procedures that are marked one after another.
 use Rattle.std.proofs.Common.{◌≡◌, ◌≢◌, ◌⊎◌, inl, inr, ℕ, zero, suc, ◌+◌, ◌<◌, ◌≤◌, Bool, true, false, List, [], ◌∷◌}
 use Rattle.std.proofs.Common.{◌++◌, Option, Some, None, length, take, get_or, refl, sym, ap, subst, ◌∙◌, arith}
-use Rattle.std.proofs.{Common.{length-append, slice_get}, lemmas.Bool.{eqb-true, or_cases, or_left, or_right}}
+use Rattle.std.proofs.{Common.{length-append, slice_get}, lemmas.Bool.{eqb-true, or_cases, or_left, or_right, cases_eq}}
 use Rattle.std.proofs.{lemmas.List.{take_more, take_all, length-replicate}, lemmas.List.Folds.{list_any-append}}
 use Rattle.std.proofs.lemmas.Option.{slice_get_within}
 use Rattle.std.specs.{Prelude.{eqb, nat_eq, replicate, slice_index_or}, List.{list_any}}
@@ -11,7 +11,7 @@ use Rattle.sect_types.specs.steps.Called.{IsAmong, Calls, IsMarked, marks, AreMa
 use Rattle.sect_types.specs.steps.{Called.{AreCallersBefore, callers_of}, Standing.{AreReturning}}
 use Rattle.sect_types.specs.steps.Search.{returns, reaches}
 use Rattle.sect_lemmas.proofs.{Options.{some_injective}, Elements.{is_there}}
-use Rattle.sect_lemmas.proofs.Replaced.{put_same, put_other, length-put_at, at-put_at, this_or_other}
+use Rattle.sect_lemmas.proofs.Replaced.{put_same, put_other, length-put_at, at-put_at}
 use Rattle.sect_types.proofs.{EnoughLaws.{same, there, calls_there}, ReachLaws.{returns_caller, closed_returns}}
 
 -- one mark more
@@ -49,7 +49,7 @@ kept_at (x ∷ xs) n zero q e = e
 kept_at (x ∷ xs) n (suc i) q e = kept_at xs n i q e
 
 stays_put : (n q : ℕ) (bs : List Bool) → slice_get bs n ≡ Some false → IsMarked bs q → IsMarked (put_at n true bs) q
-stays_put n q bs off e = elim (this_or_other n q) [
+stays_put n q bs off e = elim (cases_eq n q) [
   | inl same ↦ absurd (let both : Some false ≡ Some true = sym off ∙ ap (slice_get bs) same ∙ e in cc)
   | inr other ↦ put_other n q true bs other ∙ e
 ]
@@ -183,7 +183,7 @@ pub gone_through : (ps : List Procedure) (p n q : ℕ) (m : List Bool) (f : List
     → ((c : ℕ) → Calls ps c q → IsMarked k c) → AreClosed ps p k g (n + 1)
 gone_through ps p n q m f k g at right closed grows callers = record {
   start = grows.stays p closed.start;
-  callers = λ i r c lt is calls. elim (this_or_other n i) [
+  callers = λ i r c lt is calls. elim (cases_eq n i) [
     | inl same ↦ callers c (subst (Calls ps c) (some_injective r q (sym is ∙ ap (slice_get g) (sym same)
         ∙ grows.keeps n q at)) calls)
     | inr other ↦ grows.stays c (closed.callers i r c (omega (arith, lt, apart i other))

@@ -2,6 +2,7 @@
 use Rattle.std.proofs.Common.{◌≡◌, ◌≢◌, ◌⊎◌, inl, inr, ℕ, ◌+◌, ◌≤◌, List, [], ◌∷◌, ◌++◌, length, map, drop, true, false}
 use Rattle.std.proofs.Common.{Some, None, refl, sym, ◌∙◌, ap, subst, arith, append_assoc}
 use Rattle.std.proofs.{lemmas.Bool.{eqb-true, eq-eqb, cases_Bool, or_parts}, lemmas.List.{append-nil, map-append}}
+use Rattle.std.proofs.lemmas.Bool.{cases_eq}
 use Rattle.std.specs.Prelude.{slice_get, ◌==◌}
 use Rattle.sect_lemmas.specs.Lists.{Has, changed_at}
 use Rattle.sect_modes.specs.{declared.mode.Mode.{Mode}, declared.key.Key.{Key}, Key.{is_same_key}}
@@ -77,15 +78,9 @@ record Was (s : State) (g : Grant) (u : ℕ) (th : ThreadState) : Type 0 where
   at : IsThread s u old
   is : ((u ≡ g.thread) × (th.held ≡ old.held ++ grip g.key g.mode ∷ [])) ⊎ ((u ≢ g.thread) × (th.held ≡ old.held))
 
-number_cases : (u t : ℕ) → (u ≡ t) ⊎ (u ≢ t)
-number_cases u t = elim (cases_Bool (u == t)) [
-  | inl e ↦ inl (eqb-true u t e)
-  | inr e ↦ inr (λ same. true_or_false (u == t) (eq-eqb u t same) e)
-]
-
 was : (s : State) (g : Grant) (a : Asks s g.thread g.key g.mode) (u : ℕ) (th : ThreadState)
     → IsThread (granted g s) u th → Was s g u th
-was s g a u th at = elim (number_cases u g.thread) [
+was s g a u th at = elim (cases_eq u g.thread) [
   | inl same ↦
       let here : slice_get (changed_at g.thread (takes_first g.key g.mode) s.threads) u ≡ Some
       (takes_first g.key g.mode a.0) =

@@ -1,13 +1,14 @@
 -- What stands in a certificate with a text, line by line.
-use Rattle.std.proofs.Common.{◌≡◌, ℕ, ◌+◌, ◌-◌, ◌<◌, ◌≤◌, true, nat_lt, List, [], ◌∷◌, ◌++◌, Some, length, refl, sym}
+use Rattle.std.proofs.Common.{◌≡◌, ℕ, ◌+◌, ◌-◌, ◌<◌, ◌≤◌, true, nat_lt, List, [], ◌∷◌, ◌++◌, length, refl, sym}
 use Rattle.std.proofs.Common.{◌∙◌, arith, length-append}
 use Rattle.std.proofs.lemmas.Bool.{lt-ltb, ltb-true}
-use Rattle.std.specs.{Prelude.{⊤, slice_get}, List.{AllByRecursion}}
+use Rattle.std.specs.{Prelude.{⊤}, List.{AllByRecursion}}
 use Rattle.sect_cert.specs.steps.Certificates.{is_rising}
 use Rattle.sect_cert.specs.Texts.{nodes_lines, chains_lines, sections_lines, body_lines, IsLock, IsChain, IsLine}
 use Rattle.sect_cert.specs.{Texts.{AreRising, IsSection, HasText}, declared.lock.CertLock.{CertLock}}
 use Rattle.sect_cert.specs.{declared.certificate.CertChain.{CertChain}, declared.certificate.CertSection.{CertSection}}
 use Rattle.sect_cert.specs.{declared.certificate.Cert.{Cert}, declared.line.CertLine.{CertLine}}
+use Rattle.sect_cert.proofs.Counts.{last_at}
 use Rattle.sect_cert.specs.declared.line.CertLine.TheVariants as line
 
 -- the numbers of these chains rise, after these before them
@@ -22,10 +23,6 @@ RisingAll ss = AllByRecursion (λ s. RiseAfter [] s.chains) ss
 pub record HasLines (c : Cert) : Type 0 where
   pub lines : AllByRecursion IsLine (body_lines c)
   pub rising : RisingAll c.sections
-
-last_at : {A : Type 0} (xs : List A) (x : A) → slice_get (xs ++ x ∷ []) (length xs) ≡ Some x
-last_at [] x = refl
-last_at (y ∷ xs) x = last_at xs x
 
 after_last : (before : List CertChain) (d : CertChain) (n : ℕ) → is_rising (before ++ d ∷ []) n ≡ nat_lt d.lock n
 after_last before d n = let last : length (before ++ d ∷ []) - 1 ≡ length before =

@@ -3,6 +3,7 @@ use Rattle.std.proofs.Common.{◌≡◌, ℕ, zero, suc, ◌<◌, true, eqb, Lis
 use Rattle.std.proofs.lemmas.Bool.Decides.{nat_tests}
 use Rattle.std.specs.Prelude.{slice_get}
 
+-- a number is equal to itself
 pub same : (n : ℕ) → eqb n n ≡ true
 same n = grind (arith, nat_tests)
 

@@ -6,6 +6,7 @@ use Rattle.sect_types.specs.declared.expansion.text.Step.{Step}
 use Rattle.sect_types.specs.{Statements.{TextView, Stop, Do, Choose, Loop, Section, joined}, Texts.{step_then}}
 use Rattle.sect_types.specs.declared.expansion.text.Step.TheVariants as step
 
+-- one step more, behind a text
 pub joined_step : (t : TextView) (st : Step) (k : TextView)
     → joined (joined t (step_then st Stop)) k ≡ joined t (step_then st k)
 joined_step Stop (step.Do a) k = refl

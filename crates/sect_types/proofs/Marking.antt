@@ -283,12 +283,6 @@ read_false [] n b lt at e = absurd (omega (arith, lt))
 read_false (x ∷ m) zero b lt at e = ap Some (sym at ∙ e)
 read_false (x ∷ m) (suc n) b lt at e = read_false m n b (omega (arith, lt)) at e
 
--- the callers that were read
-pub own_row : (xs : List (List ℕ)) (n : ℕ) (x : List ℕ) → n < length xs → x ≡ get_or xs n x → x ≡ callers_of xs n
-own_row [] n x lt at = absurd (omega (arith, lt))
-own_row (y ∷ xs) zero x lt at = at
-own_row (y ∷ xs) (suc n) x lt at = own_row xs n x (omega (arith, lt)) at
-
 pub read_at : (xs : List ℕ) (i : ℕ) → i < length xs → slice_get xs i ≡ Some (slice_index_or xs i 0)
 read_at [] i lt = absurd (omega (arith, lt))
 read_at (x ∷ xs) zero lt = refl

@@ -152,6 +152,7 @@ pub read_call : (ps : List Procedure) (n : ℕ) (all : List ℕ) (i : ℕ) → i
 read_call ps n all i lt e =
     subst (λ x. IsAmong x (slice_index_or all i 0)) e (among_at all i (slice_index_or all i 0) (read_at all i lt))
 
+-- a row of callers that was read
 pub read_row : (callers : List (List ℕ)) (q : ℕ) (row : List ℕ) → q < length callers → row ≡ get_or callers q row
     → row ≡ callers_of callers q
 read_row [] q row lt at = absurd (omega (arith, lt))

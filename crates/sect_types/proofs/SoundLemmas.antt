@@ -25,7 +25,7 @@ use Rattle.sect_types.specs.{Numbered.{base_by, value_at, value_by}, Items.{Prim
 use Rattle.sect_types.specs.Environments.{Environment, environment, record_number, type_of, types_of}
 use Rattle.sect_types.specs.Sound.{reference_to, type_at, type_in, field_type, HasType, IsSoundAction, AreAlike}
 use Rattle.sect_types.specs.Sound.{AreComparable, IsSoundCondition, is_shared, IsSound}
-use Rattle.sect_types.specs.Statements.{TextView, Stop, Do, Choose, Loop, Section, joined}
+use Rattle.sect_types.specs.Statements.{Stop, Do}
 use Rattle.sect_types.proofs.Typing.{well_typed, well_typed_test, assign_of, compute_of, new_of, load_at, load_of}
 use Rattle.sect_types.proofs.Typing.{store_at, store_of, print_of, compared_of, primitive_of, test_of}
 use Rattle.sect_types.proofs.shared.SoundLemmas.{same_names}
@@ -358,13 +358,3 @@ stands : (e : Environment) (b inside : Bool) (a : Action) → Fits e b a → ((b
 stands e b true a (sound, same) h = (sound, tt, tt)
 stands e b false a (sound, same) (inr h) = (sound, same ∙ h, tt)
 stands e b false a (sound, same) (inl (h, g)) = absurd (true≢false (sym g))
-
--- statements that are sound, one after another, are sound
-pub joined_sound : (e : Environment) (inside : Bool) (a b : TextView) → IsSound e inside a → IsSound e inside b
-    → IsSound e inside (joined a b)
-joined_sound e inside Stop b h g = g
-joined_sound e inside (Do a r) b (h, here, k) g = (h, here, joined_sound e inside r b k g)
-joined_sound e inside (Choose c p q r) b (h, p_sound, q_sound, k) g =
-    (h, p_sound, q_sound, joined_sound e inside r b k g)
-joined_sound e inside (Loop c p r) b (h, body, k) g = (h, body, joined_sound e inside r b k g)
-joined_sound e inside (Section i p r) b (h, body, k) g = (h, body, joined_sound e inside r b k g)

@@ -26,14 +26,14 @@ use Rattle.sect_types.specs.steps.Written.{Writer, written_statement, written_bl
 use Rattle.sect_types.specs.steps.Written.{write_locals, written_call, written_within, written_thread, written_threads}
 use Rattle.sect_types.specs.steps.Written.{written_texts}
 use Rattle.sect_types.specs.steps.Clean.{IsClean, IsCleanStatement, IsCleanBlock, AreCleanThreads}
-use Rattle.sect_types.proofs.SoundLemmas.{IsGiven, accepts_has, operand_there, joined_sound}
+use Rattle.sect_types.proofs.SoundLemmas.{IsGiven, accepts_has, operand_there}
 use Rattle.sect_types.proofs.CountLaws.{CountsFresh, statement_freshens, block_freshens, call_freshens, of_call_long}
 use Rattle.sect_types.proofs.{MovedLaws.{StandFrom, moved_type, moved_sound, moved_holds}, Walked.{text_clean}}
 use Rattle.sect_types.proofs.Resolved.{and_not, resolved, resolved_test, moved_shared}
 use Rattle.sect_types.proofs.SiteLaws.{AreClean, called_clean, typed_clean, view}
 use Rattle.sect_types.proofs.StandingTypes.{stand_first, stand_next, stand_left, stand_right, stand_whole, stand_behind}
 use Rattle.sect_types.proofs.StandingTypes.{types_in, fresh_types, fresh_left, fresh_right, call_types, types_both}
-use Rattle.sect_types.proofs.StandingTypes.{types_long}
+use Rattle.sect_types.proofs.{StandingTypes.{types_long}, SectionLaws.{inside_section}, shared.Joining.{sound_joined}}
 use Rattle.sect_front.specs.declared.tree.Kind.TheVariants as kind
 
 -- what statements see where these are the types of all locals
@@ -137,10 +137,6 @@ stands_right false false a e h = e
 pub inside_deeper : (at : Place) → is_inside (deeper at) ≡ is_inside at
 inside_deeper (InThread inside depth) = refl
 inside_deeper (InProcedure p) = refl
-
-pub inside_section : (at : Place) → is_inside (in_section at) ≡ true
-inside_section (InThread inside depth) = refl
-inside_section (InProcedure p) = refl
 
 -- the expansion of a call that takes its arguments is sound where its fresh locals stand from the next one on
 abbrev pub SoundCalls : Declared → List ValueType → Writer → Freshens → Type 0
@@ -261,7 +257,7 @@ call_sound d all clean table call fresh m i (Some p) q e ls n a c vs k t stand f
     at.variables_stand x.1 at.block_stands in
     set_sound d ls n all stand a.fresh p.parameters vs _ at.parameters_stand (t p e).0 (t p e).1
     (clear_sound d all (a.fresh + length p.parameters) p.locals (joined text k) at.locals_stand
-    (joined_sound (whole d all) true text k sound g))
+    (sound_joined (whole d all) true text k sound g))
 
 -- the expansion of a call is sound
 pub calls_sound : (n : ℕ) (d : Declared) (all : List ValueType) → AreClean d d.procedures

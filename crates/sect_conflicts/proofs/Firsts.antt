@@ -6,8 +6,9 @@ use Rattle.std.specs.Prelude.{◌&&◌, not}
 use Rattle.sect_lemmas.specs.Lists.{Has}
 use Rattle.sect_lemmas.proofs.{Elements.{drop_next}, Membership.{Has-cases}}
 use Rattle.sect_modes.specs.{Mode.{are_compatible}, Key.{is_key_below, is_same_key}}
+use Rattle.sect_modes.proofs.shared.Keys.{same_key, key_itself}
 use Rattle.sect_emit.specs.{declared.plan.Grip.{Grip}, Plan.{Ascends}}
-use Rattle.sect_emit.proofs.shared.{Keys.{same_key, key_itself, not_below_itself, below_along}, Plans.{ascends_right}}
+use Rattle.sect_emit.proofs.shared.{Keys.{not_below_itself, below_along}, Plans.{ascends_right}}
 
 -- an element of the list stands before place i, at it, or above it
 before_or_above : (xs : List Grip) → Ascends xs → (i : ℕ) (g : Grip) → i < length xs → g ≡ get_or xs i g → (x : Grip)

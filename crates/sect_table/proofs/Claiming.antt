@@ -5,10 +5,10 @@ use Rattle.std.proofs.lemmas.Bool.{or_parts}
 use Rattle.std.specs.Prelude.{◌==◌, ◌||◌, ◌&&◌, if◌then◌else◌}
 use Rattle.sect_modes.specs.{declared.mode.Mode.{Mode}, declared.key.Key.{Key}, Mode.{are_compatible, is_at_least}}
 use Rattle.sect_modes.specs.Key.{is_same_key}
+use Rattle.sect_modes.proofs.shared.Keys.{same_key, key_itself}
 use Rattle.sect_table.specs.{declared.claims.Claim.{Claim}, declared.claims.Hold.{Hold}}
 use Rattle.sect_table.specs.Contents.{is_among, mode_in, mode_for, may_join, first_of, stay, AreApart}
 use Rattle.sect_table.specs.Sound.{SharesWith, AreTogether, AreKeysApart, claims_by, one_if, AreThreadsBelow}
-use Rattle.sect_table.proofs.shared.Shown.{same_key, key_itself}
 use Rattle.sect_table.proofs.shared.Claiming.{true_or_false, among-append, among_append, mode_for-here, mode_for-later}
 use Rattle.sect_table.proofs.shared.Claiming.{mode_in-here, mode_in-later}
 

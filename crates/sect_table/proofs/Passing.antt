@@ -5,12 +5,13 @@ use Rattle.std.proofs.{Common.{get_or-set_other}, lemmas.List.{length-set, appen
 use Rattle.std.proofs.lemmas.Bool.{cases_Bool, or_parts}
 use Rattle.std.specs.Prelude.{◌==◌, ◌||◌, if◌then◌else◌}
 use Rattle.sect_modes.specs.{declared.key.Key.{Key}, Key.{is_same_key}}
+use Rattle.sect_modes.proofs.shared.Keys.{key_itself}
 use Rattle.sect_table.specs.{declared.claims.Claim.{Claim}, declared.claims.Hold.{Hold}, declared.claims.Grant.{Grant}}
 use Rattle.sect_table.specs.Contents.{Entry, Contents, number_of, entry_of, put, is_among, may_join, first_of, give}
 use Rattle.sect_table.specs.Contents.{hold_of, grant_of, with_grant, let_in, let_through, give_all}
 use Rattle.sect_table.specs.Sound.{waiting_count}
 use Rattle.sect_table.specs.steps.Letting.{LettingIn}
-use Rattle.sect_table.proofs.shared.{Shown.{key_itself}, Entries.{entry_key, entry_of-put, put-put}}
+use Rattle.sect_table.proofs.shared.Entries.{entry_key, entry_of-put, put-put}
 use Rattle.sect_table.proofs.shared.Passing.{let_through-yes, let_through-no}
 use Rattle.sect_table.proofs.{Shown.{put-here, put-later}, Entries.{number-here, number-later, put-itself}}
 use Rattle.sect_table.proofs.Sounding.{waiting_count-put, sound_of, grant_sound, apart_threads, other_way}

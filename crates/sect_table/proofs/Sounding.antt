@@ -5,12 +5,13 @@ use Rattle.std.proofs.{Common.{get_or-set_other}, lemmas.Bool.{eqb-true, eq-eqb,
 use Rattle.std.proofs.lemmas.List.{length-set, append-nil}
 use Rattle.std.specs.Prelude.{◌==◌, if◌then◌else◌}
 use Rattle.sect_modes.specs.{declared.mode.Mode.{Mode}, declared.key.Key.{Key}, Key.{is_same_key}}
+use Rattle.sect_modes.proofs.shared.Keys.{same_key, key_itself}
 use Rattle.sect_table.specs.{declared.claims.Claim.{Claim}, declared.claims.Hold.{Hold}}
 use Rattle.sect_table.specs.Contents.{Entry, Contents, entry_of, put, is_among, mode_in, mode_for, may_join, stay, give}
 use Rattle.sect_table.specs.Contents.{hold_of, claim_of, with_holder, with_waiter, with_grant, without_holder, AreApart}
 use Rattle.sect_table.specs.Sound.{AreTogether, AreKeysApart, claims_by, waits_of, waiting_count, AreThreadsBelow}
 use Rattle.sect_table.specs.Sound.{AreWaitersBelow, IsSound}
-use Rattle.sect_table.proofs.shared.Shown.{same_key, key_itself, entry_of-here, entry_of-later}
+use Rattle.sect_table.proofs.shared.Shown.{entry_of-here, entry_of-later}
 use Rattle.sect_table.proofs.shared.Entries.{entry_key, entry_of-put, entry_of-put_other, put-put}
 use Rattle.sect_table.proofs.shared.Claiming.{true_or_false, among-append, apart_swap, apart_stay, mode_for-missing}
 use Rattle.sect_table.proofs.shared.Claiming.{mode_for-push, mode_for-push_other, mode_for-stay_other, missing_stay}

@@ -16,11 +16,12 @@ use Rattle.sect_world.specs.Events.{guard_at, fresh_grip, grips_of}
 use Rattle.sect_world.specs.Held.{holds_all, class_mode_in, mode_of_class, is_held_at, is_held, guard_or}
 use Rattle.sect_world.specs.Held.{locked_object_at, locked_object, may_read, may_write, may_make_by}
 use Rattle.sect_lemmas.proofs.Options.{mapped}
-use Rattle.sect_emit.proofs.shared.{Keys.{same_key}, PlanModes.{key_of-injective}, Grips.{held_more, held_one}}
+use Rattle.sect_emit.proofs.shared.{PlanModes.{key_of-injective}, Grips.{held_more, held_one}}
 use Rattle.sect_world.proofs.AllowedChanges.{IsAllowed, sites_stay}
 use Rattle.sect_world.proofs.StepChanges.{is_new, touches, object_at-after, site_stays, global_is_old}
 use Rattle.sect_world.proofs.Holding.{holds_same, holds_append, holding_grows}
 use Rattle.sect_types.proofs.shared.Stores.{same_name-true, same_name-eq}
+use Rattle.sect_modes.proofs.shared.Keys.{same_key}
 use Rattle.sect_modes.specs.declared.key.Key.TheVariants as key
 
 -- the site of an object, if it is there

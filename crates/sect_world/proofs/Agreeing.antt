@@ -14,12 +14,13 @@ use Rattle.sect_table.specs.Contents.{is_waiting, may_join, held_by, first_of, w
 use Rattle.sect_table.specs.Contents.{let_through, without_holder, grant_of, give, give_all, release_key, release_each}
 use Rattle.sect_table.specs.{Contents.{released, AreApart}, Answers.{IsAnswered}}
 use Rattle.sect_table.specs.Sound.{waits_of, AreEntriesApart, IsKept, IsFirstBlocked}
-use Rattle.sect_table.proofs.shared.Shown.{same_key, key_itself, entry_of-here, entry_of-later}
+use Rattle.sect_table.proofs.shared.Shown.{entry_of-here, entry_of-later}
 use Rattle.sect_table.proofs.shared.Entries.{entry_key, entry-new, entry_of-put, entry_of-put_other}
 use Rattle.sect_table.proofs.shared.Claiming.{apart_left, mode_for-here, mode_for-later, mode_for-missing}
 use Rattle.sect_table.proofs.shared.Claiming.{mode_for-stay_other, missing_stay, missing-claims_by}
 use Rattle.sect_table.proofs.shared.Sounding.{waits_at-le, waits_for_none}
 use Rattle.sect_types.specs.Store.{StoreView}
+use Rattle.sect_modes.proofs.shared.Keys.{same_key, key_itself}
 use Rattle.sect_emit.specs.{Plan.{held_mode}, Compiled.{CompiledView}, State.{Entered, ThreadState, State, IsThread}}
 use Rattle.sect_world.specs.{Events.{Happens}, Runs.{RunsTo}, Blocked.{WantsFirst, IsBlocked}}
 use Rattle.sect_world.specs.Waiting.{grips, Asks, AllWaitersAsk}

@@ -8,23 +8,15 @@ use Rattle.sect_modes.specs.{declared.mode.Mode.{Mode}, declared.key.Key.{Key}, 
 use Rattle.sect_modes.specs.Mode.{are_compatible}
 use Rattle.sect_table.specs.{declared.claims.Claim.{Claim}, declared.claims.Hold.{Hold}}
 use Rattle.sect_table.specs.Contents.{mode_in, mode_for, may_join, is_among, stay}
-use Rattle.sect_table.proofs.shared.Shown.{key_itself, same_key as key_of_test}
 use Rattle.sect_table.proofs.shared.Claiming.{true_or_false, mode_in-here, mode_in-later, mode_for-here, mode_for-later}
 use Rattle.sect_emit.specs.{declared.plan.Grip.{Grip}, Plan.{grip, held_mode}}
 use Rattle.sect_world.specs.{Events.{all_but, lets}, Waiting.{grips}}
 use Rattle.sect_lemmas.proofs.Options.{some_injective, none_or_some, mapped}
 use Rattle.sect_lemmas.proofs.Replaced.{get-changed_at, same_number-true, same_number-refl}
-
--- keys, the other way
-pub other_key : (a b : Key) → is_same_key a b ≡ false → is_same_key b a ≡ false
-other_key a b e = elim (cases_Bool (is_same_key b a)) [
-  | inl same ↦ absurd (true_or_false (is_same_key a b)
-      (subst (λ z. is_same_key a z ≡ true) (sym (key_of_test b a same)) (key_itself a)) e)
-  | inr other ↦ other
-]
+use Rattle.sect_modes.proofs.shared.Keys.{key_itself, other_key, same_key}
 
 pub this_key : (a b : Key) → is_same_key a b ≡ true → is_same_key b a ≡ true
-this_key a b e = subst (λ z. is_same_key z a ≡ true) (key_of_test a b e) (key_itself a)
+this_key a b e = subst (λ z. is_same_key z a ≡ true) (same_key a b e) (key_itself a)
 
 -- the mode of a key among grips
 pub held-here : (k : Key) (g : Grip) (gs : List Grip) → is_same_key k g.key ≡ true → held_mode k (g ∷ gs) ≡ Some g.mode

@@ -8,7 +8,7 @@ use Rattle.sect_types.specs.declared.meaning.store.ObjectName.TheVariants.{Made}
 use Rattle.sect_types.specs.Store.{StoreView, row, count}
 use Rattle.sect_world.specs.Kept.{AreGripsKept, IsWellKept}
 use Rattle.sect_lemmas.proofs.{Options.{none_or_some}, Elements.{is_past}}
-use Rattle.sect_table.proofs.shared.Shown.{key_itself}
+use Rattle.sect_modes.proofs.shared.Keys.{key_itself}
 use Rattle.sect_world.specs.steps.Fits.{Fits}
 use Rattle.sect_world.proofs.{Claims.{held-here}, Agreeing.{nobody_claims}}
 

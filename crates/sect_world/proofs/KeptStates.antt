@@ -36,7 +36,7 @@ use Rattle.sect_world.specs.Kept.{AreApart, HaveTheirClass, IsAt, IsThreadKept, 
 use Rattle.sect_world.specs.Held.{class_mode_in, mode_of_class}
 use Rattle.sect_lemmas.proofs.Options.{some_injective, none_or_some}
 use Rattle.sect_lemmas.proofs.Replaced.{at-put_at, length-changed_at, slice_get-map}
-use Rattle.sect_emit.proofs.shared.{Keys.{same_key, key_itself, not_below_itself}, Modes.{sharing_turned}}
+use Rattle.sect_emit.proofs.shared.{Keys.{not_below_itself}, Modes.{sharing_turned}}
 use Rattle.sect_emit.proofs.shared.Grips.{held_split}
 use Rattle.sect_emit.proofs.shared.Plans.{mode_is_there, ascending_mode, ascends_left, ascends_right}
 use Rattle.sect_emit.proofs.shared.PlanModes.{plan_object, plan_object_mode, plan_holds_the_classes, key_of-injective}
@@ -50,6 +50,7 @@ use Rattle.sect_types.proofs.shared.Starts.{first_frame, first_frames-length, se
 use Rattle.sect_types.proofs.shared.TypedPrograms.{program_sound, program_numbered}
 use Rattle.sect_names.proofs.shared.Sounding.{path_there}
 use Rattle.sect_points.proofs.shared.ClassLaws.{path_classes}
+use Rattle.sect_modes.proofs.shared.Keys.{same_key, key_itself}
 use Rattle.sect_points.specs.declared.holders.Variable.TheVariants as variable
 use Rattle.sect_points.specs.declared.holders.Holder.TheVariants as holder
 use Rattle.sect_names.specs.declared.lock.Lock.TheVariants as lock

@@ -9,7 +9,6 @@ use Rattle.sect_modes.specs.{declared.mode.Mode.{Mode}, declared.key.Key.{Key}, 
 use Rattle.sect_table.specs.{declared.claims.Claim.{Claim}, declared.claims.Hold.{Hold}, declared.claims.Grant.{Grant}}
 use Rattle.sect_table.specs.Contents.{Entry, entry_of, put, mode_for, stay, is_among, may_join, let_in, let_through}
 use Rattle.sect_table.specs.{Contents.{without_holder, grant_of, AreApart}, Sound.{waits_of, claims_by}}
-use Rattle.sect_table.proofs.shared.Shown.{same_key, key_itself}
 use Rattle.sect_table.proofs.shared.Entries.{entry_key, entry_of-put, entry_of-put_other, put-put}
 use Rattle.sect_table.proofs.shared.Claiming.{true_or_false, among-append, among_append, among_one, apart_swap}
 use Rattle.sect_table.proofs.shared.Claiming.{apart_stay, mode_for-missing, mode_for-push, mode_for-push_other}
@@ -21,6 +20,7 @@ use Rattle.sect_emit.specs.State.{ThreadState, State, IsThread}
 use Rattle.sect_world.specs.{declared.event.Event.{Event}, Events.{taking, lets_in, all_but, Happens}, Runs.{RunsTo}}
 use Rattle.sect_world.specs.Waiting.{Asks}
 use Rattle.sect_lemmas.proofs.Options.{some_injective}
+use Rattle.sect_modes.proofs.shared.Keys.{same_key, key_itself}
 use Rattle.sect_world.specs.steps.Fits.{FitsBut, takes_first, granted, all_granted, take_of, takes, grants_at}
 use Rattle.sect_world.specs.steps.Fits.{entries_after, grants_of, entries_left}
 use Rattle.sect_world.proofs.Claims.{held-push, held-push_other, joins, all_but_of, lets_of, get-changed_other}

@@ -3,8 +3,9 @@ use Rattle.std.proofs.Common.{◌≡◌, inl, inr, ℕ, ◌+◌, ◌≤◌, List
 use Rattle.std.proofs.lemmas.Bool.{cases_Bool, or_parts}
 use Rattle.std.specs.List.{list_any}
 use Rattle.sect_modes.specs.{declared.key.Key.{Key}, Key.{is_same_key}}
+use Rattle.sect_modes.proofs.shared.Keys.{same_key}
 use Rattle.sect_table.specs.{Contents.{Entry, entry_of, put, is_among}, Sound.{claims_by, waits_of}}
-use Rattle.sect_table.proofs.shared.Shown.{same_key, entry_of-here, entry_of-later}
+use Rattle.sect_table.proofs.shared.Shown.{entry_of-here, entry_of-later}
 use Rattle.sect_table.proofs.shared.Entries.{entry_of-put, entry_of-put_other}
 use Rattle.sect_table.proofs.{Shown.{put-here, put-later}, Claiming.{claims_by-missing}}
 

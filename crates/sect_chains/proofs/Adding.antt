@@ -8,6 +8,7 @@ use Rattle.sect_lemmas.proofs.{Listing.{Has-map}, Places.{at_of, pushed_at, Has-
 use Rattle.sect_graph.specs.{declared.flow.Node.{Node}, Paths.{LeadsTo}}
 use Rattle.sect_names.specs.{declared.link.Link.{Link}, declared.lock.Lock.{Lock}, Schemes.{SchemeView}}
 use Rattle.sect_names.specs.{Order.{AreInOrder}, Carrying.{CarriedBack}, Chains.{link, IsGeneratedAt}}
+use Rattle.sect_names.proofs.shared.Linking.{same_link}
 use Rattle.sect_infer.specs.Numberings.{NumberingView, AreNumbers, IsNumbered, Finds, IsOrderOf, lock_at}
 use Rattle.sect_infer.proofs.shared.Bounding.{named}
 use Rattle.sect_chains.specs.{declared.keep.KeptLink.{KeptLink}, Chains.{StepBefore}}
@@ -16,7 +17,6 @@ use Rattle.sect_chains.specs.steps.Working.{link_of, links_of, nexts_of, IsKept,
 use Rattle.sect_chains.specs.steps.Ordering.{CameBefore, AreSorted, AllCameBefore, IsInTime, Adds, IsBelow}
 use Rattle.sect_chains.proofs.Carrying.{carried_lock}
 use Rattle.sect_chains.proofs.Growing.{grows_one, grows_at, grows_extended, reason_more, links_same, kept_numbers}
-use Rattle.sect_chains.proofs.Growing.{same_link}
 use Rattle.sect_names.specs.declared.lock.Lock.TheVariants as lock
 
 -- of two steps that link to the same one the first came before the other

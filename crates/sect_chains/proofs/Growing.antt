@@ -10,6 +10,7 @@ use Rattle.sect_lemmas.proofs.Elements.{slice_get-left, get_front}
 use Rattle.sect_graph.specs.declared.flow.Node.{Node}
 use Rattle.sect_names.specs.{declared.link.Link.{Link}, declared.lock.Lock.{Lock}, Schemes.{SchemeView}, Chains.{link}}
 use Rattle.sect_names.proofs.shared.Covering.{covers_refl, covers_trans}
+use Rattle.sect_names.proofs.shared.Linking.{same_link}
 use Rattle.sect_infer.specs.Numbers.{AreApart}
 use Rattle.sect_infer.specs.Numberings.{NumberingView, HasLock, IsNumbering, Extends, lock_at}
 use Rattle.sect_infer.proofs.shared.{Apart.{apart_push, apart_one}, Bounding.{named}}
@@ -24,10 +25,6 @@ use Rattle.sect_chains.specs.steps.Working.{link_of, links_of, nexts_of, IsFound
 use Rattle.sect_chains.specs.steps.Working.{Grows}
 use Rattle.sect_chains.proofs.{Keeping.{found_new, new_told, old_told}, Trails.{leads_push}}
 use Rattle.sect_names.specs.declared.lock.Lock.TheVariants as lock
-
--- a step is its node and its lock
-pub same_link : (x : Link) (j : ℕ) (l : Lock) → x.node ≡ j → x.lock ≡ l → x ≡ link j l
-same_link x j l e f = ap (λ n. link n x.lock) e ∙ ap (link j) f
 
 -- steps stand for the same where the numbering is extended
 pub links_same : (a b : NumberingView) → Extends a b → (steps : List KeptLink)

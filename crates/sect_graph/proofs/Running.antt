@@ -1,5 +1,5 @@
 -- Each node does the first step of what is still to run there.
-use Rattle.std.proofs.Common.{◌≡◌, ℕ, zero, suc, ◌+◌, ◌-◌, ◌<◌, ◌≤◌, List, [], ◌++◌, Some, None, refl, sym, ap, ◌∙◌}
+use Rattle.std.proofs.Common.{◌≡◌, ℕ, zero, suc, ◌+◌, ◌-◌, ◌<◌, List, [], ◌++◌, Some, None, refl, sym, ap, ◌∙◌}
 use Rattle.std.proofs.{Common.{subst, inl, inr, arith, length}, lemmas.Bool.{cases_lt, lt-ltb, le-ltb}}
 use Rattle.std.proofs.lemmas.Option.{slice_get_past}
 use Rattle.std.specs.Prelude.{slice_get}
@@ -9,20 +9,7 @@ use Rattle.sect_types.proofs.shared.Joining.{joined_stop}
 use Rattle.sect_graph.specs.{declared.flow.Node.{Node}, Layout.{entry_of, nodes_of}}
 use Rattle.sect_graph.specs.Rests.{rest_before, rest_at, Begins, RunsRests}
 use Rattle.sect_graph.proofs.Paths.{HasAt, has_front, has_all, behind, length-nodes_of}
-
--- behind the last node k is to run
-past : (c : TextView) (j : ℕ) (k : TextView) → node_count c ≤ j → rest_before c j k ≡ k
-past Stop j k h = refl
-past (Do a r) zero k h = absurd (omega arith)
-past (Do a r) (suc j) k h = past r j k (omega arith)
-past (Choose t p q r) zero k h = absurd (omega arith)
-past (Choose t p q r) (suc j) k h =
-    rw (le-ltb j (node_count p) (omega arith), le-ltb (j - node_count p) (node_count q) (omega arith))
-    (past r (j - node_count p - node_count q) k (omega arith))
-past (Loop t p r) zero k h = absurd (omega arith)
-past (Loop t p r) (suc j) k h = rw (le-ltb j (node_count p) (omega arith)) (past r (j - node_count p) k (omega arith))
-past (Section i p r) zero k h = absurd (omega arith)
-past (Section i p r) (suc j) k h = past r j k (omega arith)
+use Rattle.sect_graph.proofs.shared.Rests.{past_end}
 
 -- what is to run at the nodes from n on is what the statements say
 abbrev Says : (ℕ → TextView) → TextView → ℕ → TextView → Type 0
@@ -182,7 +169,7 @@ runs_rests c g is =
     record {
       start = at_start c ∙ joined_stop c;
       begins = λ j x at. begins g (rest_at c) c 0 (node_count c) Stop has (λ i lt. ap (rest_at c) (omega arith))
-          (past c (node_count c) Stop (omega arith)) j (omega (arith, len, within g j x at)) x
+          (past_end c (node_count c) Stop (omega arith)) j (omega (arith, len, within g j x at)) x
           (subst (λ i. slice_get g i ≡ Some x) (omega arith) at);
-      end = ap (rest_at c) len ∙ past c (node_count c) Stop (omega arith);
+      end = ap (rest_at c) len ∙ past_end c (node_count c) Stop (omega arith);
     }

@@ -12,7 +12,7 @@ use Rattle.sect_front.specs.steps.Recognition.{keyword_of, keyword_table, token_
 use Rattle.sect_front.specs.steps.Recognition.{as_number, single_sign, double_sign, sign_token, spelled}
 use Rattle.sect_front.proofs.{Choices.{chosen, if_some_so}, NamesLemmas.{named, is_named, keyword_known, keyword_free}}
 use Rattle.sect_front.proofs.Numbers.{number_decimal, number_back, decimal_digits, decimal_some}
-use Rattle.sect_lemmas.proofs.Options.{some_injective, none_or_some}
+use Rattle.sect_lemmas.proofs.Options.{some_injective, none_or_some, not_some}
 use Rattle.sect_front.specs.declared.tree.Comparison.TheVariants as comparison
 use Rattle.sect_front.specs.declared.token.Token.TheVariants as token
 
@@ -20,16 +20,12 @@ use Rattle.sect_front.specs.declared.token.Token.TheVariants as token
 no_letter : (d : ℕ) → is_digit d ≡ true → is_letter d ≡ false
 no_letter d h = grind (arith, nat_tests)
 
-no_keyword : (o : Option Token) → is_some o ≡ false → o ≡ None
-no_keyword None h = refl
-no_keyword (Some t) h = cc
-
 name_spelled : (n : List ℕ) → is_name n ≡ true → spelled n ≡ Some (token.Name n)
 name_spelled [] h = cc
 name_spelled (b ∷ bs) h =
     let m = named (b ∷ bs) h in
     let all = and_parts (is_name_byte b) (list_all is_name_byte bs) m.all in
-    let none : keyword_of (b ∷ bs) ≡ None = no_keyword (keyword_of (b ∷ bs)) (keyword_known (b ∷ bs) ∙ m.free) in
+    let none : keyword_of (b ∷ bs) ≡ None = not_some (keyword_of (b ∷ bs)) (keyword_known (b ∷ bs) ∙ m.free) in
     let short = lt-ltb (length bs) most_name_bytes (omega (arith, m.fits)) in
     rw (m.letter, all.1, short) (ap (λ o. Some (or_name o (b ∷ bs))) none)
 

@@ -1,8 +1,9 @@
 -- Each node does the first step of what is still to run there.
-use Rattle.std.proofs.Common.{◌≡◌, ℕ, zero, suc, ◌+◌, ◌-◌, ◌<◌, List, [], ◌++◌, Some, None, refl, sym, ap, ◌∙◌}
+use Rattle.std.proofs.Common.{◌≡◌, ℕ, zero, suc, ◌+◌, ◌-◌, ◌<◌, List, [], ◌++◌, Some, refl, sym, ap, ◌∙◌}
 use Rattle.std.proofs.{Common.{subst, inl, inr, arith, length}, lemmas.Bool.{cases_lt, lt-ltb, le-ltb}}
-use Rattle.std.proofs.lemmas.Option.{slice_get_past}
+use Rattle.std.proofs.lemmas.Option.{slice_get_within}
 use Rattle.std.specs.Prelude.{slice_get}
+use Rattle.sect_lemmas.proofs.Places.{one_at}
 use Rattle.sect_types.specs.declared.expansion.action.Condition.{Condition}
 use Rattle.sect_types.specs.{Statements.{TextView, Stop, Do, Choose, Loop, Section, joined}, Traces.{node_count}}
 use Rattle.sect_types.proofs.shared.Joining.{joined_stop}
@@ -23,9 +24,6 @@ at_entry rest (Do a r) n next k says on = ap rest (omega arith) ∙ says 0 (omeg
 at_entry rest (Choose t p q r) n next k says on = ap rest (omega arith) ∙ says 0 (omega arith)
 at_entry rest (Loop t p r) n next k says on = ap rest (omega arith) ∙ says 0 (omega arith)
 at_entry rest (Section i p r) n next k says on = ap rest (omega arith) ∙ says 0 (omega arith)
-
-same : (g : List Node) (i : ℕ) (x y : Node) → slice_get g i ≡ Some x → slice_get g i ≡ Some y → x ≡ y
-same g i x y e f = cc
 
 -- what is to run at the nodes of the parts of an `if`
 says_holds : (rest : ℕ → TextView) (t : Condition) (p q r : TextView) (n : ℕ) (k : TextView)
@@ -66,12 +64,6 @@ says_past rest t p r n k says i lt =
     ap rest (omega arith) ∙ says (suc (node_count p + i)) (omega arith)
     ∙ rw (le-ltb (node_count p + i) (node_count p) (omega arith), e) refl
 
-within : (g : List Node) (j : ℕ) (x : Node) → slice_get g j ≡ Some x → j < length g
-within g j x at = elim (cases_lt j (length g)) [
-  | inl lt ↦ lt
-  | inr ge ↦ (let e : slice_get g j ≡ None = slice_get_past g j ge in absurd cc)
-]
-
 begins : (g : List Node) (rest : ℕ → TextView) (c : TextView) (n next : ℕ) (k : TextView)
     → HasAt g n (nodes_of c n next)
     → Says rest c n k → rest next ≡ k
@@ -81,7 +73,7 @@ begins g rest (Do a r) n next k has says on zero lt x at =
     let after = entry_of r (n + 1) next in
     let says' : Says rest r (n + 1) k = λ j lt. ap rest (omega arith) ∙ says (suc j) (omega arith) in (
       after,
-      same g n x _ (subst (λ i. slice_get g i ≡ Some x) (omega arith) at) has.0,
+      one_at g n x _ (subst (λ i. slice_get g i ≡ Some x) (omega arith) at) has.0,
       at_entry rest r (n + 1) next k says' on,
     )
 begins g rest (Do a r) n next k has says on (suc j) lt x at =
@@ -91,7 +83,7 @@ begins g rest (Section i p r) n next k has says on zero lt x at =
     let after = entry_of r (n + 1) next in
     let says' : Says rest r (n + 1) k = λ j lt. ap rest (omega arith) ∙ says (suc j) (omega arith) in (
       after,
-      same g n x _ (subst (λ i. slice_get g i ≡ Some x) (omega arith) at) has.0,
+      one_at g n x _ (subst (λ i. slice_get g i ≡ Some x) (omega arith) at) has.0,
       at_entry rest r (n + 1) next k says' on,
     )
 begins g rest (Section i p r) n next k has says on (suc j) lt x at =
@@ -103,7 +95,7 @@ begins g rest (Choose t p q r) n next k has says on zero lt x at =
     let on' = at_entry rest r end next k (says_behind rest t p q r n k says) on in (
       entry_of p (n + 1) after,
       entry_of q (n + 1 + node_count p) after,
-      same g n x _ (subst (λ i. slice_get g i ≡ Some x) (omega arith) at) has.0,
+      one_at g n x _ (subst (λ i. slice_get g i ≡ Some x) (omega arith) at) has.0,
       at_entry rest p (n + 1) after (joined r k) (says_holds rest t p q r n k says) on',
       at_entry rest q (n + 1 + node_count p) after (joined r k) (says_fails rest t p q r n k says) on',
     )
@@ -134,7 +126,7 @@ begins g rest (Loop t p r) n next k has says on zero lt x at =
     let end = n + 1 + node_count p in (
       entry_of p (n + 1) n,
       entry_of r end next,
-      same g n x _ (subst (λ i. slice_get g i ≡ Some x) (omega arith) at) has.0,
+      one_at g n x _ (subst (λ i. slice_get g i ≡ Some x) (omega arith) at) has.0,
       at_entry rest p (n + 1) n (Loop t p (joined r k)) (says_body rest t p r n k says)
           (ap rest (omega arith) ∙ says zero (omega arith)),
       at_entry rest r end next k (says_past rest t p r n k says) on,
@@ -169,7 +161,7 @@ runs_rests c g is =
     record {
       start = at_start c ∙ joined_stop c;
       begins = λ j x at. begins g (rest_at c) c 0 (node_count c) Stop has (λ i lt. ap (rest_at c) (omega arith))
-          (past_end c (node_count c) Stop (omega arith)) j (omega (arith, len, within g j x at)) x
+          (past_end c (node_count c) Stop (omega arith)) j (omega (arith, len, slice_get_within g j x at)) x
           (subst (λ i. slice_get g i ≡ Some x) (omega arith) at);
       end = ap (rest_at c) len ∙ past_end c (node_count c) Stop (omega arith);
     }

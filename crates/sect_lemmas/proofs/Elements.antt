@@ -98,3 +98,11 @@ pub repeated : {A : Type 0} (k n : ℕ) (x : A) → get_or (replicate k x) n x �
 repeated zero n x = refl
 repeated (suc k) zero x = refl
 repeated (suc k) (suc n) x = repeated k n x
+
+-- what is left of a list from a place on begins with what stands there
+pub at_front : {A : Type 0} (xs : List A) (n : ℕ) (x : A) (rest : List A) → drop n xs ≡ x ∷ rest
+    → slice_get xs n ≡ Some x
+at_front [] zero x rest e = absurd cc
+at_front [] (suc n) x rest e = absurd cc
+at_front (y ∷ xs) zero x rest e = let same : y ≡ x = cc in ap (λ z. Some z) same
+at_front (y ∷ xs) (suc n) x rest e = at_front xs n x rest e

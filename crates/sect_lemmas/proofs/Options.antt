@@ -1,6 +1,6 @@
 -- What may be there or not.
-use Rattle.std.proofs.Common.{◌≡◌, sym, ap, subst, Option, Some, None, refl}
-use Rattle.std.specs.Prelude.{⊤, option_map}
+use Rattle.std.proofs.Common.{◌≡◌, sym, ap, subst, Option, Some, None, refl, false, true≢false}
+use Rattle.std.specs.Prelude.{⊤, option_map, is_some}
 
 -- something is there
 abbrev pub IsThere : {A : Type 0} → Option A → Type 0
@@ -30,3 +30,8 @@ pub map_part : {A B : Type 0} (g : A → B) (o : Option A) (y : B) → option_ma
     → (x : A) × (o ≡ Some x) × (g x ≡ y)
 map_part g (Some x) y e = (x, refl, some_injective (g x) y e)
 map_part g None y e = absurd (none_or_some y e)
+
+-- what is not there is none
+pub not_some : {A : Type 0} (o : Option A) → is_some o ≡ false → o ≡ None
+not_some None e = refl
+not_some (Some x) e = absurd (true≢false e)

@@ -3,6 +3,7 @@ use Rattle.std.proofs.Common.{◌≡◌, ℕ, zero, suc, ◌+◌, List, [], ◌�
 use Rattle.std.proofs.Common.{refl, sym, ap, ◌∙◌, subst}
 use Rattle.std.specs.{Option.{option_or}, Prelude.{slice_index_or}}
 use Rattle.sect_lemmas.proofs.Options.{none_or_some, some_injective, map_part}
+use Rattle.sect_lemmas.proofs.Elements.{at_front}
 use Rattle.sect_front.specs.TreeView.{TreeView}
 use Rattle.sect_front.specs.Syntax.{StatementView, BlockView, Primitive, If, IfElse, While, Atomic, Call, End, Then}
 use Rattle.sect_front.specs.{declared.tree.Declaration.{Declaration}, declared.tree.Operand.{Operand}}
@@ -34,19 +35,12 @@ labels_joined (Choose c p q k) y w = ap (λ l. Test c ∷ labels p (labels q l))
 labels_joined (Loop c p k) y w = ap (λ l. Test c ∷ labels p l) (labels_joined k y w)
 labels_joined (Section i p k) y w = ap (λ l. WholeSection i ∷ l) (labels_joined k y w)
 
--- what stands there
-pub item_at : (all : List Item) (n : ℕ) (x : Item) (w : List Item) → drop n all ≡ x ∷ w → slice_get all n ≡ Some x
-item_at [] zero x w h = cc
-item_at [] (suc n) x w h = cc
-item_at (y ∷ all) zero x w h = cc
-item_at (y ∷ all) (suc n) x w h = item_at all n x w h
-
 module _ (t : TreeView) where
   node_from : (label : Label) (call : Option ℕ) (m : ℕ) (item : Item) (w : List Item) (ls : List Label)
       (os : List Origin) → drop m (items t) ≡ item ∷ w → Says t item label → IsCall t call → AreFrom t ls os
       → AreFrom t (label ∷ ls) (origin call m ∷ os)
   node_from label call m item w ls os h says c k =
-      (record { item = item; there = item_at (items t) m item w h; says = says; called = c }, k)
+      (record { item = item; there = at_front (items t) m item w h; says = says; called = c }, k)
 
   -- the assignments to parameters come from the parameters
   set_from : (v : Scene) (x m : ℕ) (ds es : List Declaration) (us : List Operand) (before : List (List ℕ))
@@ -81,7 +75,7 @@ module _ (t : TreeView) where
   pub still_call : (call : Option ℕ) (m : ℕ) (f : List ℕ) (vs : List Operand) (ls : List Declaration) (at : Place)
       (w : List Item) → drop m (items t) ≡ AStatement (CallHead f vs) ls at ∷ w → IsCall t call
       → IsCall t (option_or call (Some m))
-  still_call None m f vs ls at w h c = (f, vs, ls, at, item_at (items t) m (AStatement (CallHead f vs) ls at) w h)
+  still_call None m f vs ls at w h c = (f, vs, ls, at, at_front (items t) m (AStatement (CallHead f vs) ls at) w h)
   still_call (Some n) m f vs ls at w h c = c
 
   -- the nodes that stand for a call come from these

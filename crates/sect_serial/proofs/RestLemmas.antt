@@ -73,13 +73,6 @@ pub rest_push : (ks : List TextView) (k : TextView) → rest_of (ks ++ k ∷ [])
 rest_push [] k = sym (joined_stop k)
 rest_push (x ∷ ks) k = ap (λ r. joined r x) (rest_push ks k) ∙ joined_again k (rest_of ks) x
 
--- the parts before the last stay
-pub take_set : (ks : List TextView) (n : ℕ) (k : TextView) → take n (slice_set ks n k) ≡ take n ks
-take_set [] zero k = refl
-take_set [] (suc n) k = refl
-take_set (x ∷ ks) zero k = refl
-take_set (x ∷ ks) (suc n) k = ap (λ r. x ∷ r) (take_set ks n k)
-
 -- the last part is not empty
 pub full_last : (ks : List TextView) (n : ℕ) (k : TextView) → AreFull ks → slice_get ks n ≡ Some k → is_stop k ≡ false
 full_last [] n k f g = absurd (cc)

@@ -152,13 +152,6 @@ pub read_call : (ps : List Procedure) (n : ℕ) (all : List ℕ) (i : ℕ) → i
 read_call ps n all i lt e =
     subst (λ x. IsAmong x (slice_index_or all i 0)) e (among_at all i (slice_index_or all i 0) (read_at all i lt))
 
--- a row of callers that was read
-pub read_row : (callers : List (List ℕ)) (q : ℕ) (row : List ℕ) → q < length callers → row ≡ get_or callers q row
-    → row ≡ callers_of callers q
-read_row [] q row lt at = absurd (omega (arith, lt))
-read_row (c ∷ callers) zero row lt at = at
-read_row (c ∷ callers) (suc q) row lt at = read_row callers q row (omega (arith, lt)) at
-
 -- one empty row more
 pub empty_row : (callers : List (List ℕ)) → ((q : ℕ) → callers_of callers q ≡ []) → (q : ℕ)
     → callers_of (callers ++ [] ∷ []) q ≡ []

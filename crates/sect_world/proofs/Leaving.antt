@@ -23,10 +23,11 @@ use Rattle.sect_world.specs.Viewing.{text_at, position_of, frame_of, thread_of, 
 use Rattle.sect_world.specs.steps.Fits.{Fits, takes_first, all_granted, takes, given_to, grants_of}
 use Rattle.sect_world.specs.steps.Taking.{CanAdvance, advanced, advanced_at, all_advanced, takers}
 use Rattle.sect_world.proofs.Agreeing.{ReleaseLeads, no_waiter, out_fits, release_leads, released_as}
-use Rattle.sect_world.proofs.{Claims.{changed-put}, KeptStates.{runs_are_well_kept}, Letting.{taken, leads_append}}
+use Rattle.sect_world.proofs.{Claims.{changed-put}, KeptStates.{runs_are_well_kept}, Letting.{taken}}
 use Rattle.sect_world.proofs.LongerRuns.{order_of-append}
 use Rattle.sect_world.proofs.Viewing.{Seen, seen, state_granted, states_granted, replaced_threads, world_fits}
 use Rattle.sect_world.proofs.Viewing.{each_advanced, first_dropped, TurnsInto}
+use Rattle.sect_world.proofs.shared.LongerRuns.{leads_on}
 use Rattle.sect_world.specs.declared.runner.Phase.TheVariants as phase
 
 length-advanced : (gs : List Grant) (rs : List Runner) → length (all_advanced gs rs) ≡ length rs
@@ -136,7 +137,7 @@ gives_back c fuel trace order store output output' rs table w t d text th r text
       (λ e. not_entered (sym (ap (position_of c) out) ∙ e));
   world = λ table' held entries kept. record {
     compiled = w.compiled;
-    run = leads_append c (start c fuel) s (state_of c store output' (all_advanced gs (put_at t r rs)) table'.held) trace
+    run = leads_on c (start c fuel) s (state_of c store output' (all_advanced gs (put_at t r rs)) table'.held) trace
         (e ∷ takes gs) w.run (runs table' held);
     ordered = ap (λ z. z ++ leaver t d) w.ordered
         ∙ (ap (λ z. order_of trace ++ z)

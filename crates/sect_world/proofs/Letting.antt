@@ -12,19 +12,20 @@ use Rattle.sect_table.specs.{Contents.{without_holder, grant_of, AreApart}, Soun
 use Rattle.sect_table.proofs.shared.Entries.{entry_key, entry_of-put, entry_of-put_other, put-put}
 use Rattle.sect_table.proofs.shared.Claiming.{true_or_false, among-append, among_append, among_one, apart_swap}
 use Rattle.sect_table.proofs.shared.Claiming.{apart_stay, mode_for-missing, mode_for-push, mode_for-push_other}
-use Rattle.sect_table.proofs.shared.Claiming.{missing_stay, missing-claims_by, claims_by-drop}
+use Rattle.sect_table.proofs.shared.Claiming.{missing_stay, missing-claims_by, claims_by-drop, stay-missing}
 use Rattle.sect_table.proofs.shared.Sounding.{put_all, waits_of-put, waits_at-le}
 use Rattle.sect_table.proofs.shared.Passing.{let_through-yes, let_through-no}
 use Rattle.sect_emit.specs.{declared.plan.Grip.{Grip}, Plan.{grip, held_mode}, Compiled.{CompiledView}}
 use Rattle.sect_emit.specs.State.{ThreadState, State, IsThread}
-use Rattle.sect_world.specs.{declared.event.Event.{Event}, Events.{taking, lets_in, all_but, Happens}, Runs.{RunsTo}}
+use Rattle.sect_world.specs.{Events.{taking, lets_in, all_but, Happens}, Runs.{RunsTo}}
 use Rattle.sect_world.specs.Waiting.{Asks}
 use Rattle.sect_lemmas.proofs.Options.{some_injective}
 use Rattle.sect_modes.proofs.shared.Keys.{same_key, key_itself}
 use Rattle.sect_world.specs.steps.Fits.{FitsBut, takes_first, granted, all_granted, take_of, takes, grants_at}
 use Rattle.sect_world.specs.steps.Fits.{entries_after, grants_of, entries_left}
 use Rattle.sect_world.proofs.Claims.{held-push, held-push_other, joins, all_but_of, lets_of, get-changed_other}
-use Rattle.sect_world.proofs.Claims.{get-changed_here, changed-put, not_claiming, stay-missing}
+use Rattle.sect_world.proofs.Claims.{get-changed_here, changed-put, not_claiming}
+use Rattle.sect_world.proofs.shared.LongerRuns.{leads_on}
 
 abbrev entry : Key → List Claim → List Claim → Entry
 entry k hs ws = record { key = k; holders = hs; waiters = ws }
@@ -247,12 +248,6 @@ grant_fits t es s k hs w ws f out ne is = put_fits t k (entry k (hs ++ w ∷ [])
   o : FirstOut es k hs w ws
   o = first_out t es s k hs w ws f is
 
--- the events, one after another
-pub leads_append : (c : CompiledView) (s between after : State) (xs ys : List Event) → RunsTo c s xs between
-    → RunsTo c between ys after → RunsTo c s (xs ++ ys) after
-leads_append c s between after [] ys a b = subst (λ z. RunsTo c z ys after) (sym a) b
-leads_append c s between after (x ∷ xs) ys a b = (a.0, a.1, leads_append c a.0 between after xs ys a.2 b)
-
 pub granted-append : (xs ys : List Grant) (s : State) → all_granted (xs ++ ys) s ≡ all_granted ys (all_granted xs s)
 granted-append [] ys s = refl
 granted-append (x ∷ xs) ys s = granted-append xs ys (granted x s)
@@ -407,7 +402,7 @@ keys_let_in c t (h ∷ hs) es s f none =
     let same : all_granted (gs ++ more) s ≡ all_granted more s1 = granted-append gs more s in
     record {
       leads = subst (λ z. RunsTo c s z (all_granted (gs ++ more) s)) (sym (map-append take_of gs more))
-          (leads_append c s s1 (all_granted (gs ++ more) s) (takes gs) (takes more) one.leads
+          (leads_on c s s1 (all_granted (gs ++ more) s) (takes gs) (takes more) one.leads
           (subst (λ z. RunsTo c s1 (takes more) z) (sym same) rest.leads));
       fits = subst (λ z. FitsBut t (entries_left t (h ∷ hs) es) z) (sym same) rest.fits;
     }

@@ -143,3 +143,10 @@ pub claims_by-drop : (t n : ℕ) (xs : List Claim) → claims_by t (drop n xs) �
 claims_by-drop t zero xs = omega arith
 claims_by-drop t (suc n) [] = omega arith
 claims_by-drop t (suc n) (x ∷ xs) = let rest = claims_by-drop t n xs in omega arith
+
+-- the claims of a thread that has none there are all that there are
+pub stay-missing : (t : ℕ) (cs : List Claim) → is_among t cs ≡ false → stay t cs ≡ cs
+stay-missing t [] e = refl
+stay-missing t (c ∷ cs) e =
+    let both = or_parts (c.thread == t) (is_among t cs) e in
+    ap (λ b. if not b then c ∷ stay t cs else stay t cs) both.0 ∙ ap (λ z. c ∷ z) (stay-missing t cs both.1)

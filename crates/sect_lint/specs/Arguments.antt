@@ -3,11 +3,12 @@ use Rattle.std.specs.Prelude.{ℕ, Bool, true, false, if◌then◌else◌, List,
 use Rattle.std.specs.{Prelude.{drop}, Cmp.Lexicographic.{pointwise}}
 use Rattle.sect_front.specs.{declared.span.Span.{Span}, declared.token.Token.{Token}, declared.tree.Kind.{Kind}}
 use Rattle.sect_front.specs.{declared.tree.Declaration.{Declaration}, declared.tree.Procedure.{Procedure}}
+use Rattle.sect_types.specs.Rules.{procedure_at}
 use Rattle.sect_places.specs.{declared.name_use.NameSpan.{NameSpan}, Declarations.{procedure_of}}
 use Rattle.sect_lint.specs.{declared.diagnostic.Typed.{Typed}, declared.diagnostic.Detail.{Detail}}
 use Rattle.sect_lint.specs.{declared.arguments.Call.{Call}, Naming.{found, variable, type_by}}
 use Rattle.sect_lint.specs.{Typing.{shape_of, variable_in, value_shape, typed_by, types_detail, two}, Forms.{form_of}}
-use Rattle.sect_lint.specs.{declared.form.Form.{Form}, Counting.{called_at, procedure_at}}
+use Rattle.sect_lint.specs.{declared.form.Form.{Form}, Counting.{called_at}}
 use Rattle.sect_front.specs.declared.token.Token.TheVariants as token
 use Rattle.sect_front.specs.declared.tree.Kind.TheVariants as kind
 use Rattle.sect_lint.specs.declared.diagnostic.Detail.TheVariants as detail

@@ -10,7 +10,7 @@ use Rattle.sect_lemmas.proofs.Replaced.{length-changed_at, length-put_at, put_ot
 use Rattle.sect_table.specs.{declared.claims.Hold.{Hold}, declared.claims.Grant.{Grant}}
 use Rattle.sect_table.specs.Contents.{Contents, give, hold_of, held_by, is_waiting, released}
 use Rattle.sect_table.specs.Sound.{IsKept as IsTableKept}
-use Rattle.sect_emit.specs.{Plan.{grip}, Compiled.{CompiledView, program_of}}
+use Rattle.sect_emit.specs.{Plan.{grip}, Compiled.{CompiledView, program_of}, Graphed.{text_at}}
 use Rattle.sect_emit.specs.State.{Entered, Outside, Position, ThreadState, State, IsThread, start, with_thread}
 use Rattle.sect_world.specs.{declared.event.Deed.{Deed}, declared.event.Deed.TheVariants.{Again, Leave}}
 use Rattle.sect_world.specs.{declared.event.Event.{Event}, declared.runner.Runner.{Runner}}
@@ -19,7 +19,7 @@ use Rattle.sect_world.specs.{Runs.{RunsTo, order_of, leaver}, Kept.{IsPlaced}}
 use Rattle.sect_world.specs.declared.turned.Turned.TheVariants.{Moved}
 use Rattle.sect_world.specs.Worlds.{AreTakesOfOthers, MayFollow, kind_of, threads_of as threads_in}
 use Rattle.sect_world.specs.Waiting.{AllWaitersAsk}
-use Rattle.sect_world.specs.Viewing.{text_at, position_of, frame_of, thread_of, threads_of, state_of, IsSited, IsWorld}
+use Rattle.sect_world.specs.Viewing.{position_of, frame_of, thread_of, threads_of, state_of, IsSited, IsWorld}
 use Rattle.sect_world.specs.steps.Fits.{Fits, takes_first, all_granted, takes, given_to, grants_of}
 use Rattle.sect_world.specs.steps.Taking.{CanAdvance, advanced, advanced_at, all_advanced, takers}
 use Rattle.sect_world.proofs.Agreeing.{ReleaseLeads, no_waiter, out_fits, release_leads, released_as}

@@ -15,10 +15,10 @@ use Rattle.sect_graph.specs.Rests.{Begins, rest_at}
 use Rattle.sect_graph.proofs.shared.Rests.{past_end}
 use Rattle.sect_table.specs.{declared.claims.Hold.{Hold}, Contents.{Contents, held_by, hold_of}}
 use Rattle.sect_emit.specs.{declared.plan.Grip.{Grip}, Plan.{grip}, Compiled.{CompiledView, IsCompiled, program_of}}
-use Rattle.sect_emit.specs.State.{ThreadState, Running, Faulted}
+use Rattle.sect_emit.specs.{State.{ThreadState, Running, Faulted}, Graphed.{text_at}}
 use Rattle.sect_world.specs.{declared.runner.Phase.{Phase}, declared.runner.Runner.{Runner}}
 use Rattle.sect_world.specs.{Events.{acting, changed_by}, Kept.{IsTextOf}, Waiting.{grips}}
-use Rattle.sect_world.specs.Viewing.{body_in, body_at, text_at, thread_of}
+use Rattle.sect_world.specs.Viewing.{body_in, body_at, thread_of}
 use Rattle.sect_world.specs.steps.Moves.{Goes, IsStep, HoldsMore, StepsLocally, chosen, grips_by}
 use Rattle.sect_world.proofs.LocalSteps.{local_looks, local_quiet, IsQuiet}
 use Rattle.sect_world.specs.declared.runner.Phase.TheVariants as phase

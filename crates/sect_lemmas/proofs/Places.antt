@@ -62,14 +62,6 @@ zipped_at R (x ∷ xs) [] h i y at = absurd h
 zipped_at R (x ∷ xs) (z ∷ ys) h zero y at = let same : z ≡ y = cc in (x, refl, subst (R x) same h.0)
 zipped_at R (x ∷ xs) (z ∷ ys) h (suc i) y at = zipped_at R xs ys h.1 i y at
 
--- lists that are related element by element have as many
-pub zip_length : {A B : Type 0} (R : A → B → Type 0) (xs : List A) (ys : List B) → AllZip R xs ys
-    → length xs ≡ length ys
-zip_length R [] [] h = refl
-zip_length R [] (y ∷ ys) h = absurd h
-zip_length R (x ∷ xs) [] h = absurd h
-zip_length R (x ∷ xs) (y ∷ ys) h = ap suc (zip_length R xs ys h.1)
-
 -- what holds of all holds at each place
 pub each_at : {A : Type 0} (P : A → Type 0) (xs : List A) → AllByRecursion P xs → (i : ℕ) (x : A)
     → slice_get xs i ≡ Some x → P x

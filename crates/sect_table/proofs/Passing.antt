@@ -2,7 +2,7 @@
 use Rattle.std.proofs.Common.{◌≡◌, inl, inr, ℕ, suc, ◌+◌, ◌<◌, ◌≤◌, List, [], ◌∷◌, ◌++◌, length, map, drop, get_or, set}
 use Rattle.std.proofs.Common.{true, false, Some, None, refl, sym, ◌∙◌, ap, subst, arith, append_assoc, length-append}
 use Rattle.std.proofs.{Common.{get_or-set_other}, lemmas.List.{length-set, append-nil, set_comm}}
-use Rattle.std.proofs.lemmas.Bool.{cases_Bool, or_parts}
+use Rattle.std.proofs.lemmas.Bool.{cases_Bool, or_parts, eqb-false}
 use Rattle.std.specs.Prelude.{◌==◌, ◌||◌, if◌then◌else◌}
 use Rattle.sect_modes.specs.{declared.key.Key.{Key}, Key.{is_same_key}}
 use Rattle.sect_modes.proofs.shared.Keys.{key_itself}
@@ -14,7 +14,7 @@ use Rattle.sect_table.specs.steps.Letting.{LettingIn}
 use Rattle.sect_table.proofs.shared.Entries.{entry_key, entry_of-put, put-put}
 use Rattle.sect_table.proofs.shared.Passing.{let_through-yes, let_through-no}
 use Rattle.sect_table.proofs.{Shown.{put-here, put-later}, Entries.{number-here, number-later, put-itself}}
-use Rattle.sect_table.proofs.Sounding.{waiting_count-put, sound_of, grant_sound, apart_threads, other_way}
+use Rattle.sect_table.proofs.Sounding.{waiting_count-put, sound_of, grant_sound, other_way}
 
 -- a known key keeps its number
 pub length-put : (e : Entry) (es : List Entry) → number_of e.key es < length es → length (put e es) ≡ length es
@@ -186,7 +186,7 @@ give_all-other k t (g ∷ gs) held e =
     let both = or_parts (g.thread == t) (is_among t gs) e in
     give_all-other k t gs (give g.thread k g.mode held) both.1
     ∙ get_or-set_other held g.thread t (get_or held g.thread [] ++ hold_of k g.mode ∷ []) []
-    (apart_threads t g.thread (other_way g.thread t both.0))
+    (eqb-false t g.thread (other_way g.thread t both.0))
 
 pub length-give_all : (k : Key) (gs : List Claim) (held : List (List Hold)) → length (give_all k gs held) ≡ length held
 length-give_all k [] held = refl
@@ -198,7 +198,7 @@ pub set-give_all : (k : Key) (t : ℕ) (x : List Hold) (gs : List Claim) (held :
 set-give_all k t x [] held e = refl
 set-give_all k t x (g ∷ gs) held e =
     let both = or_parts (g.thread == t) (is_among t gs) e in
-    let apart = apart_threads t g.thread (other_way g.thread t both.0) in
+    let apart = eqb-false t g.thread (other_way g.thread t both.0) in
     let same : get_or (set held t x) g.thread [] ≡ get_or held g.thread [] =
     get_or-set_other held t g.thread x [] (λ q. apart (sym q)) in
     set-give_all k t x gs (give g.thread k g.mode held) both.1

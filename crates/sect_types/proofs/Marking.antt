@@ -10,7 +10,7 @@ use Rattle.sect_lemmas.specs.Lists.{put_at}
 use Rattle.sect_types.specs.steps.Called.{IsAmong, Calls, IsMarked, marks, AreMarked, AreFound, Grows, AreClosed, Marks}
 use Rattle.sect_types.specs.steps.{Called.{AreCallersBefore, callers_of}, Standing.{AreReturning}}
 use Rattle.sect_types.specs.steps.Search.{returns, reaches}
-use Rattle.sect_lemmas.proofs.{Options.{some_injective}, Elements.{is_there}}
+use Rattle.sect_lemmas.proofs.{Options.{some_injective}, Elements.{is_there}, Changed.{get_there}}
 use Rattle.sect_lemmas.proofs.Replaced.{put_same, put_other, length-put_at, at-put_at}
 use Rattle.sect_types.proofs.{EnoughLaws.{same, there, calls_there}, ReachLaws.{returns_caller, closed_returns}}
 
@@ -312,14 +312,9 @@ all_callers ps callers n cs i m h e le marked c calls =
     marked c (subst (λ x. IsAmong x c) (sym (take_all i cs le)) (subst (λ x. IsAmong x c) (sym e)
     (h.all n c (there ps c (slice_get ps c) refl (calls_there ps (slice_get ps c) n calls)) calls)))
 
-pub read_found : (f : List ℕ) (n q : ℕ) → n < length f → q ≡ get_or f n q → slice_get f n ≡ Some q
-read_found [] n q lt at = absurd (omega (arith, lt))
-read_found (x ∷ f) zero q lt at = ap Some (sym at)
-read_found (x ∷ f) (suc n) q lt at = read_found f n q (omega (arith, lt)) at
-
 -- what was found is there
 pub found_there : (ps : List Procedure) (p n : ℕ) (m : List Bool) (f : List ℕ) (q : ℕ) → n < length f → q ≡ get_or f n q
     → IsSearched ps p n m f → q < length ps
 found_there ps p n m f q lt at so_far =
-    let marked = so_far.right.found_marked q (among_at f n q (read_found f n q lt at)) in
+    let marked = so_far.right.found_marked q (among_at f n q (get_there n q f lt at)) in
     omega (arith, slice_get_within m q true marked, so_far.right.as_many)

@@ -1,7 +1,7 @@
 -- What a table that fits says of the state, and what its calls keep.
 use Rattle.std.proofs.Common.{◌≡◌, ◌≢◌, inl, inr, ℕ, zero, suc, ◌<◌, List, [], ◌∷◌, ◌++◌, length, map, true, false, not}
 use Rattle.std.proofs.Common.{Some, None, refl, sym, ◌∙◌, ap, subst, arith, append_assoc}
-use Rattle.std.proofs.{lemmas.Bool.{eqb-true, eq-eqb, and_parts, cases_Bool}, lemmas.List.{append-nil}}
+use Rattle.std.proofs.{lemmas.Bool.{eqb-true, eq-eqb, and_parts, cases_Bool, ne_eqb}, lemmas.List.{append-nil}}
 use Rattle.std.specs.{Prelude.{ℤ, slice_index_or, slice_set, is_some, ◌==◌, ◌||◌}, List.{list_any}}
 use Rattle.sect_lemmas.specs.Lists.{Has, put_at}
 use Rattle.sect_lemmas.proofs.{Membership.{Has-cases, Has-right}, Options.{some_injective, none_or_some}}
@@ -28,9 +28,6 @@ use Rattle.sect_world.specs.steps.Fits.{Fits, FitsBut, granted, all_granted, tak
 use Rattle.sect_world.specs.steps.Fits.{grants_of, entries_left, takes_first}
 use Rattle.sect_world.proofs.Claims.{held-grips, in_the_way, not_claiming, get-changed_other}
 use Rattle.sect_world.proofs.Letting.{take_happens, keys_let_in}
-
-off_of : (a b : ℕ) → a ≢ b → (a == b) ≡ false
-off_of a b ne = elim (cases_Bool (a == b)) [ inl e ↦ absurd (ne (eqb-true a b e)) | inr e ↦ e ]
 
 -- who is among claims has one of them
 among_has : (t : ℕ) (cs : List Claim) → is_among t cs ≡ true → (c : Claim) × Has cs c × (c.thread ≡ t)
@@ -82,7 +79,7 @@ mode_of_claim (d ∷ ds) c a (inl same) =
     mode_for-here c.thread d ds (eq-eqb d.thread c.thread (ap (λ (z : Claim). z.thread) same))
     ∙ ap (λ (z : Claim). Some z.mode) same
 mode_of_claim (d ∷ ds) c a (inr h) =
-    mode_for-later c.thread d ds (off_of d.thread c.thread (λ e. not_claiming d.thread ds a.0 c h (sym e)))
+    mode_for-later c.thread d ds (ne_eqb d.thread c.thread (λ e. not_claiming d.thread ds a.0 c h (sym e)))
     ∙ mode_of_claim ds c a.1 h
 
 -- who holds a key is a thread
@@ -267,7 +264,7 @@ out_fits c s t th store output kept f idle empty = record {
         ∙ sym (ap (λ z. mode_for z (stay t (entry_of k c.entries).holders)) (sym same.0)
         ∙ mode_for-missing t (stay t (entry_of k c.entries).holders) (missing_stay t (entry_of k c.entries).holders)))
     | inr other ↦ table_tells c s kept f u x other.1 k
-        ∙ sym (mode_for-stay_other u t (entry_of k c.entries).holders (off_of u t (λ e. other.0 (sym e))))
+        ∙ sym (mode_for-stay_other u t (entry_of k c.entries).holders (ne_eqb u t (λ e. other.0 (sym e))))
   ];
   waits = others_ask t c.entries s (record { store = store; output = output; threads = put_at t th s.threads })
       (waits_for_none t c.entries idle) (put_keeps s t th store output) f.waits;

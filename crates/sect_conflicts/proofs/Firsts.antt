@@ -1,7 +1,7 @@
 -- The first key of an ascending list.
 use Rattle.std.proofs.Common.{◌≡◌, ℕ, ◌+◌, ◌<◌, ◌++◌, List, ◌∷◌, length, take, drop, get_or, Bool, true, false, refl}
-use Rattle.std.proofs.{Common.{sym, ap, ◌∙◌, subst, inl, inr}, lemmas.Bool.{and_parts, and_from, not_from_false}}
-use Rattle.std.proofs.{lemmas.List.{take-append-drop}, lemmas.Bool.{not-true}}
+use Rattle.std.proofs.Common.{sym, ap, ◌∙◌, subst, inl, inr}
+use Rattle.std.proofs.{lemmas.List.{take-append-drop}, lemmas.Bool.{not-true, and_parts, and_from, not_from_false}}
 use Rattle.std.specs.Prelude.{◌&&◌, not}
 use Rattle.sect_lemmas.specs.Lists.{Has}
 use Rattle.sect_lemmas.proofs.{Elements.{drop_next}, Membership.{Has-cases}}

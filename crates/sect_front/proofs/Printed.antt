@@ -1,8 +1,8 @@
 -- What is printed spells the tokens of the tree.
 use Rattle.std.proofs.Common.{◌≡◌, ℕ, ◌-◌, ◌<◌, ◌≤◌, Bool, true, false, eqb, List, [], ◌∷◌, ◌++◌, length, drop}
 use Rattle.std.proofs.Common.{refl, sym, ◌∙◌, ap, subst, arith, append_assoc, length-append}
-use Rattle.std.proofs.{Math.Seq.{take-append_seam}, lemmas.Bool.Decides.{nat_tests}, lemmas.Bool.{and_parts, ltb-true}}
-use Rattle.std.proofs.{lemmas.Bool.{eqb-true}, lemmas.List.{drop_at}}
+use Rattle.std.proofs.{Math.Seq.{take-append_seam}, lemmas.Bool.Decides.{nat_tests}}
+use Rattle.std.proofs.{lemmas.Bool.{eqb-true, and_parts, ltb-true}, lemmas.List.{drop_at}}
 use Rattle.std.specs.{List.{list_all, flat_map}, Fmt.{decimal}}
 use Rattle.sect_front.specs.{Limits.{most_bytes, most_depth}, Words.{is_letter, is_digit, begins}}
 use Rattle.sect_front.specs.{Gaps.{is_blank, after_gap}, TreeView.{TreeView}, Depth.{depth}}

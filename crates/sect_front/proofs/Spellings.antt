@@ -1,8 +1,8 @@
 -- The tokens that are recognised are those that the bytes spell.
 use Rattle.std.proofs.Common.{◌≡◌, ℕ, ◌<◌, Bool, true, false, ◌&&◌, cond, eqb, nat_lt, List, [], ◌∷◌, Option, Some}
-use Rattle.std.proofs.{Common.{None, length, refl, sym, ◌∙◌, ap, subst, arith, not}, lemmas.Bool.{eqb-true, and_parts}}
+use Rattle.std.proofs.Common.{None, length, refl, sym, ◌∙◌, ap, subst, arith, not}
 use Rattle.std.proofs.lemmas.Bool.Decides.{nat_tests}
-use Rattle.std.proofs.lemmas.Bool.{lt-ltb, ltb-true}
+use Rattle.std.proofs.lemmas.Bool.{lt-ltb, ltb-true, eqb-true, and_parts}
 use Rattle.std.specs.{Prelude.{is_some, is_none}, List.{list_all}, Str.{bytes_eq}, Fmt.{decimal}}
 use Rattle.std.specs.Cmp.Lexicographic.{same_text}
 use Rattle.sect_front.specs.{Words.{is_letter, is_digit, is_name_byte, is_name, begins}, NameTokens.{is_name_token}}

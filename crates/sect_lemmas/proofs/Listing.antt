@@ -1,6 +1,6 @@
 -- Lists that are made of others.
 use Rattle.std.proofs.Common.{ℕ, zero, suc, ◌<◌, List, [], ◌∷◌, map, sym, ap, subst, inl, inr, arith, ◌≡◌, ◌+◌, ◌++◌}
-use Rattle.std.proofs.{lemmas.Bool.{cases_eq}, Common.{◌∙◌}}
+use Rattle.std.proofs.{Common.{◌∙◌}, lemmas.Bool.{cases_eq}}
 use Rattle.std.specs.List.{flat_map, range_with_len}
 use Rattle.sect_lemmas.specs.Lists.{Has}
 use Rattle.sect_lemmas.proofs.Membership.{Has-left, Has-right}

@@ -1,9 +1,9 @@
 -- How the wanted names of a tree are read off a text.
 use Rattle.std.proofs.Common.{◌≡◌, ℕ, zero, suc, ◌+◌, ◌<◌, ◌≤◌, Bool, true, false, List, [], ◌∷◌, ◌++◌, length, take}
 use Rattle.std.proofs.Common.{drop, map, Some, slice_get, refl, sym, ◌∙◌, ap, subst, arith, append-nil, if◌then◌else◌}
-use Rattle.std.proofs.{Common.{length-append}, lemmas.List.{length-map, take-append-drop, drop_more, length-take-le}}
+use Rattle.std.proofs.Common.{length-append}
 use Rattle.std.proofs.{lemmas.Option.{slice_get_within, get_or_from_slice_get}, lemmas.List.Elements.{filter-append}}
-use Rattle.std.proofs.lemmas.List.{nil_from_length}
+use Rattle.std.proofs.lemmas.List.{nil_from_length, length-map, take-append-drop, drop_more, length-take-le}
 use Rattle.std.specs.Prelude.{filter}
 use Rattle.sect_lemmas.proofs.{Places.{at_of}, Options.{some_injective}}
 use Rattle.sect_front.specs.{TreeView.{TreeView}, TokenAt.{TokenAt}, Front.{IsSpelled}, FaultPlaces.{token_span}}

@@ -13,8 +13,8 @@ use Rattle.sect_types.specs.Whole.{Left, Broken, body_of, FrameView, settled, fa
 use Rattle.sect_types.specs.Whole.{has_ended, is_standing, ahead}
 use Rattle.sect_serial.specs.steps.{Moves.{Stepped, stepped, stepped_by}, Rests.{is_stop}, Frames.{IsReady}}
 use Rattle.sect_types.proofs.shared.RunningAhead.{LeavesFuel, done_leaves, ahead_after_local}
-use Rattle.sect_types.proofs.shared.{BodySteps.{left_after, step_keeps}, Joining.{sound_joined}, Starts.{settled_text}}
-use Rattle.sect_types.proofs.shared.BodySteps.{looks_nowhere}
+use Rattle.sect_types.proofs.shared.{Joining.{sound_joined}, Starts.{settled_text}}
+use Rattle.sect_types.proofs.shared.BodySteps.{looks_nowhere, left_after, step_keeps}
 use Rattle.sect_types.specs.declared.expansion.action.Action.TheVariants as action
 use Rattle.sect_types.specs.declared.meaning.store.Fault.TheVariants as fault
 

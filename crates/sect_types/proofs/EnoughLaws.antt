@@ -2,9 +2,9 @@
 use Rattle.std.specs.Prelude.{◌||◌, ◌-◌, ◌<◌, Bool, true, false, is_some, nat_eq, eqb, ◌≤◌}
 use Rattle.std.specs.List.{list_any, AllByRecursion, IsDistinct}
 use Rattle.std.proofs.Common.{◌≡◌, inl, inr, ℕ, zero, suc, ◌+◌, List, [], ◌∷◌, Option, Some, None, refl, arith, subst}
-use Rattle.std.proofs.{Common.{length, slice_get, sym}, lemmas.Bool.{eqb-true, eqb-false, or_cases, cases_Bool}}
+use Rattle.std.proofs.Common.{length, slice_get, sym}
 use Rattle.std.proofs.{lemmas.Option.{slice_get_within}, lemmas.Map.Steps.{length-le_from_distinct_below}}
-use Rattle.std.proofs.lemmas.Bool.{or_left, or_right, or_parts}
+use Rattle.std.proofs.lemmas.Bool.{or_left, or_right, or_parts, eqb-true, eqb-false, or_cases, cases_Bool}
 use Rattle.sect_front.specs.declared.tree.Procedure.{Procedure}
 use Rattle.sect_types.specs.Sums.{calls_in, sums, sums_at, sums_within}
 use Rattle.sect_types.specs.steps.Search.{reaches, returns}

@@ -1,9 +1,9 @@
 -- A typed text has a text by numbers.
 use Rattle.std.specs.{Prelude.{Bool, true, false, ◌||◌, IsSome, is_some}, List.{list_any}}
 use Rattle.std.proofs.Common.{◌≡◌, ℕ, zero, suc, ◌+◌, List, [], ◌∷◌, Option, Some, None, refl, sym, ap, ◌∙◌, inl, inr}
-use Rattle.std.proofs.{Common.{arith, subst, length, slice_get, true≢false}, lemmas.Bool.{and_parts, cases_Bool}}
+use Rattle.std.proofs.Common.{arith, subst, length, slice_get, true≢false}
 use Rattle.std.proofs.lemmas.List.{length-map}
-use Rattle.std.proofs.lemmas.Bool.{not-false, or_parts}
+use Rattle.std.proofs.lemmas.Bool.{not-false, or_parts, and_parts, cases_Bool}
 use Rattle.sect_front.specs.{declared.tree.Declaration.{Declaration}, declared.tree.Operand.{Operand}}
 use Rattle.sect_front.specs.{declared.tree.Procedure.{Procedure}, declared.tree.Thread.{Thread}, TreeView.{TreeView}}
 use Rattle.sect_front.specs.Syntax.{StatementView, Primitive, If, IfElse, While, Atomic, Call, BlockView, End, Then}

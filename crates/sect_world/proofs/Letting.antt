@@ -1,8 +1,8 @@
 -- The grants of a release are `take` events that may happen one after another.
 use Rattle.std.proofs.Common.{◌≡◌, ◌≢◌, ◌⊎◌, inl, inr, ℕ, ◌+◌, ◌≤◌, List, [], ◌∷◌, ◌++◌, length, map, drop, true, false}
 use Rattle.std.proofs.Common.{Some, None, refl, sym, ◌∙◌, ap, subst, arith, append_assoc}
-use Rattle.std.proofs.{lemmas.Bool.{eqb-true, eq-eqb, cases_Bool, or_parts}, lemmas.List.{append-nil, map-append}}
-use Rattle.std.proofs.lemmas.Bool.{cases_eq}
+use Rattle.std.proofs.lemmas.List.{append-nil, map-append}
+use Rattle.std.proofs.lemmas.Bool.{cases_eq, eqb-true, eq-eqb, cases_Bool, or_parts}
 use Rattle.std.specs.Prelude.{slice_get, ◌==◌}
 use Rattle.sect_lemmas.specs.Lists.{Has, changed_at}
 use Rattle.sect_modes.specs.{declared.mode.Mode.{Mode}, declared.key.Key.{Key}, Key.{is_same_key}}

@@ -1,11 +1,11 @@
 -- Numerals below a limit: the numbers that are read are those that are printed.
 use Rattle.std.proofs.Common.{◌≡◌, ◌≢◌, ℕ, zero, suc, ◌+◌, ◌-◌, ◌*◌, ◌/◌, ◌%◌, ◌<◌, ◌≤◌, Bool, true, false, ◌&&◌, cond}
 use Rattle.std.proofs.Common.{eqb, nat_lt, ◌==◌, if◌then◌else◌, List, [], ◌∷◌, ◌++◌, Option, Some, None, length, get_or}
-use Rattle.std.proofs.{Common.{refl, sym, ◌∙◌, ap, arith, rules}, lemmas.Bool.{eq-eqb, and_parts, lt-ltb, and_right}}
+use Rattle.std.proofs.Common.{refl, sym, ◌∙◌, ap, arith, rules}
 use Rattle.std.proofs.lemmas.Bool.Decides.{nat_tests}
 use Rattle.std.proofs.lemmas.Fmt.{decimal_by_steps_wide, decimal-digits_value, digits_decimal, decimal_nonempty}
 use Rattle.std.proofs.lemmas.Str.Parse.{IsNumeralModel, IsDigitsTest, FoldsDigits, numerals_by_fold}
-use Rattle.std.proofs.lemmas.Bool.{ltb-true}
+use Rattle.std.proofs.lemmas.Bool.{ltb-true, eq-eqb, and_parts, lt-ltb, and_right}
 use Rattle.std.specs.{List.{list_all}, Fmt.{decimal}}
 use Rattle.sect_front.specs.Words.{is_digit}
 use Rattle.sect_front.proofs.Choices.{chosen, refused}

@@ -122,7 +122,7 @@ pub placed_all : (bytes : List ℕ) (tokens : List Token) (i : ℕ) (here : List
 placed_all bytes tokens i here spans h all s =
     h.written ∙ (ap (map token_span) (take_all i h.places (all ∙ (ap length (sym h.same) ∙ tokens_length h.places)))
     ∙ ap (map token_span) (one_lexing bytes h.places s.places h.spells s.spells))
-
+  where
     take_all : (n : ℕ) (ps : List TokenAt) → n ≡ length ps → take n ps ≡ ps
     take_all zero [] e = refl
     take_all zero (p ∷ ps) e = absurd (omega arith)

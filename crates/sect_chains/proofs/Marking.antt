@@ -9,7 +9,7 @@ use Rattle.sect_chains.specs.steps.Marking.{is_marked, with_room, with_mark}
 
 -- room for more marks marks nothing
 more_room : (marks : List Bool) (k n : ℕ) → is_marked (marks ++ replicate k false) n ≡ is_marked marks n
-more_room [] k n = repeated k n
+more_room [] k n = repeated k n false
 more_room (m ∷ marks) k zero = refl
 more_room (m ∷ marks) k (suc n) = more_room marks k n
 

@@ -96,7 +96,7 @@ with_next ns ms i m within is =
 -- room for more marks marks nothing
 pub room_marks_nothing : (marks : List Bool) (k n : ℕ)
     → get_or (marks ++ replicate k false) n false ≡ get_or marks n false
-room_marks_nothing [] k n = repeated k n
+room_marks_nothing [] k n = repeated k n false
 room_marks_nothing (m ∷ marks) k zero = refl
 room_marks_nothing (m ∷ marks) k (suc n) = room_marks_nothing marks k n
 

@@ -1,7 +1,7 @@
 -- A line of a node whose list is the one before is taken with that list.
 use Rattle.std.proofs.Common.{◌≡◌, ℕ, ◌-◌, ◌<◌, Bool, true, false, cond, eqb, nat_lt, List, [], ◌∷◌, ◌++◌, Option, Some}
 use Rattle.std.proofs.Common.{None, length, refl, sym, ◌∙◌, ap, subst, arith, length-append, append_assoc}
-use Rattle.std.proofs.{lemmas.Bool.{eqb-true}, lemmas.List.{same_from_push}}
+use Rattle.std.proofs.{lemmas.Bool.{eqb-true, lt-ltb}, lemmas.List.{same_from_push}}
 use Rattle.std.proofs.lemmas.List.Splits.{join_with_byte-slice_split}
 use Rattle.std.specs.{Prelude.{slice_get, codes}, Fmt.{decimal}, Str.{bytes_eq}, List.{join_with_byte}}
 use Rattle.sect_front.specs.Words.{is_digit}
@@ -13,7 +13,7 @@ use Rattle.sect_cert.specs.{Spelling.{spaced}, steps.{Reading.{line_of, only_num
 use Rattle.sect_cert.specs.steps.Certificates.{section_with, cert_with, is_rising}
 use Rattle.sect_cert.specs.steps.Stages.{Next, Goes, Bad, Odd, begin_of, close_of, node_of, chain_of, stage_of, judged}
 use Rattle.sect_cert.specs.steps.Stages.{read_words, header_of, later_of, read_of, is_header_due}
-use Rattle.sect_cert.proofs.{Counts.{same, less}, PartsLaws.{lacks_append, bytes_lack, parts_front}}
+use Rattle.sect_cert.proofs.{Counts.{same, last_at}, PartsLaws.{lacks_append, bytes_lack, parts_front}}
 use Rattle.sect_cert.proofs.{NumberLaws.{digits_of_decimal}, WriteLaws.{line_joined}}
 use Rattle.sect_cert.proofs.{LineLaws.{IsTaken, line_takes, only_take}, CutTexts.{some_parts, same_bytes}}
 use Rattle.sect_cert.proofs.Readings.{taken_line}
@@ -117,10 +117,6 @@ some_last : {X : Type 0} (xs : List X) → 0 < length xs → (front : List X) ×
 some_last [] h = absurd (omega (arith, h))
 some_last (x ∷ xs) h = last_of x xs
 
-last_there : {X : Type 0} (front : List X) (last : X) → slice_get (front ++ last ∷ []) (length front) ≡ Some last
-last_there [] last = refl
-last_there (x ∷ front) last = last_there front last
-
 -- the text of a node's line, up to its colon and behind it
 node_text : (j : ℕ) (ls : List CertLock)
     → line_text (line.Node j ls) ≡ codes "node " ++ (decimal j ++ 58 ∷ spaced (list_words ls))
@@ -161,9 +157,9 @@ taken_again o m ns lists before text after some more few r again =
     ∙ ap (slice_get (front ++ last ∷ []))
     (let n : length ns - 1 ≡ length front =
     omega (arith, ap length parted.2, length-append front (last ∷ [])) in n)
-    ∙ last_there front last in
+    ∙ last_at front last in
     let takes : stage_of (stage.Nodes o m ns) (line.Node (length ns) last) ≡ Goes (stage.Nodes o m (ns ++ last ∷ [])) =
-    rw (less (length ns) m more, same (length ns)) refl in
+    rw (lt-ltb (length ns) m more, same (length ns)) refl in
     ap (later_of (stage.Nodes o m ns)) is
     ∙ taken_line (stage.Nodes o m ns) (line.Node (length ns) last) tt (omega (arith, more, few), known.1.1)
     ∙ takes

@@ -1,22 +1,25 @@
--- Tests on numbers, and how long lists are.
-use Rattle.std.proofs.Common.{◌≡◌, ℕ, ◌+◌, ◌<◌, ◌≤◌, Bool, true, false, eqb, ◌&&◌, nat_lt, List, [], ◌∷◌, ◌++◌, length}
-use Rattle.std.proofs.{Common.{refl, arith, length-append}, lemmas.Bool.Decides.{nat_tests}}
+-- Tests on numbers, and elements of lists.
+use Rattle.std.proofs.Common.{◌≡◌, ℕ, zero, suc, ◌<◌, true, eqb, List, [], ◌∷◌, ◌++◌, Some, length, refl, arith}
+use Rattle.std.proofs.lemmas.Bool.Decides.{nat_tests}
+use Rattle.std.specs.{Prelude.{slice_get}, List.{AllByRecursion}}
 
+-- a number is equal to itself
 pub same : (n : ℕ) → eqb n n ≡ true
 same n = grind (arith, nat_tests)
 
-pub less : (n m : ℕ) → n < m → nat_lt n m ≡ true
-less n m h = grind (arith, nat_tests)
+-- what stands at a place
+pub at_of : {A : Type 0} (xs : List A) (i : ℕ) → i < length xs → (x : A) × (slice_get xs i ≡ Some x)
+at_of [] i h = absurd (omega (arith, h))
+at_of (x ∷ xs) zero h = (x, refl)
+at_of (x ∷ xs) (suc i) h = at_of xs i (omega (arith, h))
 
-pub is_less : (n m : ℕ) → nat_lt n m ≡ true → n < m
-is_less n m h = grind (arith, nat_tests)
+-- what was put behind a list stands last
+pub last_at : {A : Type 0} (xs : List A) (x : A) → slice_get (xs ++ x ∷ []) (length xs) ≡ Some x
+last_at [] x = refl
+last_at (y ∷ xs) x = last_at xs x
 
-pub not_less : (n m : ℕ) → m ≤ n → nat_lt n m ≡ false
-not_less n m h = grind (arith, nat_tests)
-
-pub and_false : (b : Bool) → (b && false) ≡ false
-and_false true = refl
-and_false false = refl
-
-pub one_more : {A : Type 0} (xs : List A) (x : A) → length (xs ++ x ∷ []) ≡ length xs + 1
-one_more xs x = omega (arith, length-append xs (x ∷ []))
+-- what holds of all holds of one more of which it holds
+pub all_more : {A : Type 0} (P : A → Type 0) (xs : List A) (x : A) → P x → AllByRecursion P xs
+    → AllByRecursion P (xs ++ x ∷ [])
+all_more P [] x h g = (h, tt)
+all_more P (y ∷ xs) x h g = (g.0, all_more P xs x h g.1)

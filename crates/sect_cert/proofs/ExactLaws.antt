@@ -1,10 +1,10 @@
 -- No zero leads a number in what a line spells.
-use Rattle.sect_cert.proofs.{Counts.{and_false}, PartsLaws.{has_name_bytes}}
+use Rattle.sect_cert.proofs.PartsLaws.{has_name_bytes}
 use Rattle.sect_cert.proofs.NumberLaws.{number_decimal, digits_of_decimal}
 use Rattle.std.proofs.Common.{◌≡◌, ℕ, Bool, true, false, not, cond, eqb, ◌&&◌, List, [], ◌∷◌, ◌++◌, Some, None, length}
-use Rattle.std.proofs.{Common.{refl, sym, ◌∙◌, ap, arith, nat_lt}, lemmas.Bool.{eqb-true}}
+use Rattle.std.proofs.{Common.{refl, sym, ◌∙◌, ap, arith, nat_lt}, lemmas.Bool.{eqb-true, and_right, or_right}}
 use Rattle.std.proofs.lemmas.Bool.Decides.{nat_tests}
-use Rattle.std.specs.{Prelude.{◌==◌, ◌||◌, nat_le}, Fmt.{decimal}, List.{AllByRecursion, list_all, join_with_byte}}
+use Rattle.std.specs.{Prelude.{◌==◌, nat_le}, Fmt.{decimal}, List.{AllByRecursion, list_all, join_with_byte}}
 use Rattle.sect_front.specs.Words.{is_digit, is_letter, is_name_byte, is_name, begins, is_keyword}
 use Rattle.sect_cert.specs.steps.Numbers.{number_of, decimal_from}
 use Rattle.sect_cert.specs.{Zeros.{leads, is_exact_from, is_exact}, Texts.{IsNumber}}
@@ -63,12 +63,8 @@ exact_inside (b ∷ w) h = go (is_name_byte b) h (λ k. exact_inside w k)
     go true h k = k h
     go false h k = cc
 
-or_true : (b : Bool) → (b || true) ≡ true
-or_true true = refl
-or_true false = refl
-
 digit_is : (b : ℕ) → is_digit b ≡ true → is_name_byte b ≡ true
-digit_is b h = rw h (or_true (is_letter b))
+digit_is b h = rw h (or_right (is_letter b) true refl)
 
 letter_is : (b : ℕ) → is_letter b ≡ true → is_name_byte b ≡ true
 letter_is b h = rw h refl
@@ -85,7 +81,7 @@ digits_are (d ∷ ds) h = go (is_digit d) refl h (λ k. digits_are ds k)
 
 -- a number that is read has no leading zero
 number_leads : (d : ℕ) (ds : List ℕ) (n : ℕ) → number_of (d ∷ ds) ≡ Some n → leads false d ds ≡ false
-number_leads d [] n h = and_false (d == 48)
+number_leads d [] n h = and_right (d == 48) false refl
 number_leads d (c ∷ ds) n h = go (d == 48) h
   where
     more : nat_lt 0 (length (c ∷ ds)) ≡ true

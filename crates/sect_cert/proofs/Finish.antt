@@ -1,8 +1,8 @@
 -- Each stage can be completed.
 use Rattle.std.proofs.Common.{◌≡◌, ◌≢◌, ℕ, zero, suc, ◌+◌, ◌-◌, ◌<◌, ◌≤◌, List, [], ◌∷◌, ◌++◌, length, refl, ◌∙◌, ap}
-use Rattle.std.proofs.Common.{arith, length-append, subst}
+use Rattle.std.proofs.{Common.{arith, length-append, subst}, lemmas.List.{length_push}}
 use Rattle.std.specs.List.{AllByRecursion}
-use Rattle.sect_cert.proofs.{TextLaws.{RisingAll, behind_sections}, Counts.{one_more}}
+use Rattle.sect_cert.proofs.TextLaws.{RisingAll, behind_sections}
 use Rattle.sect_cert.proofs.Keeps.{open_lines, stage_lines, IsSound, closed, all_rising_more}
 use Rattle.sect_cert.specs.{declared.certificate.CertSection.{CertSection}, declared.certificate.Cert.{Cert}}
 use Rattle.sect_cert.specs.Texts.{nodes_lines, section_lines, sections_lines, body_lines, IsLine}
@@ -143,8 +143,8 @@ finish (stage.Nodes o m ns) h g e =
     g.1.1).0.1 in
     let s : CertSection = section_with (ns ++ empties (m - length ns)) [] [] in
     nodes_rest o m ns (m - length ns) (omega (arith, h.2)) low
-    (rest_of (close_of o s) (omega (arith, h.0, one_more o.done s)) g.1.0 (all_rising_more o.done s h.1 tt))
+    (rest_of (close_of o s) (omega (arith, h.0, length_push o.done s)) g.1.0 (all_rising_more o.done s h.1 tt))
 finish (stage.Chains o s) h g e =
-    chains_rest o s (rest_of (close_of o s) (omega (arith, h.0, one_more o.done s)) g.1.0
+    chains_rest o s (rest_of (close_of o s) (omega (arith, h.0, length_push o.done s)) g.1.0
     (all_rising_more o.done s h.1 h.2))
 finish (stage.Finished c) h g e = record { cert = c; rest = []; good = tt; rising = h; lines = refl }

@@ -1,9 +1,9 @@
 -- A stage knows its lines, and can be completed.
 use Rattle.std.proofs.Common.{◌≡◌, ℕ, ◌+◌, ◌<◌, ◌≤◌, Bool, true, false, cond, eqb, nat_lt, List, [], ◌∷◌, ◌++◌, length}
 use Rattle.std.proofs.Common.{refl, sym, ◌∙◌, ap, arith, append_assoc, append-nil, subst}
-use Rattle.std.proofs.{lemmas.Bool.Decides.{nat_tests}, lemmas.Bool.{eqb-true}}
+use Rattle.std.proofs.{lemmas.Bool.Decides.{nat_tests}, lemmas.Bool.{eqb-true}, lemmas.List.{length_push}}
 use Rattle.std.specs.Prelude.{⊤}
-use Rattle.sect_cert.proofs.{TextLaws.{RiseAfter, RisingAll}, Counts.{one_more}}
+use Rattle.sect_cert.proofs.TextLaws.{RiseAfter, RisingAll}
 use Rattle.sect_cert.specs.declared.certificate.CertSection.{CertSection}
 use Rattle.sect_cert.specs.Texts.{nodes_lines, chains_lines, section_lines, sections_lines}
 use Rattle.sect_cert.specs.{declared.lock.CertLock.{CertLock}, declared.certificate.CertChain.{CertChain}}
@@ -115,7 +115,7 @@ node_law o m ns (line.Node j ls) h = go (nat_lt (length ns) m) refl (eqb j (leng
         (λ t. Kept (stage.Nodes o m ns) (line.Node j ls) t)
     go true f true g = let low : length ns < m = grind (arith, nat_tests) in record {
       begun = tt;
-      sound = (h.0, h.1, omega (arith, one_more ns ls, low));
+      sound = (h.0, h.1, omega (arith, length_push ns ls, low));
       lines = λ w. ap (λ x. open_lines o (line.Section (length o.done) m ∷ x))
           (nodes_more ns 0 j ls w (omega (arith, eqb-true j (length ns) g)));
     }
@@ -154,7 +154,7 @@ chain_law o s (line.Chain c) h = go (is_rising s.chains c.lock) refl
           (chains_more s.chains c w);
     }
     go false f = tt
-chain_law o s x h = begin_law (stage.Chains o s) (close_of o s) x (omega (arith, h.0, one_more o.done s))
+chain_law o s x h = begin_law (stage.Chains o s) (close_of o s) x (omega (arith, h.0, length_push o.done s))
     (all_rising_more o.done s h.1 h.2) (closed o s)
 
 -- a line that is taken is the next of the lines that were read

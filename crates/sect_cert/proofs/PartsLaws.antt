@@ -1,7 +1,7 @@
 -- Parts of what is joined.
-use Rattle.sect_cert.proofs.Counts.{same}
+use Rattle.sect_cert.proofs.Counts.{same, last_at}
 use Rattle.std.proofs.Common.{◌≡◌, ℕ, zero, suc, ◌-◌, Bool, true, false, not, cond, eqb, ◌&&◌, List, [], ◌∷◌, ◌++◌}
-use Rattle.std.proofs.{Common.{Some, length, refl, sym, ◌∙◌, ap, arith, length-append}, lemmas.Bool.{eqb-true}}
+use Rattle.std.proofs.{Common.{length, refl, sym, ◌∙◌, ap, arith, length-append}, lemmas.Bool.{eqb-true}}
 use Rattle.std.proofs.Math.Seq.{take-append_seam}
 use Rattle.std.specs.Prelude.{◌==◌, slice_get, take, nat_le}
 use Rattle.std.specs.List.{onto_first, join_with_byte, list_all, AllByRecursion}
@@ -89,15 +89,10 @@ joined_lacks c dot (w ∷ []) h = h.0
 joined_lacks c dot (w ∷ v ∷ ws) h =
     lacks_append c w (46 ∷ join_with_byte 46 (v ∷ ws)) h.0 (rw dot (joined_lacks c dot (v ∷ ws) h.1))
 
--- the byte that ends a word
-last_byte : (w : List ℕ) (c : ℕ) → slice_get (w ++ c ∷ []) (length w) ≡ Some c
-last_byte [] c = refl
-last_byte (b ∷ w) c = last_byte w c
-
 -- a word with a mark at its end, and without it
 pub ends_end : (c : ℕ) (w : List ℕ) → ends_with c (w ++ c ∷ []) ≡ true
 ends_end c w = let n : length (w ++ c ∷ []) - 1 ≡ length w = omega (arith, length-append w (c ∷ [])) in
-    rw (n, last_byte w c) (same c)
+    rw (n, last_at w c) (same c)
 
 pub take_end : (c : ℕ) (w : List ℕ) → take (length (w ++ c ∷ []) - 1) (w ++ c ∷ []) ≡ w
 take_end c w = let n : length (w ++ c ∷ []) - 1 ≡ length w = omega (arith, length-append w (c ∷ [])) in

@@ -1,7 +1,8 @@
 -- The lines of a certificate are taken.
-use Rattle.sect_cert.proofs.{Counts.{same, less, not_less, one_more}, TextLaws.{RiseAfter, RisingAll}}
+use Rattle.sect_cert.proofs.{Counts.{same}, TextLaws.{RiseAfter, RisingAll}}
 use Rattle.std.proofs.Common.{◌≡◌, ℕ, ◌+◌, ◌≤◌, List, [], ◌∷◌, ◌++◌, Option, Some, None, length, refl, sym, ◌∙◌, ap}
-use Rattle.std.proofs.Common.{arith, append_assoc, append-nil}
+use Rattle.std.proofs.{Common.{arith, append_assoc, append-nil}, lemmas.List.{length_push}}
+use Rattle.std.proofs.lemmas.Bool.{lt-ltb, le-ltb}
 use Rattle.sect_cert.specs.{declared.certificate.CertSection.{CertSection}, declared.certificate.Cert.{Cert}}
 use Rattle.sect_cert.specs.Texts.{nodes_lines, chains_lines, section_lines, sections_lines, body_lines}
 use Rattle.sect_cert.specs.{declared.lock.CertLock.{CertLock}, declared.certificate.CertChain.{CertChain}}
@@ -26,9 +27,9 @@ nodes_pass : (o : Open) (m : ℕ) (ns done : List (List CertLock)) (w : List Cer
     run (stage.Nodes o m done) (nodes_lines (length done) ns w) ≡ run (stage.Nodes o m (done ++ ns)) w
 nodes_pass o m [] done w h = ap (λ d. run (stage.Nodes o m d) w) (sym (append-nil done))
 nodes_pass o m (ls ∷ ns) done w h =
-    rw (less (length done) m (omega (arith, h)), same (length done))
-    (ap (λ j. run (stage.Nodes o m (done ++ ls ∷ [])) (nodes_lines j ns w)) (sym (one_more done ls))
-    ∙ (nodes_pass o m ns (done ++ ls ∷ []) w (omega (arith, h, one_more done ls))
+    rw (lt-ltb (length done) m (omega (arith, h)), same (length done))
+    (ap (λ j. run (stage.Nodes o m (done ++ ls ∷ [])) (nodes_lines j ns w)) (sym (length_push done ls))
+    ∙ (nodes_pass o m ns (done ++ ls ∷ []) w (omega (arith, h, length_push done ls))
     ∙ ap (λ d. run (stage.Nodes o m d) w) (append_assoc done (ls ∷ []) ns)))
 
 chains_pass : (o : Open) (ns : List (List CertLock)) (e : List CertLock) (cs done : List CertChain) (w : List CertLine)
@@ -45,7 +46,7 @@ section_pass : (o : Open) (s : CertSection) (w : List CertLine) → RiseAfter []
     run (stage.Nodes o (length s.nodes) []) (section_lines s w) ≡ run (stage.Chains o s) w
 section_pass o s w h =
     nodes_pass o (length s.nodes) s.nodes [] (line.Entry s.entry ∷ chains_lines s.chains w) (omega arith)
-    ∙ rw (not_less (length s.nodes) (length s.nodes) (omega arith)) (chains_pass o s.nodes s.entry s.chains [] w h)
+    ∙ rw (le-ltb (length s.nodes) (length s.nodes) (omega arith)) (chains_pass o s.nodes s.entry s.chains [] w h)
 
 -- after a section, and where none has begun, the next is read in one way
 settled : (o : Open) (s : CertSection) (i : ℕ) (ss : List CertSection) →
@@ -57,13 +58,13 @@ settled o s i (t ∷ ss) = refl
 sections_pass : (ss : List CertSection) (o : Open) → o.count ≡ length o.done + length ss → RisingAll ss →
     run (stage.Between o) (sections_lines (length o.done) ss (line.End ∷ [])) ≡ Some
     (stage.Finished (cert_with o.k (o.done ++ ss)))
-sections_pass [] o h r = rw (not_less (length o.done) o.count (omega (arith, h)), append-nil o.done) refl
+sections_pass [] o h r = rw (le-ltb (length o.done) o.count (omega (arith, h)), append-nil o.done) refl
 sections_pass (s ∷ ss) o h r =
-    rw (less (length o.done) o.count (omega (arith, h)), same (length o.done))
+    rw (lt-ltb (length o.done) o.count (omega (arith, h)), same (length o.done))
     (section_pass o s (sections_lines (length o.done + 1) ss (line.End ∷ [])) r.0
     ∙ (settled o s (length o.done + 1) ss
-    ∙ (ap (λ i. run (stage.Between (close_of o s)) (sections_lines i ss (line.End ∷ []))) (sym (one_more o.done s))
-    ∙ (sections_pass ss (close_of o s) (omega (arith, h, one_more o.done s)) r.1
+    ∙ (ap (λ i. run (stage.Between (close_of o s)) (sections_lines i ss (line.End ∷ []))) (sym (length_push o.done s))
+    ∙ (sections_pass ss (close_of o s) (omega (arith, h, length_push o.done s)) r.1
     ∙ ap (λ d. Some (stage.Finished (cert_with o.k d))) (append_assoc o.done (s ∷ []) ss)))))
 
 -- the lines of a certificate lead to it

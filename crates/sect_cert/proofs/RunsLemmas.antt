@@ -4,17 +4,13 @@ use Rattle.std.proofs.Common.{sym, ◌∙◌, ap, subst, arith, eqb, append_asso
 use Rattle.std.proofs.{lemmas.Bool.{eqb-true}, lemmas.Option.{slice_get_read}}
 use Rattle.std.specs.Prelude.{slice_get}
 use Rattle.sect_cert.specs.steps.Runs.{listed, numbered, AreBelow}
-
-listed_at : {X : Type 0} (kept : List X) (n : ℕ) → n < length kept → (x : X) × (slice_get kept n ≡ Some x)
-listed_at [] n h = absurd (omega (arith, h))
-listed_at (x ∷ kept) zero h = (x, refl)
-listed_at (x ∷ kept) (suc n) h = listed_at kept n (omega (arith, h))
+use Rattle.sect_cert.proofs.Counts.{at_of, last_at}
 
 -- there are as many as numbers
 pub length_numbered : {X : Type 0} (kept : List X) (ns : List ℕ) → AreBelow (length kept) ns
     → length (numbered kept ns) ≡ length ns
 length_numbered kept [] h = refl
-length_numbered kept (n ∷ ns) h = let at = listed_at kept n h.0 in
+length_numbered kept (n ∷ ns) h = let at = at_of kept n h.0 in
     rw at.1 (omega (arith, length_numbered kept ns h.1))
 
 -- the one at a place is the one that the number there names
@@ -22,10 +18,10 @@ numbered_at : {X : Type 0} (kept : List X) (ns : List ℕ) (i n : ℕ) → AreBe
     → n ≡ get_or ns i n → (slice_get (numbered kept ns) i ≡ slice_get kept n) × (n < length kept)
 numbered_at kept [] i n h within is = absurd (omega (arith, within))
 numbered_at kept (m ∷ ns) zero n h within is =
-    let at = listed_at kept m h.0 in
+    let at = at_of kept m h.0 in
     let here : slice_get (listed (slice_get kept m) ++ numbered kept ns) zero ≡ slice_get kept m = rw at.1 refl in
     (here ∙ ap (slice_get kept) (sym is), subst (λ k. k < length kept) (sym is) h.0)
-numbered_at kept (m ∷ ns) (suc i) n h within is = let at = listed_at kept m h.0 in
+numbered_at kept (m ∷ ns) (suc i) n h within is = let at = at_of kept m h.0 in
     rw at.1 (numbered_at kept ns i n h.1 (omega (arith, within)) is)
 
 pub run_within : {X : Type 0} (kept xs : List X) (ns : List ℕ) (i n : ℕ) → numbered kept ns ≡ xs
@@ -75,16 +71,12 @@ numbers_more kept (m ∷ ns) n =
     ap (λ ys. listed (slice_get kept m) ++ ys) (numbers_more kept ns n)
     ∙ sym (append_assoc (listed (slice_get kept m)) (numbered kept ns) (listed (slice_get kept n)))
 
-last_kept : {X : Type 0} (kept : List X) (x : X) → slice_get (kept ++ x ∷ []) (length kept) ≡ Some x
-last_kept [] x = refl
-last_kept (y ∷ kept) x = last_kept kept x
-
 -- one more that the last number names
 pub run_pushed : {X : Type 0} (kept : List X) (x : X) (ns : List ℕ) → AreBelow (length kept) ns
     → numbered (kept ++ x ∷ []) (ns ++ length kept ∷ []) ≡ numbered kept ns ++ x ∷ []
 run_pushed kept x ns h =
     numbers_more (kept ++ x ∷ []) ns (length kept)
-    ∙ ap (λ o. numbered (kept ++ x ∷ []) ns ++ listed o) (last_kept kept x)
+    ∙ ap (λ o. numbered (kept ++ x ∷ []) ns ++ listed o) (last_at kept x)
     ∙ ap (λ ys. ys ++ x ∷ []) (kept_more kept x ns h)
 
 some_numbers : {X : Type 0} (kept xs : List X) (ns : List ℕ) → numbered kept ns ≡ xs → xs ≢ [] → 0 < length ns

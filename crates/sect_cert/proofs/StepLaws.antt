@@ -9,7 +9,7 @@ use Rattle.sect_cert.specs.{Paths.{path_text}, Spelling.{lock_words, step_words,
 use Rattle.sect_cert.specs.{Texts.{IsLock, IsStep, IsNumber, IsPath}, declared.subject.CertMode.{CertMode}}
 use Rattle.sect_cert.specs.{declared.chain.ChainWord.{ChainWord}, declared.lock.CertLock.{CertLock}}
 use Rattle.sect_cert.specs.{declared.certificate.CertStep.{CertStep}, declared.lock.CertPath.{CertPath}}
-use Rattle.sect_cert.proofs.CutTexts.{same_bytes}
+use Rattle.sect_cert.proofs.{CutTexts.{same_bytes}, Counts.{all_more}}
 use Rattle.sect_cert.proofs.SubjectLaws.{mode_word, mode_law, mapped, number_law, class_lock_law, no_class}
 use Rattle.sect_cert.proofs.{SubjectLaws.{subject_again, IsSpelledBy, subject_law}, NumberLaws.{number_decimal}}
 use Rattle.sect_cert.specs.declared.subject.CertMode.TheVariants as mode
@@ -91,11 +91,6 @@ some_more : (ss : List CertStep) (s : CertStep) → (ss ++ s ∷ []) ≢ []
 some_more [] s h = cc
 some_more (t ∷ ss) s h = cc
 
-good_more : (ss : List CertStep) (s : CertStep) → IsStep s → AllByRecursion IsStep ss
-    → AllByRecursion IsStep (ss ++ s ∷ [])
-good_more [] s h g = (h, tt)
-good_more (t ∷ ss) s h g = (g.0, good_more ss s h g.1)
-
 record Takes (ss : List CertStep) (p : ChainWord) (w : List ℕ) (t : ChainState) : Type 0 where
   sound : IsSpot t.steps t.at
   words : (ws : List (List ℕ)) → spot_words t.steps t.at ws ≡ spot_words ss p (w ∷ ws)
@@ -112,7 +107,7 @@ subject_take ss n m w num = go (subject_of m w) (subject_law m w)
       sound = some_more ss (step_with n l);
       words = λ ws. done_more ss (step_with n l) ws
           ∙ ap (λ x. next_words ss (decimal n ∷ x)) (h.words [] ws ∙ ap (λ x. mode_word m ∷ x ∷ ws) (append-nil w));
-      good = good_more ss (step_with n l) (num, h.good);
+      good = all_more IsStep ss (step_with n l) (num, h.good);
     }
 
 walk_law : (ss : List CertStep) (p : ChainWord) (w : List ℕ) → IsSpot ss p
@@ -151,7 +146,7 @@ walk_law ss (due.Class n m) w h =
       words = λ ws. done_more ss (step_with n (class_lock m c)) ws
           ∙ ap (λ x. next_words ss (decimal n ∷ x))
           (l.1 [] ws ∙ ap (λ x. mode_word m ∷ codes "class" ∷ x ∷ ws) (append-nil (decimal c) ∙ sym k.0));
-      good = good_more ss (step_with n (class_lock m c)) (h, l.0);
+      good = all_more IsStep ss (step_with n (class_lock m c)) (h, l.0);
     })
 walk_law ss due.Whole w h = go (bytes_eq w (codes ">")) refl
   where

@@ -9,7 +9,7 @@ use Rattle.sect_cert.specs.steps.Subjects.{mode_of, class_lock, subject_of}
 use Rattle.sect_cert.specs.steps.Lists.{place_behind, ListState, list_state, step_of, after}
 use Rattle.sect_cert.specs.{Spelling.{lock_words}, Texts.{IsLock}, declared.subject.CertMode.{CertMode}}
 use Rattle.sect_cert.specs.{declared.list.ListWord.{ListWord}, declared.lock.CertLock.{CertLock}}
-use Rattle.sect_cert.proofs.CutTexts.{same_bytes}
+use Rattle.sect_cert.proofs.{CutTexts.{same_bytes}, Counts.{all_more}}
 use Rattle.sect_cert.proofs.SubjectLaws.{mode_word, mode_law, mapped, class_lock_law, IsSpelledBy, subject_law}
 use Rattle.sect_cert.proofs.NumberLaws.{decimal_number}
 use Rattle.sect_cert.specs.declared.list.ListWord.TheVariants as due
@@ -72,11 +72,6 @@ record Takes (ls : List CertLock) (p : ListWord) (w : List ℕ) (s : ListState) 
   words : (ws : List (List ℕ)) → place_words s.locks s.at ws ≡ place_words ls p (w ∷ ws)
   good : AllByRecursion IsLock ls → AllByRecursion IsLock s.locks
 
-good_more : (ls : List CertLock) (l : CertLock) → IsLock l → AllByRecursion IsLock ls
-    → AllByRecursion IsLock (ls ++ l ∷ [])
-good_more [] l h g = (h, tt)
-good_more (k ∷ ls) l h g = (g.0, good_more ls l h g.1)
-
 subject_take : (ls : List CertLock) (m : CertMode) (w : List ℕ)
     → IfSome (subject_of m (without_end 44 w))
     (λ l. Takes ls (due.Subject m) w (list_state (ls ++ l ∷ []) (place_behind (ends_with 44 w))))
@@ -88,7 +83,7 @@ subject_take ls m w = go (subject_of m (without_end 44 w)) (subject_law m (witho
     go (Some l) h = record {
       words = λ ws. behind ls l (ends_with 44 w) ws
           ∙ ap (comma_words ls) (h.words (ending (ends_with 44 w)) ws ∙ ap (λ x. mode_word m ∷ x ∷ ws) (end_split w));
-      good = good_more ls l h.good;
+      good = all_more IsLock ls l h.good;
     }
 
 class_take : (ls : List CertLock) (m : CertMode) (w : List ℕ)
@@ -109,7 +104,7 @@ class_take ls m w = go (number_of (without_end 44 w)) refl
               ∙ ap (comma_words ls) (h.1 (ending (ends_with 44 w)) ws
               ∙ ap (λ x. mode_word m ∷ codes "class" ∷ x ∷ ws)
               (ap (λ x. x ++ ending (ends_with 44 w)) (sym t.0) ∙ end_split w));
-          good = good_more ls (class_lock m n) h.0;
+          good = all_more IsLock ls (class_lock m n) h.0;
         }
 
 step_law : (ls : List CertLock) (p : ListWord) (w : List ℕ) → IfSome (step_of ls p w) (λ s. Takes ls p w s)

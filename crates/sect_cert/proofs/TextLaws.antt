@@ -1,13 +1,14 @@
 -- What stands in a certificate with a text, line by line.
-use Rattle.sect_cert.proofs.Counts.{less, is_less}
-use Rattle.std.proofs.Common.{◌≡◌, ℕ, ◌+◌, ◌-◌, ◌<◌, ◌≤◌, true, nat_lt, List, [], ◌∷◌, ◌++◌, Some, length, refl, sym}
+use Rattle.std.proofs.Common.{◌≡◌, ℕ, ◌+◌, ◌-◌, ◌<◌, ◌≤◌, true, nat_lt, List, [], ◌∷◌, ◌++◌, length, refl, sym}
 use Rattle.std.proofs.Common.{◌∙◌, arith, length-append}
-use Rattle.std.specs.{Prelude.{⊤, slice_get}, List.{AllByRecursion}}
+use Rattle.std.proofs.lemmas.Bool.{lt-ltb, ltb-true}
+use Rattle.std.specs.{Prelude.{⊤}, List.{AllByRecursion}}
 use Rattle.sect_cert.specs.steps.Certificates.{is_rising}
 use Rattle.sect_cert.specs.Texts.{nodes_lines, chains_lines, sections_lines, body_lines, IsLock, IsChain, IsLine}
 use Rattle.sect_cert.specs.{Texts.{AreRising, IsSection, HasText}, declared.lock.CertLock.{CertLock}}
 use Rattle.sect_cert.specs.{declared.certificate.CertChain.{CertChain}, declared.certificate.CertSection.{CertSection}}
 use Rattle.sect_cert.specs.{declared.certificate.Cert.{Cert}, declared.line.CertLine.{CertLine}}
+use Rattle.sect_cert.proofs.Counts.{last_at}
 use Rattle.sect_cert.specs.declared.line.CertLine.TheVariants as line
 
 -- the numbers of these chains rise, after these before them
@@ -23,10 +24,6 @@ pub record HasLines (c : Cert) : Type 0 where
   pub lines : AllByRecursion IsLine (body_lines c)
   pub rising : RisingAll c.sections
 
-last_at : {A : Type 0} (xs : List A) (x : A) → slice_get (xs ++ x ∷ []) (length xs) ≡ Some x
-last_at [] x = refl
-last_at (y ∷ xs) x = last_at xs x
-
 after_last : (before : List CertChain) (d : CertChain) (n : ℕ) → is_rising (before ++ d ∷ []) n ≡ nat_lt d.lock n
 after_last before d n = let last : length (before ++ d ∷ []) - 1 ≡ length before =
     omega (arith, length-append before (d ∷ [])) in rw (last, last_at before d) refl
@@ -35,7 +32,7 @@ rise_after : (before : List CertChain) (d : CertChain) (cs : List CertChain) →
     → RiseAfter (before ++ d ∷ []) cs
 rise_after before d [] h = tt
 rise_after before d (c ∷ cs) h =
-    (after_last before d c.lock ∙ less d.lock c.lock h.0, rise_after (before ++ d ∷ []) c cs h.1)
+    (after_last before d c.lock ∙ lt-ltb d.lock c.lock h.0, rise_after (before ++ d ∷ []) c cs h.1)
 
 rise_all : (cs : List CertChain) → AreRising cs → RiseAfter [] cs
 rise_all [] h = tt
@@ -45,7 +42,7 @@ rise_back : (before : List CertChain) (d : CertChain) (cs : List CertChain) → 
     → AreRising (d ∷ cs)
 rise_back before d [] h = tt
 rise_back before d (c ∷ cs) h =
-    (is_less d.lock c.lock (sym (after_last before d c.lock) ∙ h.0), rise_back (before ++ d ∷ []) c cs h.1)
+    (ltb-true d.lock c.lock (sym (after_last before d c.lock) ∙ h.0), rise_back (before ++ d ∷ []) c cs h.1)
 
 are_rising : (cs : List CertChain) → RiseAfter [] cs → AreRising cs
 are_rising [] h = tt

@@ -1,6 +1,6 @@
 -- What is written piece by piece is the text of a certificate.
 use Rattle.std.proofs.Common.{◌≡◌, ℕ, ◌+◌, List, [], ◌∷◌, ◌++◌, map, length, refl, sym, ◌∙◌, ap, append-nil}
-use Rattle.std.proofs.Common.{append_assoc, drop, ◌≤◌, ◌<◌, zero, suc, Some, arith}
+use Rattle.std.proofs.Common.{append_assoc, drop, ◌≤◌, ◌<◌, Some, arith}
 use Rattle.std.proofs.lemmas.List.{at_drop_all, drop_more, flat_map_more, take_more, length-take-le}
 use Rattle.std.proofs.lemmas.Option.{get_or_from_slice_get}
 use Rattle.std.specs.{Prelude.{codes, slice_get, take}, Option.{option_map}, Fmt.{decimal}}
@@ -16,6 +16,7 @@ use Rattle.sect_cert.specs.{declared.certificate.Cert.{Cert}, declared.line.Cert
 use Rattle.sect_cert.specs.steps.Writes.{field_text, lock_text, next_lock, step_text, next_step, fed_line}
 use Rattle.sect_cert.specs.steps.Writes.{nodes_text, chain_text, section_text, sections_text, IsListBefore}
 use Rattle.sect_cert.specs.steps.Writes.{IsLockBefore, arrow_before, front_text}
+use Rattle.sect_cert.proofs.Counts.{at_of}
 use Rattle.sect_cert.specs.declared.lock.CertLock.TheVariants as lock
 use Rattle.sect_cert.specs.declared.line.CertLine.TheVariants as line
 
@@ -250,18 +251,13 @@ cert_written c old new put begun =
     ∙ ap (λ x. first ++ x) (fed_one (line.Sections (length c.sections)) rest
     ∙ ap (λ x. second ++ x) (sections_written c.sections 0 (line.End ∷ [])))))
 
-there : {X : Type 0} (xs : List X) (i : ℕ) → i < length xs → (x : X) × (slice_get xs i ≡ Some x)
-there [] i h = absurd (omega (arith, h))
-there (x ∷ xs) zero h = (x, refl)
-there (x ∷ xs) (suc i) h = there xs i (omega (arith, h))
-
 -- the line of one more node, by the text of its list
 pub next_node_written : (nodes : List (List CertLock)) (node : ℕ) (old list new whole : List ℕ) → node < length nodes
     → old ++ nodes_text node (drop node nodes) ≡ whole
     → ((locks : List CertLock) → list ≡ spaced (list_words locks) → new ≡ old ++ fed_line (line.Node node locks))
     → IsListBefore nodes (node + 1) list → new ++ nodes_text (node + 1) (drop (node + 1) nodes) ≡ whole
 next_node_written nodes node old list new whole within before one is =
-    let at = there nodes node within in
+    let at = at_of nodes node within in
     let rest : drop node nodes ≡ at.0 ∷ drop (node + 1) nodes =
     drop_more nodes node at.0 within
     ∙ ap (λ x. x ∷ drop (node + 1) nodes) (get_or_from_slice_get nodes node at.0 at.0 at.1) in
@@ -277,7 +273,7 @@ pub next_step_written : (steps : List CertStep) (index node : ℕ) (old lock out
     → new ≡ out ++ (arrow_before index ++ 32 ∷ (decimal node ++ lock))
     → new ≡ old ++ spaced (chain_words (take (index + 1) steps))
 next_step_written steps index node old lock out new within at_node at_lock before is =
-    let at = there steps index within in
+    let at = at_of steps index within in
     let x = at.0 in
     let first = take index steps in
     let rest : take (index + 1) steps ≡ first ++ x ∷ [] =

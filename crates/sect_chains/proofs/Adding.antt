@@ -4,10 +4,11 @@ use Rattle.std.proofs.Common.{zero, suc, take, map, inl, inr, refl, sym, ap, ◌
 use Rattle.std.proofs.{lemmas.List.{map-append, length-map}, lemmas.Option.{slice_get_within, get_or_from_slice_get}}
 use Rattle.std.specs.Prelude.{slice_get, slice_index_or, if◌then◌else◌}
 use Rattle.sect_lemmas.specs.Lists.{Has}
-use Rattle.sect_lemmas.proofs.{Listing.{Has-map}, Places.{at_of, pushed_at, Has-index}}
+use Rattle.sect_lemmas.proofs.{Listing.{Has-map}, Places.{at_of, pushed_at, Has-index}, Elements.{slice_get-left}}
 use Rattle.sect_graph.specs.{declared.flow.Node.{Node}, Paths.{LeadsTo}}
 use Rattle.sect_names.specs.{declared.link.Link.{Link}, declared.lock.Lock.{Lock}, Schemes.{SchemeView}}
 use Rattle.sect_names.specs.{Order.{AreInOrder}, Carrying.{CarriedBack}, Chains.{link, IsGeneratedAt}}
+use Rattle.sect_names.proofs.shared.Linking.{same_link}
 use Rattle.sect_infer.specs.Numberings.{NumberingView, AreNumbers, IsNumbered, Finds, IsOrderOf, lock_at}
 use Rattle.sect_infer.proofs.shared.Bounding.{named}
 use Rattle.sect_chains.specs.{declared.keep.KeptLink.{KeptLink}, Chains.{StepBefore}}
@@ -16,7 +17,6 @@ use Rattle.sect_chains.specs.steps.Working.{link_of, links_of, nexts_of, IsKept,
 use Rattle.sect_chains.specs.steps.Ordering.{CameBefore, AreSorted, AllCameBefore, IsInTime, Adds, IsBelow}
 use Rattle.sect_chains.proofs.Carrying.{carried_lock}
 use Rattle.sect_chains.proofs.Growing.{grows_one, grows_at, grows_extended, reason_more, links_same, kept_numbers}
-use Rattle.sect_chains.proofs.{Growing.{same_link}, Places.{in_front}}
 use Rattle.sect_names.specs.declared.lock.Lock.TheVariants as lock
 
 -- of two steps that link to the same one the first came before the other
@@ -138,7 +138,7 @@ module _ (s : SchemeView) (t : ℕ) (last : List Lock) (g : List Node) where
       longer = record {
         sorts = push_sorted links (nexts_of w.steps) here x.next k.leads.count sorted before;
         stays = λ i b p at_b to_p.
-            (in_front links (here ∷ []) i b at_b, in_front (nexts_of w.steps) (x.next ∷ []) i p to_p);
+            (slice_get-left links (here ∷ []) i b at_b, slice_get-left (nexts_of w.steps) (x.next ∷ []) i p to_p);
         alone = λ i b p at_b to_p. elim (push_only links (nexts_of w.steps) here x.next k.leads.count i b p at_b to_p) [
           | inl old ↦ inl old
           | inr new ↦ inr (new.1, new.2)

@@ -8,12 +8,13 @@ use Rattle.sect_lemmas.proofs.{Membership.{Has-get_or}, Places.{one_at}, Making.
 use Rattle.sect_graph.specs.{declared.flow.Node.{Node}, Paths.{LeadsTo}, Predecessors.{AreBefore}}
 use Rattle.sect_names.specs.{declared.link.Link.{Link}, declared.lock.Lock.{Lock}, Schemes.{SchemeView}}
 use Rattle.sect_names.specs.{Carrying.{Generated, CarriedBack}, Chains.{link, IsGeneratedAt, LinksTo}}
+use Rattle.sect_names.proofs.shared.Linking.{same_link}
 use Rattle.sect_infer.specs.Numberings.{NumberingView, HasLock, IsNumbered, Finds, lock_at, IsOrderOf}
 use Rattle.sect_infer.proofs.shared.Bounding.{named}
 use Rattle.sect_chains.specs.steps.Keeping.{KeptView, step_of, keep_one, keep_each}
 use Rattle.sect_chains.specs.steps.Working.{links_of, IsFoundAt, IsKept, Grows, IsGeneratedBy, IsGeneratedBelow}
 use Rattle.sect_chains.proofs.Growing.{grows_none, grows_as, grows_then, grows_at, grows_extended, grows_one}
-use Rattle.sect_chains.proofs.Growing.{grows_each, same_link}
+use Rattle.sect_chains.proofs.Growing.{grows_each}
 
 module _ (s : SchemeView) (t : ℕ) (last : List Lock) (g : List Node) where
   -- a lock that is generated is kept

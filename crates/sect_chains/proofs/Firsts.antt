@@ -7,12 +7,13 @@ use Rattle.sect_graph.specs.{declared.flow.Node.{Node}, Paths.{LeadsTo}}
 use Rattle.sect_names.specs.{declared.link.Link.{Link}, declared.lock.Lock.{Lock}, Schemes.{SchemeView}, Locks.{Covers}}
 use Rattle.sect_names.specs.Chains.{link, IsGeneratedAt, LinksTo, AreLinked, IsChain}
 use Rattle.sect_names.proofs.shared.{Covering.{covers_trans}, Ordering.{lock_then}}
+use Rattle.sect_names.proofs.shared.Linking.{same_link}
 use Rattle.sect_infer.specs.Numbers.{AreApart}
 use Rattle.sect_infer.proofs.shared.Apart.{apart_one}
 use Rattle.sect_chains.specs.Chains.{StepBefore, StepsBefore, IsFirstChain}
 use Rattle.sect_chains.specs.steps.Trails.{HasTrail, RespectCover, LeadOn, AreBehind, AreFrom, AreFromEntry}
 use Rattle.sect_chains.specs.steps.Ordering.{CameBefore, AreSorted, IsInTime}
-use Rattle.sect_chains.proofs.{Trails.{behind_linked, entry_chain}, Growing.{same_link}}
+use Rattle.sect_chains.proofs.Trails.{behind_linked, entry_chain}
 
 step_then : (a b c : Link) → StepBefore a b → StepBefore b c → StepBefore a c
 step_then a b c (inl h) (inl k) = inl (omega (arith, h, k))

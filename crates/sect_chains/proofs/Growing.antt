@@ -6,13 +6,15 @@ use Rattle.std.proofs.lemmas.Option.{slice_get_within, get_or_from_slice_get, sl
 use Rattle.std.specs.{Prelude.{slice_get, slice_index_or, slice_set, if◌then◌else◌}, Option.{option_map}}
 use Rattle.sect_lemmas.specs.Lists.{Has}
 use Rattle.sect_lemmas.proofs.{Membership.{Has-cases, Has-left, Has-right, Has-slice_get, Has-unmap}, Places.{one_at}}
+use Rattle.sect_lemmas.proofs.Elements.{slice_get-left, get_front}
 use Rattle.sect_graph.specs.declared.flow.Node.{Node}
 use Rattle.sect_names.specs.{declared.link.Link.{Link}, declared.lock.Lock.{Lock}, Schemes.{SchemeView}, Chains.{link}}
 use Rattle.sect_names.proofs.shared.Covering.{covers_refl, covers_trans}
+use Rattle.sect_names.proofs.shared.Linking.{same_link}
 use Rattle.sect_infer.specs.Numbers.{AreApart}
 use Rattle.sect_infer.specs.Numberings.{NumberingView, HasLock, IsNumbering, Extends, lock_at}
 use Rattle.sect_infer.proofs.shared.{Apart.{apart_push, apart_one}, Bounding.{named}}
-use Rattle.sect_infer.proofs.shared.Extending.{extends_none, extends_then, extends_at, get_front}
+use Rattle.sect_infer.proofs.shared.Extending.{extends_none, extends_then, extends_at}
 use Rattle.sect_chains.specs.declared.keep.KeptLink.{KeptLink}
 use Rattle.sect_chains.specs.steps.Keeping.{KeptView, kept, step_of, IsMarkedAt, is_outdone, is_new, keep_one}
 use Rattle.sect_chains.specs.steps.Keeping.{keep_each}
@@ -21,12 +23,8 @@ use Rattle.sect_infer.proofs.shared.Undone.{any_has}
 use Rattle.sect_chains.specs.steps.Trails.{HasTrail, LeadOn}
 use Rattle.sect_chains.specs.steps.Working.{link_of, links_of, nexts_of, IsFoundAt, IsCoveredAt, IsKept, IsReason}
 use Rattle.sect_chains.specs.steps.Working.{Grows}
-use Rattle.sect_chains.proofs.{Keeping.{found_new, new_told, old_told}, Places.{in_front}, Trails.{leads_push}}
+use Rattle.sect_chains.proofs.{Keeping.{found_new, new_told, old_told}, Trails.{leads_push}}
 use Rattle.sect_names.specs.declared.lock.Lock.TheVariants as lock
-
--- a step is its node and its lock
-pub same_link : (x : Link) (j : ℕ) (l : Lock) → x.node ≡ j → x.lock ≡ l → x ≡ link j l
-same_link x j l e f = ap (λ n. link n x.lock) e ∙ ap (link j) f
 
 -- steps stand for the same where the numbering is extended
 pub links_same : (a b : NumberingView) → Extends a b → (steps : List KeptLink)
@@ -128,7 +126,7 @@ module _ (s : SchemeView) (t : ℕ) (last : List Lock) (g : List Node) where
       let links : links_of b.keys v.steps ≡ links_of a.keys w.steps ++ links_of b.keys f.steps.0
       = ap (links_of b.keys) f.steps.1 ∙ map-append (link_of b.keys) w.steps f.steps.0
       ∙ ap (λ ls. ls ++ links_of b.keys f.steps.0) (links_same a b f.longer w.steps (kept_numbers a w k)) in
-      subst (λ ls. slice_get ls i ≡ Some x) (sym links) (in_front (links_of a.keys w.steps)
+      subst (λ ls. slice_get ls i ≡ Some x) (sym links) (slice_get-left (links_of a.keys w.steps)
       (links_of b.keys f.steps.0) i x at)
 
   -- the numbering is extended
@@ -194,7 +192,7 @@ module _ (s : SchemeView) (t : ℕ) (last : List Lock) (g : List Node) where
       = ap (links_of a.keys) grown.1 ∙ map-append (link_of a.keys) old grown.0 in (
         why.0,
         subst (λ ls. slice_get ls j ≡ Some why.0) (sym links)
-            (in_front (links_of a.keys old) (links_of a.keys grown.0) j why.0 why.1),
+            (slice_get-left (links_of a.keys old) (links_of a.keys grown.0) j why.0 why.1),
         why.2,
       )
 

@@ -4,16 +4,12 @@ use Rattle.std.proofs.Common.{false, nat_lt, length, get_or, set, replicate, ref
 use Rattle.std.proofs.{Common.{length-append}, lemmas.Bool.{cases_eq}, lemmas.Bool.Decides.{nat_tests}}
 use Rattle.std.proofs.lemmas.List.{get_or-set_same, get_or-set_other, length-replicate}
 use Rattle.std.specs.Prelude.{if◌then◌else◌}
+use Rattle.sect_lemmas.proofs.Elements.{repeated}
 use Rattle.sect_chains.specs.steps.Marking.{is_marked, with_room, with_mark}
-
-no_mark : (k n : ℕ) → get_or (replicate k false) n false ≡ false
-no_mark zero n = refl
-no_mark (suc k) zero = refl
-no_mark (suc k) (suc n) = no_mark k n
 
 -- room for more marks marks nothing
 more_room : (marks : List Bool) (k n : ℕ) → is_marked (marks ++ replicate k false) n ≡ is_marked marks n
-more_room [] k n = no_mark k n
+more_room [] k n = repeated k n false
 more_room (m ∷ marks) k zero = refl
 more_room (m ∷ marks) k (suc n) = more_room marks k n
 

@@ -1,16 +1,14 @@
 -- What the traces of a section need at its entry is found along steps of its graph.
-use Rattle.std.proofs.Common.{◌≡◌, ℕ, List, [], ◌∷◌, ◌++◌, length, inl, inr, refl, sym, ap, subst, arith}
-use Rattle.std.proofs.lemmas.Option.{slice_get_within}
+use Rattle.std.proofs.Common.{◌≡◌, ℕ, List, [], ◌∷◌, ◌++◌, length, inl, inr, refl, ap, subst, arith}
 use Rattle.sect_lemmas.specs.Lists.{Has}
-use Rattle.sect_types.specs.{Statements.{TextView}, Sections.{SectionView}, Traces.{Visit, visit}}
-use Rattle.sect_graph.specs.{declared.flow.Node.{Node}, Paths.{IsPath, IsConnected}, Graphs.{IsGraphOf}}
-use Rattle.sect_names.specs.{declared.link.Link.{Link}, declared.lock.Lock.{Lock}, Schemes.{SchemeView}}
+use Rattle.sect_types.specs.{Statements.{TextView}, Sections.{SectionView}, Traces.{Visit}}
+use Rattle.sect_graph.specs.{declared.flow.Node.{Node}, Paths.{IsPath}, Graphs.{IsGraphOf}}
+use Rattle.sect_names.specs.{declared.lock.Lock.{Lock}, Schemes.{SchemeView}}
 use Rattle.sect_names.specs.Carrying.{Generated, CarriedBack}
-use Rattle.sect_names.specs.Needed.{CarriedOver, GeneratedFirst, IsNeededOn, IsNeeded, IsNeededFrom}
-use Rattle.sect_names.specs.Chains.{link, AreLinked}
-use Rattle.sect_names.proofs.shared.Telling.{lock_cases}
+use Rattle.sect_names.specs.Needed.{CarriedOver, GeneratedFirst, IsNeeded, IsNeededFrom}
+use Rattle.sect_names.specs.Chains.{link}
+use Rattle.sect_names.proofs.shared.{Telling.{lock_cases}, Linking.{linked_needed}}
 use Rattle.sect_infer.specs.Sets.{LocksView, AreLocksOf}
-use Rattle.sect_graph.proofs.shared.Paths.{path_begins}
 use Rattle.sect_chains.specs.steps.Trails.{HasTrail, AreTops}
 
 module _ (s : SchemeView) (t : ℕ) (last : List Lock) (g : List Node) where
@@ -38,30 +36,13 @@ module _ (s : SchemeView) (t : ℕ) (last : List Lock) (g : List Node) where
       let m = n.2 in
       along_has_trail m.0 0 n.0 m.1 m.2 l ((graph.paths n.0).1 n.1) m.3 m.4 m.5
 
-  -- a lock from which steps lead on is needed along a path from its node to the exit
-  trail_along : IsConnected g → (x : Link) (links : List Link) → AreLinked s t last g x links
-      → (steps : List Visit) × IsPath g x.node steps (length g) × IsNeededOn s t last steps x.lock
-  trail_along con x [] (inl h) =
-      let p = con.exits x.node (slice_get_within g x.node h.0 h.1) in
-      let b = path_begins g x.node h.0 p.0 h.1 p.1 in
-      (p.0, p.1, ([], p.0, x.lock, refl, subst (λ st. GeneratedFirst s t last st x.lock) (sym b.1) h.2, refl))
-  trail_along con x [] (inr h) = ([], h.0, ([], [], x.lock, refl, h.1, refl))
-  trail_along con x (b ∷ links) (c, h) =
-      let q = trail_along con b links h in
-      let n = q.2 in
-      let a = visit x.node c.0.label in (
-        a ∷ q.0,
-        (c.0, c.1, refl, b.node, c.2, q.1),
-        (a ∷ n.0, n.1, n.2, ap (λ l. a ∷ l) n.3, n.4, (b.lock, n.5, c.3)),
-      )
-
 -- the locks of a section's entry are the maximal ones of those from which steps lead on at the first node
 pub are_tops : (s : SchemeView) (last : List Lock) (of : SectionView) (g : List Node) → IsGraphOf of.body g
     → (locks : LocksView) → AreLocksOf s last of g locks → AreTops s of.thread last g locks.entry
 are_tops s last of g graph locks are = record {
   trails = λ l h. needed_has_trail s of.thread last g of.body graph l (are.entry_needed l h);
   alone = λ l big h d c.
-      let along = trail_along s of.thread last g graph.connected (link 0 big) d.0 d.1 in
+      let along = linked_needed s of.thread last g graph.connected (link 0 big) d.0 d.1 in
       let needed : IsNeededFrom s of.thread last of.body g 0 big
       = (along.0, (graph.rests 0 (omega arith) along.0).0 along.1, along.2) in
       elim (lock_cases big l) [

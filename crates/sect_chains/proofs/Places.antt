@@ -1,5 +1,5 @@
 -- Elements of lists and their places.
-use Rattle.std.proofs.Common.{◌≡◌, ℕ, zero, suc, ◌<◌, List, [], ◌∷◌, ◌++◌, Some, length, get_or, sym, ap, ◌∙◌}
+use Rattle.std.proofs.Common.{◌≡◌, ℕ, ◌<◌, List, Some, length, get_or, sym, ap, ◌∙◌}
 use Rattle.std.proofs.lemmas.Option.{slice_get-get_or}
 use Rattle.std.specs.Prelude.{slice_get}
 
@@ -7,9 +7,3 @@ use Rattle.std.specs.Prelude.{slice_get}
 pub read_at : {X : Type 0} (xs : List X) (i : ℕ) (r x : X) → i < length xs → r ≡ get_or xs i r → r ≡ x
     → slice_get xs i ≡ Some x
 read_at xs i r x within is e = slice_get-get_or xs i r within ∙ ap (λ z. Some z) (sym is ∙ e)
-
--- what stands in the front stands there in the whole
-pub in_front : {X : Type 0} (xs ys : List X) (i : ℕ) (x : X) → slice_get xs i ≡ Some x → slice_get (xs ++ ys) i ≡ Some x
-in_front [] ys i x at = absurd cc
-in_front (y ∷ xs) ys zero x at = at
-in_front (y ∷ xs) ys (suc i) x at = in_front xs ys i x at

@@ -8,6 +8,7 @@ use Rattle.sect_lemmas.proofs.{Making.{last_of, so_far}, Membership.{Has-get_or}
 use Rattle.sect_graph.specs.{declared.flow.Node.{Node}, Predecessors.{AreBefore, IsAscending}}
 use Rattle.sect_names.specs.{declared.link.Link.{Link}, declared.lock.Lock.{Lock}, Schemes.{SchemeView}}
 use Rattle.sect_names.specs.{Carrying.{CarriedBack}, Chains.{link, IsGeneratedAt, LinksTo}}
+use Rattle.sect_names.proofs.shared.Linking.{same_link}
 use Rattle.sect_chains.specs.declared.work.Trail.{Trail}
 use Rattle.sect_chains.specs.steps.Working.{IsGeneratedBy, IsGeneratedBelow}
 use Rattle.sect_chains.specs.steps.Ordering.{AllCameBefore, IsInTime, links_in, nexts_in, IsInOrder, AddsTo, LinkBelow}
@@ -15,7 +16,7 @@ use Rattle.sect_chains.specs.steps.Ordering.{BeginsInOrder}
 use Rattle.sect_chains.proofs.Adding.{adds_none, adds_as, adds_then, time_more, before_below, before_beside, below_more}
 use Rattle.sect_chains.proofs.Adding.{below_here, below_none, before_node, link_there, none_kept, none_sorted, taken_at}
 use Rattle.sect_chains.proofs.Carrying.{IsOfEnd, LinksFromFirst, links_next, links_all}
-use Rattle.sect_chains.proofs.Growing.{same_link, link_at, next_is}
+use Rattle.sect_chains.proofs.Growing.{link_at, next_is}
 
 module _ (s : SchemeView) (t : ℕ) (last : List Lock) (g : List Node) where
   -- steps were added at the nodes below this one, for what those generate

@@ -2,20 +2,19 @@
 use Rattle.std.proofs.Common.{◌≡◌, ℕ, List, [], ◌∷◌, ◌++◌, Option, Some, None, length, length-append, inl, inr, sym}
 use Rattle.std.proofs.{Common.{subst, arith, append_assoc}, lemmas.Option.{slice_get_within}}
 use Rattle.std.specs.Prelude.{slice_get}
-use Rattle.sect_lemmas.proofs.Places.{at_of, pushed_at}
+use Rattle.sect_lemmas.proofs.{Places.{at_of, pushed_at}, Elements.{slice_get-left}}
 use Rattle.sect_graph.specs.declared.flow.Node.{Node}
 use Rattle.sect_names.specs.{declared.link.Link.{Link}, declared.lock.Lock.{Lock}, Schemes.{SchemeView}}
 use Rattle.sect_names.specs.Chains.{link, LinksTo, AreLinked, IsChain}
 use Rattle.sect_chains.specs.steps.Working.{IsReason}
 use Rattle.sect_chains.specs.steps.Trails.{LeadsOn, LeadOn, GoBack, AreBehind, AreFrom, AreFromEntry}
-use Rattle.sect_chains.proofs.Places.{in_front}
 
 module _ (s : SchemeView) (t : ℕ) (last : List Lock) (g : List Node) where
   -- what leads on in a list leads on in a longer one
   still : (kept more : List Link) (i : ℕ) (a : Link) (o : Option ℕ) → LeadsOn s t last g kept i a o
       → LeadsOn s t last g (kept ++ more) i a o
   still kept more i a None r = r
-  still kept more i a (Some j) r = (r.0, (r.1.0, in_front kept more j r.1.0 r.1.1, r.1.2))
+  still kept more i a (Some j) r = (r.0, (r.1.0, slice_get-left kept more j r.1.0 r.1.1, r.1.2))
 
   -- one step more, whose lock is generated, or that links to one of those before
   pub leads_push : (kept : List Link) (next : List (Option ℕ)) (a : Link) (o : Option ℕ) → IsReason s t last g kept a o
@@ -40,7 +39,7 @@ module _ (s : SchemeView) (t : ℕ) (last : List Lock) (g : List Node) where
       here i is None why = why
       here i is (Some j) why =
           let within = slice_get_within kept j why.0 why.1 in
-          (omega (arith, is, within), (why.0, in_front kept (a ∷ []) j why.0 why.1, why.2))
+          (omega (arith, is, within), (why.0, slice_get-left kept (a ∷ []) j why.0 why.1, why.2))
 
   module _ (kept : List Link) (next : List (Option ℕ)) (leads : LeadOn s t last g kept next) where
     -- each step links to an earlier one

@@ -5,10 +5,10 @@ use Rattle.std.specs.Prelude.{slice_get, option_map}
 use Rattle.sect_lemmas.specs.Lists.{Has}
 use Rattle.sect_types.specs.declared.expansion.action.Label.{Label}
 use Rattle.sect_graph.specs.{declared.flow.Node.{Node}, declared.flow.Successors.{Successors}, Paths.{IsSuccessor}}
+use Rattle.sect_graph.specs.Predecessors.{StaysWithin}
 use Rattle.sect_names.specs.{declared.lock.Lock.{Lock}, Schemes.{SchemeView}, Carrying.{CarriedBack}}
 use Rattle.sect_check.specs.{declared.claims.Claims.{Claims}, Valid.{list_at, AreCarriedInto, CoversCarried}}
 use Rattle.sect_check.specs.Faults.{IsFirst}
-use Rattle.sect_check.specs.steps.Shapes.{StaysWithin}
 use Rattle.sect_lemmas.proofs.Places.{told_at, told_of}
 
 -- control goes on from a node to one of the graph, or to its exit

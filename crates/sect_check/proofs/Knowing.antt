@@ -1,8 +1,7 @@
 -- What is known of the elements of two lists at one place.
 use Rattle.std.proofs.Common.{ℕ, ◌<◌, ◌-◌, ◌≡◌, ◌∙◌, List, Some, take, subst, arith}
 use Rattle.std.specs.{Prelude.{slice_get}, List.{AllZip}}
-use Rattle.sect_lemmas.proofs.Places.{zipped_at, one_at}
-use Rattle.sect_check.proofs.shared.Repeating.{taken}
+use Rattle.sect_lemmas.proofs.{Places.{zipped_at, one_at}, Elements.{taken}}
 
 module _ {A B : Type 0} (R : A → B → Type 0) where
   -- elements at one place of related lists are related

@@ -1,48 +1,28 @@
 -- What a valid certificate says of needed locks.
-use Rattle.std.proofs.Common.{◌≡◌, ℕ, List, [], ◌∷◌, ◌++◌, Some, length, refl, sym, ap, subst, arith, inl, inr}
+use Rattle.std.proofs.Common.{◌≡◌, ℕ, List, [], ◌∷◌, ◌++◌, Some, length, refl, ap, subst, arith, inl, inr}
 use Rattle.std.proofs.lemmas.Option.{slice_get_within}
 use Rattle.std.specs.Prelude.{slice_get}
 use Rattle.sect_lemmas.specs.Lists.{Has}
-use Rattle.sect_types.specs.{Sections.{SectionView, sections_of}, Traces.{Visit, visit}}
+use Rattle.sect_types.specs.{Sections.{SectionView, sections_of}, Traces.{Visit}}
 use Rattle.sect_graph.specs.{declared.flow.Node.{Node}, Paths.{IsPath, IsConnected}}
 use Rattle.sect_names.specs.{declared.lock.Lock.{Lock}, declared.link.Link.{Link}, Schemes.{SchemeView, IsScheme}}
 use Rattle.sect_names.specs.{Locks.{CoveredBy}, Carrying.{Generated, CarriedBack}}
 use Rattle.sect_names.specs.Needed.{CarriedOver, GeneratedFirst, IsNeededOn, IsLeast, end_of}
-use Rattle.sect_names.specs.{Chains.{AreLinked, IsChain}, Laws.{RespectsCover}}
+use Rattle.sect_names.specs.{Chains.{IsChain}, Laws.{RespectsCover}}
 use Rattle.sect_names.proofs.shared.{Covering.{covers_trans}, Respecting.{respects_cover}, SectionSteps.{section_step}}
+use Rattle.sect_names.proofs.shared.Linking.{linked_needed}
 use Rattle.sect_cert.specs.declared.certificate.Cert.{Cert}
 use Rattle.sect_check.specs.{declared.claims.Claims.{Claims}, Meaning.{IsSectionAt}}
 use Rattle.sect_check.specs.Valid.{list_at, IsValidSection, IsValid, AreEntriesLeast}
 use Rattle.sect_lemmas.proofs.Places.{Has-index, at_of}
-use Rattle.sect_graph.proofs.shared.Paths.{path_begins}
 
 module _ (s : SchemeView) (t : ℕ) (last : List Lock) (g : List Node) where
-  -- the first lock of linked steps is needed along some path from the first node to the exit
-  linked_needed : IsConnected g → (a : Link) (links : List Link) → AreLinked s t last g a links
-      → (steps : List Visit) × IsPath g a.node steps (length g) × IsNeededOn s t last steps a.lock
-  linked_needed con a [] h = elim h [
-    | inl n ↦
-        let p = con.exits a.node (slice_get_within g a.node n.0 n.1) in
-        let b = path_begins g a.node n.0 p.0 n.1 p.1 in
-        (p.0, p.1, ([], p.0, a.lock, refl, subst (λ st. GeneratedFirst s t last st a.lock) (sym b.1) n.2, refl))
-    | inr e ↦ ([], e.0, ([], [], a.lock, refl, e.1, refl))
-  ]
-  linked_needed con a (b ∷ links) h =
-      let c = h.0 in
-      let q = linked_needed con b links h.1 in
-      let n = q.2 in
-      let first = visit a.node c.0.label in (
-        first ∷ q.0,
-        (c.0, c.1, refl, b.node, c.2, q.1),
-        (first ∷ n.0, n.1, n.2, ap (λ l. first ∷ l) n.3, n.4, (b.lock, n.5, c.3)),
-      )
-
   -- a lock that has a chain is needed along a path from the entry to the exit
   chain_needed : IsConnected g → (l : Lock) (links : List Link) → IsChain s t last g l links
       → (steps : List Visit) × IsPath g 0 steps (length g) × IsNeededOn s t last steps l
   chain_needed con l [] h = absurd h
   chain_needed con l (a ∷ links) h =
-      let n = linked_needed con a links h.1 in (
+      let n = linked_needed s t last g con a links h.1 in (
         n.0,
         subst (λ k. IsPath g k n.0 (length g)) (ap (λ z. z.node) h.0) n.1,
         subst (IsNeededOn s t last n.0) (ap (λ z. z.lock) h.0) n.2,

@@ -3,14 +3,14 @@ use Rattle.std.proofs.Common.{◌≡◌, ℕ, ◌+◌, ◌-◌, ◌<◌, ◌∙�
 use Rattle.std.proofs.{Common.{take, refl, sym, ap, subst, arith}, lemmas.List.{length-take-le}}
 use Rattle.std.proofs.lemmas.Slice.Zip.{AllZip-long}
 use Rattle.std.specs.{Prelude.{slice_get}, Option.{option_map}, List.{AllZip}}
-use Rattle.sect_lemmas.proofs.Places.{told_at, zipped_at}
+use Rattle.sect_lemmas.proofs.{Places.{told_at, zipped_at}, Elements.{taken}}
 use Rattle.sect_cert.specs.{declared.lock.CertLock.{CertLock}, declared.certificate.CertStep.{CertStep}}
 use Rattle.sect_names.specs.{declared.link.Link.{Link}, declared.lock.Lock.{Lock}, Schemes.{SchemeView}}
 use Rattle.sect_check.specs.declared.unresolved.Unresolved.{Unresolved}
 use Rattle.sect_check.specs.{declared.unresolved.Unresolved.TheVariants.{Memory, Wrong}, Names.{Denotes}}
 use Rattle.sect_check.specs.Meaning.{DenotesStep}
 use Rattle.sect_check.specs.steps.Resolving.{Resolves, Extends}
-use Rattle.sect_check.proofs.shared.Repeating.{zip_one_more, taken}
+use Rattle.sect_check.proofs.shared.Repeating.{zip_one_more}
 use Rattle.sect_check.proofs.Resolving.{extends_not}
 
 abbrev node_of : CertStep → ℕ

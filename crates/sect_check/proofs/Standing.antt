@@ -1,6 +1,7 @@
 -- What the paths of a certificate stand for.
 use Rattle.std.proofs.Common.{◌≡◌, ℕ, zero, suc, List, [], ◌∷◌, Option, Some, None, refl, sym, ap, ◌∙◌, subst}
 use Rattle.std.specs.{Prelude.{slice_get, slice_index_or, option_and_then}, Option.{option_map}}
+use Rattle.sect_lemmas.proofs.Options.{map_part}
 use Rattle.sect_front.specs.TreeView.{TreeView}
 use Rattle.sect_types.specs.{Sight.{place, all_fields, names_of_globals}, Programs.{ProgramView}, Sound.{type_in}}
 use Rattle.sect_types.specs.{declared.expansion.action.Field.{Field}, declared.declarations.types.ValueType.{ValueType}}
@@ -19,12 +20,6 @@ and_then : {A B : Type 0} (f : A → Option B) (o : Option A) (y : B) → option
     → (x : A) × (o ≡ Some x) × (f x ≡ Some y)
 and_then f None y e = absurd cc
 and_then f (Some x) y e = (x, refl, e)
-
--- what was mapped was found
-mapped : {A B : Type 0} (f : A → B) (o : Option A) (y : B) → option_map f o ≡ Some y
-    → (x : A) × (o ≡ Some x) × (f x ≡ y)
-mapped f None y e = absurd cc
-mapped f (Some x) y e = (x, refl, let q : f x ≡ y = cc in q)
 
 -- a type that refers to a record
 refers : (t : ValueType) (r : ℕ) → referred t ≡ Some r → t ≡ Refers r
@@ -57,7 +52,7 @@ numbered r i = record { of = r; number = i }
 -- a field that is found by its name is one of the record
 field_of : (p : TreeView) (r : ℕ) (x : List ℕ) (f : Field) → field_named p r x ≡ Some f → f.of ≡ r
 field_of p r x f e =
-    let found = mapped (numbered r) (place x (slice_index_or (all_fields p.records) r [])) f e in
+    let found = map_part (numbered r) (place x (slice_index_or (all_fields p.records) r [])) f e in
     sym (ap (λ (g : Field). g.of) found.2)
 
 -- a path that goes on from a thread's own one is its own, and refers to objects

@@ -5,11 +5,8 @@ use Rattle.std.specs.Prelude.{slice_get}
 use Rattle.sect_graph.specs.declared.flow.Node.{Node}
 use Rattle.sect_names.specs.{declared.lock.Lock.{Lock}, declared.link.Link.{Link}, Schemes.{SchemeView}}
 use Rattle.sect_names.specs.Chains.{link, LinksTo, IsGeneratedAt, AreLinked, IsChain}
+use Rattle.sect_names.proofs.shared.Linking.{same_link}
 use Rattle.sect_check.specs.Faults.{ComesRight, EndsRight, IsStepRight}
-
--- a step is its node with its lock
-same_link : (a : Link) (j : ℕ) (l : Lock) → a.node ≡ j → a.lock ≡ l → a ≡ link j l
-same_link a j l e f = ap (λ n. link n a.lock) e ∙ ap (link j) f
 
 -- a first step at node 0 begins a chain exactly where its lock is the chain's
 pub begins_when : (links : List Link) (a : Link) (l : Lock) (b : Bool) → slice_get links 0 ≡ Some a → a.node ≡ 0

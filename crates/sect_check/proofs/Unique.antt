@@ -1,5 +1,5 @@
 -- The words of a certificate stand for one thing, and a valid certificate has no fault.
-use Rattle.std.proofs.Common.{◌≡◌, ◌≢◌, ℕ, suc, List, [], ◌∷◌, Some, Result, Ok, Err, length, refl, sym, ap, ◌∙◌, subst}
+use Rattle.std.proofs.Common.{◌≡◌, ◌≢◌, ℕ, List, [], ◌∷◌, Some, Result, Ok, Err, refl, sym, ap, ◌∙◌, subst}
 use Rattle.std.proofs.{Common.{arith}, lemmas.Option.{slice_get_within}}
 use Rattle.std.specs.{Prelude.{slice_get, IsOkUnless}, List.{AllZip}}
 use Rattle.sect_types.specs.Sections.{sections_of}
@@ -14,7 +14,7 @@ use Rattle.sect_check.specs.{declared.fault.SectionFault.{SectionFault}, declare
 use Rattle.sect_check.specs.{Names.{Denotes}, Meaning.{DenotesStep, DenotesChain, DenotesSection, DenotesAll}}
 use Rattle.sect_check.specs.{Valid.{IsValid}, Faults.{IsFaultAt}}
 use Rattle.sect_check.specs.steps.Parts.{JudgesCert}
-use Rattle.sect_lemmas.proofs.Places.{at_of}
+use Rattle.sect_lemmas.proofs.{Places.{at_of}, Elements.{same_by_place}}
 use Rattle.sect_check.proofs.{Numbering.{all_shaped}, Excluding.{no_fault}}
 use Rattle.sect_check.specs.declared.fault.SectionFault.TheVariants as section
 use Rattle.sect_check.specs.declared.fault.CheckFault.TheVariants as fault
@@ -29,15 +29,6 @@ zip_one R one (x ∷ xs) [] zs a b = absurd a
 zip_one R one (x ∷ xs) (y ∷ ys) [] a b = absurd b
 zip_one R one (x ∷ xs) (y ∷ ys) (z ∷ zs) a b = ap (λ w. w ∷ ys) (one x y z a.0 b.0)
     ∙ ap (λ l. z ∷ l) (zip_one R one xs ys zs a.1 b.1)
-
--- lists of one length that have the same at each place are one
-one_list : {X : Type 0} (xs ys : List X) → length xs ≡ length ys
-    → ((i : ℕ) (x y : X) → slice_get xs i ≡ Some x → slice_get ys i ≡ Some y → x ≡ y) → xs ≡ ys
-one_list [] [] e same = refl
-one_list [] (y ∷ ys) e same = absurd (omega (arith, e))
-one_list (x ∷ xs) [] e same = absurd (omega (arith, e))
-one_list (x ∷ xs) (y ∷ ys) e same = ap (λ z. z ∷ xs) (same 0 x y refl refl)
-    ∙ ap (λ l. y ∷ l) (one_list xs ys (omega (arith, e)) (λ i. same (suc i)))
 
 module _ (s : SchemeView) (t : ℕ) where
   -- words stand for one lock
@@ -76,7 +67,7 @@ module _ (s : SchemeView) (t : ℕ) where
 -- what a certificate says of a program is one thing
 one_meaning : (s : SchemeView) → IsScheme s → (a : Cert) (x y : List Claims) → DenotesAll s a x → DenotesAll s a y
     → x ≡ y
-one_meaning s scheme a x y p q = one_list x y (p.count ∙ sym q.count) (λ i c d at_c at_d.
+one_meaning s scheme a x y p q = same_by_place x y (p.count ∙ sym q.count) (λ i c d at_c at_d.
     let w = slice_get_within x i c at_c in
     let part = at_of a.sections i (omega (arith, w, p.count)) in
     let of = at_of (sections_of s.program.texts) i (omega (arith, w, p.count, p.sections)) in

@@ -2,12 +2,12 @@
 
 ghost use Rattle.std.specs.Prelude.{◌≡◌, ◌≤◌, ◌<◌, ◌+◌, ◌⊎◌, ◌↔◌, ℕ, length, Some, IfOk, IfSome, IfNone, IsTrue};
 ghost use Rattle.sect_lemmas.specs.Lists.{Has};
-ghost use Rattle.sect_graph.specs.Paths.{IsSuccessor};
+ghost use Rattle.sect_graph.specs.{Paths.{IsSuccessor}, Predecessors.{StaysWithin}};
 ghost use Rattle.sect_names.specs.{declared.lock.Lock.{Lock}, Needed.{end_locks}, Chains.{link, IsGeneratedAt}};
 ghost use Rattle.sect_names.specs.{Locks.{CoveredBy, IsLockOf}, Carrying.{CarriedBack}};
 ghost use Rattle.sect_check.specs.Valid.{list_at, CoversGenerated, AreCarriedInto, CoversCarried};
 ghost use Rattle.sect_check.specs.Faults.{IsFirst, IsFirstPair};
-ghost use Rattle.sect_check.specs.steps.Shapes.{StaysWithin, AreLawfulLists};
+ghost use Rattle.sect_check.specs.steps.Shapes.{AreLawfulLists};
 
 use crate::claims::Claims;
 use crate::covering::{Above, covers, covers_each, has_near, is_covered, list_at, set_of_many};

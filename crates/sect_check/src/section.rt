@@ -2,9 +2,10 @@
 
 ghost use Rattle.std.specs.Prelude.{◌≡◌, ◌<◌, ◌+◌, ◌↔◌, length, IfOk, IsTrue};
 ghost use Rattle.sect_lemmas.specs.Lists.{Has};
+ghost use Rattle.sect_graph.specs.Predecessors.{StaysWithin};
 ghost use Rattle.sect_names.specs.{declared.lock.Lock.{Lock}, Needed.{end_locks}, Order.{AreInOrder}};
 ghost use Rattle.sect_check.specs.Valid.{AreApart};
-ghost use Rattle.sect_check.specs.steps.Shapes.{HaveShape, StaysWithin, AreLawfulLists, AreLawfulChains};
+ghost use Rattle.sect_check.specs.steps.Shapes.{HaveShape, AreLawfulLists, AreLawfulChains};
 ghost use Rattle.sect_check.specs.steps.Parts.{JudgesLists, JudgesEntry, JudgesSection};
 
 use crate::chains::judge_chains;

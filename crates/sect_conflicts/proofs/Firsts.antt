@@ -1,14 +1,14 @@
 -- The first key of an ascending list.
 use Rattle.std.proofs.Common.{◌≡◌, ℕ, ◌+◌, ◌<◌, ◌++◌, List, ◌∷◌, length, take, drop, get_or, Bool, true, false, refl}
-use Rattle.std.proofs.{Common.{sym, ap, ◌∙◌, subst, inl, inr}, lemmas.Bool.{and_parts, and_from}}
-use Rattle.std.proofs.lemmas.List.{take-append-drop}
+use Rattle.std.proofs.Common.{sym, ap, ◌∙◌, subst, inl, inr}
+use Rattle.std.proofs.{lemmas.List.{take-append-drop}, lemmas.Bool.{not-true, and_parts, and_from, not_from_false}}
 use Rattle.std.specs.Prelude.{◌&&◌, not}
 use Rattle.sect_lemmas.specs.Lists.{Has}
 use Rattle.sect_lemmas.proofs.{Elements.{drop_next}, Membership.{Has-cases}}
 use Rattle.sect_modes.specs.{Mode.{are_compatible}, Key.{is_key_below, is_same_key}}
+use Rattle.sect_modes.proofs.shared.Keys.{same_key, key_itself}
 use Rattle.sect_emit.specs.{declared.plan.Grip.{Grip}, Plan.{Ascends}}
-use Rattle.sect_emit.proofs.shared.{Keys.{same_key, key_itself, not_below_itself, below_along}, Plans.{ascends_right}}
-use Rattle.sect_conflicts.proofs.shared.Stronger.{negated, unnegated}
+use Rattle.sect_emit.proofs.shared.{Keys.{not_below_itself, below_along}, Plans.{ascends_right}}
 
 -- an element of the list stands before place i, at it, or above it
 before_or_above : (xs : List Grip) → Ascends xs → (i : ℕ) (g : Grip) → i < length xs → g ≡ get_or xs i g → (x : Grip)
@@ -44,9 +44,9 @@ pub clash_tells : (g h : Grip) → (is_same_key g.key h.key && not (are_compatib
     → (g.key ≡ h.key) × (are_compatible g.mode h.mode ≡ false)
 clash_tells g h e =
     let b = and_parts (is_same_key g.key h.key) (not (are_compatible g.mode h.mode)) e in
-    (same_key g.key h.key b.0, unnegated (are_compatible g.mode h.mode) b.1)
+    (same_key g.key h.key b.0, not-true (are_compatible g.mode h.mode) b.1)
 
 pub tells_clash : (g h : Grip) → g.key ≡ h.key → are_compatible g.mode h.mode ≡ false
     → (is_same_key g.key h.key && not (are_compatible g.mode h.mode)) ≡ true
 tells_clash g h e apart = and_from (is_same_key g.key h.key) (not (are_compatible g.mode h.mode))
-    (subst (λ k. is_same_key g.key k ≡ true) e (key_itself g.key)) (negated (are_compatible g.mode h.mode) apart)
+    (subst (λ k. is_same_key g.key k ≡ true) e (key_itself g.key)) (not_from_false (are_compatible g.mode h.mode) apart)

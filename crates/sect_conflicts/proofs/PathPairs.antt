@@ -39,14 +39,6 @@ zipped_here R (a ∷ xs) [] h i x lt e d = absurd h
 zipped_here R (a ∷ xs) (b ∷ ys) h zero x lt e d = subst (λ z. R z b) (sym e) h.0
 zipped_here R (a ∷ xs) (b ∷ ys) h (suc i) x lt e d = zipped_here R xs ys h.1 i x (omega (arith, lt)) e d
 
--- they are as many
-pub zipped_many : {A B : Type 0} (R : A → B → Type 0) (xs : List A) (ys : List B) → AllZip R xs ys
-    → length xs ≡ length ys
-zipped_many R [] [] h = refl
-zipped_many R [] (y ∷ ys) h = absurd h
-zipped_many R (x ∷ xs) [] h = absurd h
-zipped_many R (x ∷ xs) (y ∷ ys) h = ap suc (zipped_many R xs ys h.1)
-
 -- the next lock on the second side
 pub with_next : (s : SchemeView) (l : Lock) (others : List Lock) (i : ℕ) (other : Lock) (old mid new : List PathPair)
     → i < length others → other ≡ get_or others i other → Adds (MayBeOne s) (paths_with l (take i others)) old mid

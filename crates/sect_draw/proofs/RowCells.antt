@@ -1,6 +1,6 @@
 -- The cells of a row from a place on.
 use Rattle.std.proofs.Common.{◌≡◌, ℕ, ◌+◌, ◌-◌, ◌<◌, List, [], ◌∷◌, ◌++◌, length, drop, get_or, true, false, refl, ap}
-use Rattle.std.proofs.{Common.{◌∙◌, append_assoc, Bool, take, arith, length-drop}, lemmas.List.{take_all}}
+use Rattle.std.proofs.Common.{◌∙◌, append_assoc, Bool}
 use Rattle.std.specs.{Prelude.{String, codes, replicate, ◌==◌, ◌&&◌, if◌then◌else◌}, List.{list_all}}
 use Rattle.std.specs.{String.{string_bytes}, declared.alloc.Global.{Global}}
 use Rattle.sect_lemmas.proofs.Elements.{drop_next}
@@ -10,10 +10,6 @@ use Rattle.sect_draw.specs.steps.CellTexts.{texts}
 
 abbrev pub are_empty : List (String Global) → Bool
 are_empty cells = list_all (λ (c : String Global). length (string_bytes c) == 0) cells
-
--- what is left from a place to the end
-pub rest_is : (row : List (String Global)) (n : ℕ) → take (length row - n) (drop n row) ≡ drop n row
-rest_is row n = take_all (length row - n) (drop n row) (omega (arith, length-drop n row))
 
 -- whether cells are empty shows in their texts
 empty_texts : (cells : List (String Global)) → are_empty cells

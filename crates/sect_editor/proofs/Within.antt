@@ -4,9 +4,10 @@ use Rattle.std.proofs.{lemmas.List.Elements.{All-nil, All-cons, All-filter, All-
 use Rattle.std.specs.Prelude.{option_and_then, slice_get}
 use Rattle.sect_front.specs.FaultPlaces.{IsWithin}
 use Rattle.sect_places.specs.{Spans.{AreProper}, declared.name_use.NameSpan.{NameSpan}, declared.name_use.Role.{Role}}
+use Rattle.sect_lint.specs.Naming.{found, field_by}
 use Rattle.sect_editor.specs.{declared.position.Encoding.{Encoding}, declared.position.Place.{Place}}
 use Rattle.sect_editor.specs.Queries.{declared_at, uses_by}
-use Rattle.sect_editor.specs.Referring.{found, field_by, base_record, declaration_by, declaration_of, name_at, refers}
+use Rattle.sect_editor.specs.Referring.{base_record, declaration_by, declaration_of, name_at, refers}
 use Rattle.sect_editor.specs.steps.Naming.{IsNameWithin, AreNamesWithin, AreSpansWithin, IsFoundWithin}
 use Rattle.sect_places.specs.declared.name_use.Role.TheVariants as role
 

@@ -1,26 +1,11 @@
 -- Which declaration a name of a text refers to, and which names refer to it.
 use Rattle.std.specs.Prelude.{ℕ, Bool, false, ◌&&◌, List, Option, Some, None, map, filter, nat_eq, nat_le, position}
-use Rattle.std.specs.{Prelude.{slice_get, option_and_then}, Cmp.Lexicographic.{pointwise}}
+use Rattle.std.specs.{Prelude.{option_and_then}, Cmp.Lexicographic.{pointwise}}
 use Rattle.sect_front.specs.declared.span.Span.{Span}
 use Rattle.sect_places.specs.{declared.name_use.NameSpan.{NameSpan}, declared.name_use.Role.{Role}}
-use Rattle.sect_places.specs.Declarations.{record_of, global_of, procedure_of, field_of, variable_of, type_in, base_in}
+use Rattle.sect_places.specs.Declarations.{record_of, global_of, procedure_of, type_in, base_in}
+use Rattle.sect_lint.specs.Naming.{found, variable, base_by, field_by}
 use Rattle.sect_places.specs.declared.name_use.Role.TheVariants as role
-
--- the name of that number, if one is given
-abbrev pub found : List NameSpan → Option ℕ → Option NameSpan
-found names None = None
-found names (Some k) = slice_get names k
-
-abbrev pub name_of : NameSpan → List ℕ
-name_of n = n.used.name
-
--- the declaration of a variable
-abbrev pub variable : List NameSpan → ℕ → List ℕ → Option NameSpan
-variable names scope x = found names (variable_of names scope x)
-
-abbrev pub base_by : List NameSpan → Option NameSpan → Option NameSpan
-base_by names None = None
-base_by names (Some b) = variable names b.used.scope b.used.name
 
 abbrev pub type_by : List NameSpan → Option NameSpan → Option NameSpan
 type_by names None = None
@@ -33,10 +18,6 @@ record_by names (Some named) = found names (record_of names named.used.name)
 -- the record that what stands before the dot of an item refers to
 abbrev pub base_record : List NameSpan → ℕ → Option NameSpan
 base_record names item = record_by names (type_by names (base_by names (found names (base_in names item))))
-
-abbrev pub field_by : List NameSpan → List ℕ → Option NameSpan → Option NameSpan
-field_by names f None = None
-field_by names f (Some declared) = found names (field_of names declared.used.item f)
 
 -- what a name of that role refers to
 abbrev pub declaration_by : List NameSpan → NameSpan → Role → Option NameSpan

@@ -1,8 +1,8 @@
 //! Which declaration a name of a text refers to, and which names refer to it.
 
 ghost use Rattle.std.specs.Prelude.{◌≡◌, ◌<◌, IfSome, IfOk, length, position};
-ghost use Rattle.sect_editor.specs.Referring.{found as found_by, variable as variable_by, base_by};
-ghost use Rattle.sect_editor.specs.Referring.{base_record as base_record_by, type_by, record_by, field_by};
+ghost use Rattle.sect_lint.specs.Naming.{found as found_by, variable as variable_by, base_by, field_by};
+ghost use Rattle.sect_editor.specs.Referring.{base_record as base_record_by, type_by, record_by};
 ghost use Rattle.sect_editor.specs.Referring.{declaration_of as declaration_by, touches as touches_by};
 ghost use Rattle.sect_editor.specs.Referring.{name_at as name_at_by, is_there as is_there_by};
 ghost use Rattle.sect_editor.specs.Referring.{declared_under as declared_under_by, refers as refers_by};

@@ -12,7 +12,7 @@ use Rattle.sect_modes.specs.{Mode.{join_of, intention_of}, Key.{is_same_key, is_
 use Rattle.sect_emit.specs.declared.plan.Grip.{Grip}
 use Rattle.sect_emit.specs.Plan.{grip, with_grip, gathered, class_mode, intended, IsFixedPart}
 use Rattle.sect_emit.specs.steps.Wishes.{with_grips, HasWishes}
-use Rattle.sect_names.specs.declared.lock.Effect.TheVariants as effect
+use Rattle.sect_emit.proofs.Plans.{intended_again}
 use Rattle.sect_names.specs.declared.lock.Lock.TheVariants as lock
 use Rattle.sect_modes.specs.declared.key.Key.TheVariants as key
 
@@ -76,11 +76,6 @@ one_more s l ls old new has part = (
   has.2 ∙ ap (with_grips has.0) part.2
       ∙ sym (gathered_more has.0 part.0),
 )
-
--- an intention's intention is itself
-intended_again : (e : Effect) → intention_of (intended e) ≡ intended e
-intended_again effect.Read = refl
-intended_again effect.Write = refl
 
 pub path_wishes : (s : SchemeView) (l : Lock) (p : PathView) (e : Effect) (c : ℕ) (m : Mode) (old new : List Grip)
     → l ≡ lock.Path p e → HasClass s.classes p c → m ≡ intended e

@@ -1,8 +1,8 @@
 -- A compiled program has one certificate.
-use Rattle.std.proofs.Common.{◌≡◌, ℕ, suc, List, [], ◌∷◌, Some, length, map, refl, sym, ap, ◌∙◌, subst, arith}
+use Rattle.std.proofs.Common.{◌≡◌, ℕ, List, Some, map, sym, ap, ◌∙◌, subst, arith}
 use Rattle.std.proofs.lemmas.{List.{length-map}, Option.{slice_get_within}}
 use Rattle.std.specs.Prelude.{slice_get}
-use Rattle.sect_lemmas.proofs.{Places.{at_of, one_at}, Replaced.{slice_get-map}}
+use Rattle.sect_lemmas.proofs.{Places.{at_of, one_at}, Replaced.{slice_get-map}, Elements.{same_by_place}}
 use Rattle.sect_types.specs.{Statements.{TextView}, Sections.{SectionView, sections_of}}
 use Rattle.sect_graph.specs.declared.flow.Node.{Node}
 use Rattle.sect_names.specs.{declared.lock.Lock.{Lock}, Needed.{end_of}, Schemes.{SchemeView, IsScheme}}
@@ -14,16 +14,6 @@ use Rattle.sect_cert.specs.{declared.lock.CertLock.{CertLock}, declared.certific
 use Rattle.sect_cert.specs.{declared.certificate.CertSection.{CertSection}, declared.certificate.Cert.{Cert}}
 use Rattle.sect_emit.specs.{Certificates.{SaysOf, IsCertificateOf}, Compiled.{CompiledView}}
 use Rattle.sect_emit.specs.{Words.{list_words, chains_words}, steps.Inferred.{entries_of}}
-
--- lists are one that are as long and have one element at each place
-same_by_place : {X : Type 0} (xs ys : List X) → length xs ≡ length ys
-    → ((i : ℕ) (x y : X) → slice_get xs i ≡ Some x → slice_get ys i ≡ Some y → x ≡ y) → xs ≡ ys
-same_by_place [] [] e f = refl
-same_by_place [] (y ∷ ys) e f = absurd (omega (arith, e))
-same_by_place (x ∷ xs) [] e f = absurd (omega (arith, e))
-same_by_place (x ∷ xs) (y ∷ ys) e f =
-    ap (λ z. z ∷ xs) (f 0 x y refl refl)
-    ∙ ap (λ z. y ∷ z) (same_by_place xs ys (omega (arith, e)) (λ i a b p q. f (suc i) a b p q))
 
 -- what is needed at the nodes is one list for each
 needed_one : (s : SchemeView) (t : ℕ) (last : List Lock) (body : TextView) (g : List Node) (xs ys : List (List Lock))

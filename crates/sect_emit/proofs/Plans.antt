@@ -30,7 +30,7 @@ fixed_wish_there s (x ∷ locks) gs w l (inr h) =
     (r.0, r.1, λ g i. subst (λ xs. Has xs g) (sym w.2) (Has-right w.0 w.1 g (r.2 g i)))
 
 -- the intention of an intention is that intention
-intended_again : (e : Effect) → intention_of (intended e) ≡ intended e
+pub intended_again : (e : Effect) → intention_of (intended e) ≡ intended e
 intended_again effect.Read = refl
 intended_again effect.Write = refl
 

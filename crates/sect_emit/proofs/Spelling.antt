@@ -4,14 +4,14 @@ use Rattle.std.proofs.Common.{get_or, refl, sym, ap, ◌∙◌, arith}
 use Rattle.std.proofs.lemmas.List.{length-take-le, length-map, map-append}
 use Rattle.std.proofs.lemmas.Option.{slice_get_within, get_or_from_slice_get, slice_get-map}
 use Rattle.std.specs.{Prelude.{slice_get, Some, map}, Option.{option_map}}
-use Rattle.std.specs.List.{AllByRecursion, AllZip}
+use Rattle.std.specs.List.{AllByRecursion}
+use Rattle.sect_lemmas.proofs.Elements.{taken}
 use Rattle.sect_front.specs.TreeView.{TreeView}
 use Rattle.sect_names.specs.{declared.link.Link.{Link}, declared.lock.Lock.{Lock}}
 use Rattle.sect_cert.specs.{declared.lock.CertLock.{CertLock}, declared.certificate.CertChain.{CertChain}}
 use Rattle.sect_cert.specs.{Texts.{AreRising}}
 use Rattle.sect_cert.specs.declared.certificate.CertStep.{CertStep}
 use Rattle.sect_emit.specs.Words.{list_words, lock_words, step_words, chain_words, chains_words}
-use Rattle.sect_check.proofs.shared.Repeating.{taken}
 use Rattle.sect_emit.proofs.Adding.{take_next}
 
 -- what holds of each element and of one more
@@ -56,14 +56,6 @@ next_list t at i locks made old new there words before pushed =
     ∙ sym (map-append (list_words t) (take i at) (locks ∷ []))
     ∙ ap (map (list_words t)) (sym
     (take_next at i locks (slice_get_within at i locks there) (sym (get_or_from_slice_get at i locks locks there))))
-
--- lists that are related element by element have as many
-pub zip_length : {A B : Type 0} (R : A → B → Type 0) (xs : List A) (ys : List B) → AllZip R xs ys
-    → length xs ≡ length ys
-zip_length R [] [] h = refl
-zip_length R [] (y ∷ ys) h = absurd h
-zip_length R (x ∷ xs) [] h = absurd h
-zip_length R (x ∷ xs) (y ∷ ys) h = let e = zip_length R xs ys h.1 in omega (arith, e)
 
 -- one step more of a chain
 pub next_step : (t : TreeView) (links : List Link) (i : ℕ) (link : Link) (old new : List CertStep) → i < length links

@@ -22,9 +22,9 @@ use Rattle.sect_emit.specs.Pointed.{IsPointed, StepsTo, DenotedBefore}
 use Rattle.sect_names.proofs.shared.{Placing.{statement_sound}, Typing.{base_to}, Owning.{own_base}}
 use Rattle.sect_lemmas.proofs.{Options.{mapped}, Elements.{is_past}}
 use Rattle.sect_types.proofs.shared.Stores.{object_at-write, object_at-add, same_name-true, same_name-eq}
-use Rattle.sect_types.proofs.shared.Data.{fresh_refers}
+use Rattle.sect_types.proofs.shared.Data.{fresh_refers, refers_injective}
 use Rattle.sect_emit.proofs.Pointing.{base_variable}
-use Rattle.sect_emit.proofs.shared.Pointing.{is_reference, same_object, put_or_kept, HasDone, action_done, step_pointed}
+use Rattle.sect_emit.proofs.shared.Pointing.{is_reference, put_or_kept, HasDone, action_done, step_pointed}
 use Rattle.sect_emit.proofs.shared.Pointing.{denoted}
 use Rattle.sect_types.specs.declared.expansion.action.Value.TheVariants as value
 use Rattle.sect_types.specs.declared.expansion.action.Action.TheVariants as action
@@ -134,7 +134,7 @@ module _ (s : SchemeView) (scheme : IsScheme s) (typed : IsTypedProgram s.progra
           before,
           (
             λ h. other (
-              same_object b zo (sym v ∙ ap (path_datum store w.locals) h.1 ∙ at),
+              refers_injective b zo (sym v ∙ ap (path_datum store w.locals) h.1 ∙ at),
               ap (λ (y : Field). y.number) h.0,
             ),
             refl,
@@ -215,7 +215,7 @@ module _ (s : SchemeView) (scheme : IsScheme s) (typed : IsTypedProgram s.progra
     made_value x p o own e =
         found t x None (Refers (object.Made t w.made)) store (add store t (fresh i types)) w.locals
         (λ o. o ≡ object.Made t w.made)
-        (λ o k. inr (sym (same_object (object.Made t w.made) o k))) fields_before none_there p o own e
+        (λ o k. inr (sym (refers_injective (object.Made t w.made) o k))) fields_before none_there p o own e
 
   -- what denotes the object of a store's base after it is of its class, and of its record
   alike_after : (b : Base) (f : Field) (zo : ObjectName) (after : StoreView) (z : WorkView) → IsPointed s t after z

@@ -3,6 +3,7 @@ use Rattle.std.proofs.Common.{◌≡◌, ◌≢◌, ℕ, ◌+◌, ◌-◌, ◌<�
 use Rattle.std.proofs.Common.{None, option_and_then, length, take, drop, refl, sym, ◌∙◌, ap, subst, arith, length-drop}
 use Rattle.std.proofs.{Common.{append-nil, suc}, lemmas.List.Elements.{filter-append}, lemmas.Bool.Decides.{nat_tests}}
 use Rattle.std.proofs.Math.Seq.{take-suc}
+use Rattle.std.proofs.lemmas.Bool.{lt-ltb}
 use Rattle.std.specs.{Prelude.{⊤, get_or, is_some, filter, nat_lt, take_while, cond, codes}, List.{prefix_len}}
 use Rattle.sect_front.specs.{TreeView.{TreeView}, Syntax.{BlockView, StatementView, End}, Gaps.{after_gap}}
 use Rattle.sect_front.specs.{Lexing.{Reaches}, TokenAt.{TokenAt}, Faults.{tokens_in, IsViable}}
@@ -239,9 +240,6 @@ kinds_follow front r kinds h e = (
   e,
 )
 
-is_less : (a b : ℕ) → a < b → nat_lt a b ≡ true
-is_less a b h = grind (arith, nat_tests)
-
 -- these begin before a place
 abbrev AreBefore : ℕ → List TokenAt → Type 0
 AreBefore at [] = ⊤
@@ -264,7 +262,7 @@ read_before : (total : ℕ) (bytes : List ℕ) (ps : List TokenAt) (rest : List 
 read_before total bytes [] rest h = tt
 read_before total bytes (p ∷ ps) rest h =
     let behind : List ℕ = drop h.0 (after_gap bytes) in (
-      is_less p.at (total - length (after_gap rest)) (omega (
+      lt-ltb p.at (total - length (after_gap rest)) (omega (
         arith,
         h.1,
         h.2.within,

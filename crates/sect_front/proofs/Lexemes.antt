@@ -1,7 +1,7 @@
 -- Which token stands at the front of a text.
 use Rattle.std.proofs.Common.{◌≡◌, ℕ, zero, suc, ◌+◌, ◌-◌, ◌*◌, ◌<◌, ◌≤◌, Bool, true, false, not, ◌||◌, ◌&&◌, cond, eqb}
 use Rattle.std.proofs.Common.{nat_lt, List, [], ◌∷◌, Option, Some, None, length, take, drop, refl, sym, ◌∙◌, ap, subst}
-use Rattle.std.proofs.{Common.{arith, IfSome}, lemmas.Bool.{eqb-true, and_parts, not-true}}
+use Rattle.std.proofs.{Common.{arith, IfSome}, lemmas.Bool.{eqb-true, and_parts, not-true, or_right, or_parts}}
 use Rattle.std.proofs.{lemmas.List.Folds.{length-prefix_len}, lemmas.List.Sums.{prefix_len-le-length}}
 use Rattle.std.specs.{List.{list_all, take_while, prefix_len}, Str.{bytes_eq}}
 use Rattle.sect_front.specs.{Words.{is_letter, is_digit, is_name_byte}, Gaps.{begins_with}}
@@ -11,7 +11,7 @@ use Rattle.sect_front.specs.steps.Recognition.{decimal_from, number_of, as_numbe
 use Rattle.sect_front.specs.steps.Recognition.{spelled}
 use Rattle.sect_front.specs.steps.Lexeme.{with_length, longest, sign_at, lexeme_of, begins_name}
 use Rattle.sect_front.proofs.{Spellings.{spelling_back, spelled_proper}, Choices.{chosen, refused, if_some, if_some_so}}
-use Rattle.sect_lemmas.proofs.{Booleans.{neither, or_right}, Options.{some_injective, none_or_some}}
+use Rattle.sect_lemmas.proofs.Options.{some_injective, none_or_some}
 use Rattle.sect_front.specs.declared.tree.Comparison.TheVariants as comparison
 use Rattle.sect_front.specs.declared.token.Token.TheVariants as token
 
@@ -204,7 +204,7 @@ no_double b rest t e free next = go (eqb b 61) (eqb b 33) (eqb b 60) refl refl r
 
 -- what a sign at the front spells
 sign_spelled : (b : ℕ) (bs : List ℕ) → is_name_byte b ≡ false → spelled (b ∷ bs) ≡ sign_token b bs
-sign_spelled b bs h = let n = neither (is_letter b) (is_digit b) h in rw (n.0, n.1) refl
+sign_spelled b bs h = let n = or_parts (is_letter b) (is_digit b) h in rw (n.0, n.1) refl
 
 sign_first : (b : ℕ) (bs : List ℕ) (t : Token) (n : ℕ) → is_name_byte b ≡ false → sign_at b bs ≡ Some (t, n)
     → IsFront t n (b ∷ bs)

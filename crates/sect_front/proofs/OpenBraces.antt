@@ -1,12 +1,12 @@
 -- Which braces are open behind the tokens that have been read.
 use Rattle.std.proofs.Common.{◌≡◌, ℕ, ◌-◌, ◌<◌, List, [], ◌∷◌, ◌++◌, Some, length, drop, refl, sym, ◌∙◌, ap, subst}
 use Rattle.std.proofs.{Common.{arith}, lemmas.List.Elements.{All-nil, All-get_or}, lemmas.List.Sums.{fold-append}}
-use Rattle.std.proofs.lemmas.Option.{slice_get-get_or}
+use Rattle.std.proofs.{lemmas.Option.{slice_get-get_or}, lemmas.List.{nil_from_length}}
 use Rattle.std.specs.Prelude.{slice_get, IfSome}
 use Rattle.sect_front.specs.{TokenAt.{TokenAt}, Gaps.{after_gap}, Lexing.{Spells}}
 use Rattle.sect_front.specs.{FaultPlaces.{open_behind, open_braces}, declared.token.Token.{Token}}
 use Rattle.sect_front.specs.steps.{Below.{AreBelow}, Lexeme.{lexeme_of}, Verdicts.{Reached}}
-use Rattle.sect_front.proofs.{Reach.{reached_none, reached_more, lexed}, Texts.{token_here, nothing_left}}
+use Rattle.sect_front.proofs.{Reach.{reached_none, reached_more, lexed}, Texts.{token_here}}
 use Rattle.sect_front.proofs.shared.Lexings.{one_lexing}
 
 -- so far the text has been read, and these braces are open
@@ -38,7 +38,7 @@ pub open_last : (bytes here braces : List ℕ) → OpenHere bytes here braces �
     → Spells bytes places → braces ≡ open_braces places
 open_last bytes here braces h none places s =
     h.are ∙ ap open_braces (one_lexing bytes h.places places
-    (lexed bytes h.places here h.reached (nothing_left here none)) s)
+    (lexed bytes h.places here h.reached (nil_from_length here none)) s)
 
 -- the last of some numbers below another
 pub last_below : (total : ℕ) (list : List ℕ) → AreBelow total list

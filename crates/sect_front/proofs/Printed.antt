@@ -1,7 +1,8 @@
 -- What is printed spells the tokens of the tree.
-use Rattle.std.proofs.Common.{◌≡◌, ℕ, ◌-◌, ◌<◌, ◌≤◌, Bool, true, false, eqb, nat_lt, List, [], ◌∷◌, ◌++◌, length, drop}
+use Rattle.std.proofs.Common.{◌≡◌, ℕ, ◌-◌, ◌<◌, ◌≤◌, Bool, true, false, eqb, List, [], ◌∷◌, ◌++◌, length, drop}
 use Rattle.std.proofs.Common.{refl, sym, ◌∙◌, ap, subst, arith, append_assoc, length-append}
-use Rattle.std.proofs.{Math.Seq.{take-append_seam}, lemmas.Bool.Decides.{nat_tests}, lemmas.Bool.{and_parts}}
+use Rattle.std.proofs.{Math.Seq.{take-append_seam}, lemmas.Bool.Decides.{nat_tests}}
+use Rattle.std.proofs.{lemmas.Bool.{eqb-true, and_parts, ltb-true}, lemmas.List.{drop_at}}
 use Rattle.std.specs.{List.{list_all, flat_map}, Fmt.{decimal}}
 use Rattle.sect_front.specs.{Limits.{most_bytes, most_depth}, Words.{is_letter, is_digit, begins}}
 use Rattle.sect_front.specs.{Gaps.{is_blank, after_gap}, TreeView.{TreeView}, Depth.{depth}}
@@ -48,13 +49,10 @@ digits_solid (d ∷ ds) h some =
           grind (arith, nat_tests);
     }
 
-below : (a b : ℕ) → nat_lt a b ≡ true → a < b
-below a b h = grind (arith, nat_tests)
-
 solid : (t : Token) → is_proper t ≡ true → IsSolid (spelling_of t)
 solid (token.Name n) h = name_solid n (named n h).letter
 solid (token.Number n) h =
-    let low = below n 9223372036854775808 h in digits_solid (decimal n) (decimal_digits n low) (decimal_some n low)
+    let low = ltb-true n 9223372036854775808 h in digits_solid (decimal n) (decimal_digits n low) (decimal_some n low)
 solid token.Record h = record { first = _; others = _; is = refl; no_blank = refl; no_slash = refl }
 solid token.ProtectedBy h = record { first = _; others = _; is = refl; no_blank = refl; no_slash = refl }
 solid token.Global h = record { first = _; others = _; is = refl; no_blank = refl; no_slash = refl }
@@ -146,10 +144,6 @@ spread_gap (t ∷ w) h = solid_gap (spelling_of t) (separator t ∷ spread w)
 blank_gap : (b : ℕ) (w : List ℕ) → is_blank b ≡ true → after_gap (b ∷ w) ≡ after_gap w
 blank_gap b w h = rw h refl
 
-drop_front : (v w : List ℕ) → drop (length v) (v ++ w) ≡ w
-drop_front [] w = refl
-drop_front (x ∷ v) w = drop_front v w
-
 -- where each token stands in a text of so many bytes
 abbrev places_of : ℕ → List Token → List TokenAt
 places_of total [] = []
@@ -174,7 +168,8 @@ first_printed t w h =
       within = omega (arith, length-append (spelling_of t) (separator t ∷ w));
       some = omega (arith, ap length s.is);
       spells = record { is = take-append_seam (spelling_of t) (separator t ∷ w); proper = h };
-      free = ap (stands t) (drop_front (spelling_of t) (separator t ∷ w)) ∙ stands_before t w;
+      free = ap (stands t) (drop_at (spelling_of t) (separator t ∷ w) (length (spelling_of t)) refl)
+          ∙ stands_before t w;
     }
 
 reach : (total : ℕ) (bytes : List ℕ) (w : List Token) → list_all is_proper w ≡ true → after_gap bytes ≡ spread w
@@ -183,7 +178,8 @@ reach total bytes [] h gap fits = record { rest = bytes; reaches = refl; gap = g
 reach total bytes (t ∷ w) h gap fits =
     let proper = and_parts (is_proper t) (list_all is_proper w) h in
     let next : drop (length (spelling_of t)) (after_gap bytes) ≡ separator t ∷ spread w =
-    ap (drop (length (spelling_of t))) gap ∙ drop_front (spelling_of t) (separator t ∷ spread w) in
+    ap (drop (length (spelling_of t))) gap
+    ∙ drop_at (spelling_of t) (separator t ∷ spread w) (length (spelling_of t)) refl in
     let more = reach total (drop (length (spelling_of t)) (after_gap bytes)) w proper.1
     (ap after_gap next ∙ (blank_gap (separator t) (spread w) (separator_blank t) ∙ spread_gap w proper.1))
     (omega (arith, fits, length-append (spelling_of t) (separator t ∷ spread w))) in
@@ -251,12 +247,9 @@ tree_ends tree =
     (ends_each procedure_list tree.procedures procedure_ends))
     (ends_each thread_list tree.threads thread_ends)
 
-same_number : (a b : ℕ) → eqb a b ≡ true → a ≡ b
-same_number a b h = grind (arith, nat_tests)
-
 spread_layout : (w : List Token) → ends_line w ≡ true → spread w ≡ layout_of w
 spread_layout [] h = refl
-spread_layout (t ∷ []) h = ap (λ x. spelling_of t ++ x ∷ []) (same_number (separator t) 10 h)
+spread_layout (t ∷ []) h = ap (λ x. spelling_of t ++ x ∷ []) (eqb-true (separator t) 10 h)
 spread_layout (t ∷ u ∷ w) h = ap (λ x. spelling_of t ++ separator t ∷ x) (spread_layout (u ∷ w) h)
 
 -- what is known of a printed text

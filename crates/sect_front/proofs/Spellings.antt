@@ -1,7 +1,8 @@
 -- The tokens that are recognised are those that the bytes spell.
 use Rattle.std.proofs.Common.{◌≡◌, ℕ, ◌<◌, Bool, true, false, ◌&&◌, cond, eqb, nat_lt, List, [], ◌∷◌, Option, Some}
-use Rattle.std.proofs.{Common.{None, length, refl, sym, ◌∙◌, ap, subst, arith, not}, lemmas.Bool.{eqb-true, and_parts}}
+use Rattle.std.proofs.Common.{None, length, refl, sym, ◌∙◌, ap, subst, arith, not}
 use Rattle.std.proofs.lemmas.Bool.Decides.{nat_tests}
+use Rattle.std.proofs.lemmas.Bool.{lt-ltb, ltb-true, eqb-true, and_parts}
 use Rattle.std.specs.{Prelude.{is_some, is_none}, List.{list_all}, Str.{bytes_eq}, Fmt.{decimal}}
 use Rattle.std.specs.Cmp.Lexicographic.{same_text}
 use Rattle.sect_front.specs.{Words.{is_letter, is_digit, is_name_byte, is_name, begins}, NameTokens.{is_name_token}}
@@ -11,32 +12,21 @@ use Rattle.sect_front.specs.steps.Recognition.{keyword_of, keyword_table, token_
 use Rattle.sect_front.specs.steps.Recognition.{as_number, single_sign, double_sign, sign_token, spelled}
 use Rattle.sect_front.proofs.{Choices.{chosen, if_some_so}, NamesLemmas.{named, is_named, keyword_known, keyword_free}}
 use Rattle.sect_front.proofs.Numbers.{number_decimal, number_back, decimal_digits, decimal_some}
-use Rattle.sect_lemmas.proofs.Options.{some_injective, none_or_some}
+use Rattle.sect_lemmas.proofs.Options.{some_injective, none_or_some, not_some}
 use Rattle.sect_front.specs.declared.tree.Comparison.TheVariants as comparison
 use Rattle.sect_front.specs.declared.token.Token.TheVariants as token
-
--- what is known of a number that is below another, and the other way round
-below : (a b : ℕ) → a < b → nat_lt a b ≡ true
-below a b h = grind (arith, nat_tests)
-
-below_back : (a b : ℕ) → nat_lt a b ≡ true → a < b
-below_back a b h = grind (arith, nat_tests)
 
 -- a digit is no letter
 no_letter : (d : ℕ) → is_digit d ≡ true → is_letter d ≡ false
 no_letter d h = grind (arith, nat_tests)
-
-no_keyword : (o : Option Token) → is_some o ≡ false → o ≡ None
-no_keyword None h = refl
-no_keyword (Some t) h = cc
 
 name_spelled : (n : List ℕ) → is_name n ≡ true → spelled n ≡ Some (token.Name n)
 name_spelled [] h = cc
 name_spelled (b ∷ bs) h =
     let m = named (b ∷ bs) h in
     let all = and_parts (is_name_byte b) (list_all is_name_byte bs) m.all in
-    let none : keyword_of (b ∷ bs) ≡ None = no_keyword (keyword_of (b ∷ bs)) (keyword_known (b ∷ bs) ∙ m.free) in
-    let short = below (length bs) most_name_bytes (omega (arith, m.fits)) in
+    let none : keyword_of (b ∷ bs) ≡ None = not_some (keyword_of (b ∷ bs)) (keyword_known (b ∷ bs) ∙ m.free) in
+    let short = lt-ltb (length bs) most_name_bytes (omega (arith, m.fits)) in
     rw (m.letter, all.1, short) (ap (λ o. Some (or_name o (b ∷ bs))) none)
 
 digits_spelled : (ds : List ℕ) (n : ℕ) → list_all is_digit ds ≡ true → 0 < length ds → number_of ds ≡ Some n
@@ -57,7 +47,7 @@ digits_spelled (d ∷ ds) n h some e =
 pub spelled_proper : (t : Token) → is_proper t ≡ true → spelled (spelling_of t) ≡ Some t
 spelled_proper (token.Name n) h = name_spelled n h
 spelled_proper (token.Number n) h =
-    let low = below_back n 9223372036854775808 h in
+    let low = ltb-true n 9223372036854775808 h in
     digits_spelled (decimal n) n (decimal_digits n low) (decimal_some n low) (number_decimal n low)
 spelled_proper token.Record h = refl
 spelled_proper token.ProtectedBy h = refl
@@ -106,7 +96,7 @@ free_names : (t : Token) → is_proper t ≡ true → begins_free (spelling_of t
 free_names (token.Name n) h =
     let m = named n h in
     (λ j. m.letter j && keyword_free n j) ∙ ap not m.free
-free_names (token.Number n) h = digits_begin (decimal n) (decimal_digits n (below_back n 9223372036854775808 h))
+free_names (token.Number n) h = digits_begin (decimal n) (decimal_digits n (ltb-true n 9223372036854775808 h))
 free_names token.Record h = refl
 free_names token.ProtectedBy h = refl
 free_names token.Global h = refl
@@ -222,7 +212,7 @@ number_spelling ds None e t h = absurd (none_or_some t h)
 number_spelling ds (Some n) e t h =
     let back = number_back ds n e in
     subst (λ u. IsSpelling u ds) (some_injective (token.Number n) t h)
-    (record { is = back.0; proper = below n 9223372036854775808 back.1 })
+    (record { is = back.0; proper = lt-ltb n 9223372036854775808 back.1 })
 
 single_back : (b : ℕ) (t : Token) → single_sign b ≡ Some t → IsSpelling t (b ∷ [])
 single_back b =
@@ -276,6 +266,6 @@ spelling_back (b ∷ bs) t h = go (is_letter b) (is_digit b) refl h
         let c = chosen (list_all is_name_byte bs && short) (Some (word_token (b ∷ bs))) t e in
         let f = and_parts (list_all is_name_byte bs) short c.0 in
         subst (λ u. IsSpelling u (b ∷ bs)) (some_injective (word_token (b ∷ bs)) t c.1)
-        (letter_back b bs letter f.0 (below_back (length bs) most_name_bytes f.1))
+        (letter_back b bs letter f.0 (ltb-true (length bs) most_name_bytes f.1))
     go false true letter e = number_spelling (b ∷ bs) (number_of (b ∷ bs)) refl t e
     go false false letter e = sign_back b bs t e

@@ -188,11 +188,6 @@ too_deep_at bytes here r m k p h some deep within behind spells =
       within = within;
     }
 
--- nothing is left where no byte is
-pub nothing_left : (here : List ℕ) → length here ≡ 0 → here ≡ []
-nothing_left [] e = refl
-nothing_left (b ∷ bs) e = absurd (omega arith)
-
 -- at the end of the text
 pub text_ends : (bytes : List ℕ) (ps : List TokenAt) (r : ReaderView) (k : ℕ) → Spells bytes ps
     → ReadsTo (tokens_in ps) r k → (o : Option TreeView) → o ≡ finish_of r

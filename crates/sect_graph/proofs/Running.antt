@@ -1,34 +1,16 @@
 -- Each node does the first step of what is still to run there.
-use Rattle.std.proofs.Common.{◌≡◌, ℕ, zero, suc, ◌+◌, ◌-◌, ◌<◌, ◌≤◌, List, [], ◌++◌, Some, None, refl, sym, ap, ◌∙◌}
-use Rattle.std.proofs.{Common.{subst, inl, inr, arith, length, true, false, nat_lt}, lemmas.Bool.{cases_lt}}
-use Rattle.std.proofs.{lemmas.Option.{slice_get_past}, lemmas.Bool.Decides.{nat_tests}}
+use Rattle.std.proofs.Common.{◌≡◌, ℕ, zero, suc, ◌+◌, ◌-◌, ◌<◌, List, [], ◌++◌, Some, refl, sym, ap, ◌∙◌}
+use Rattle.std.proofs.{Common.{subst, inl, inr, arith, length}, lemmas.Bool.{cases_lt, lt-ltb, le-ltb}}
+use Rattle.std.proofs.lemmas.Option.{slice_get_within}
 use Rattle.std.specs.Prelude.{slice_get}
+use Rattle.sect_lemmas.proofs.Places.{one_at}
 use Rattle.sect_types.specs.declared.expansion.action.Condition.{Condition}
 use Rattle.sect_types.specs.{Statements.{TextView, Stop, Do, Choose, Loop, Section, joined}, Traces.{node_count}}
 use Rattle.sect_types.proofs.shared.Joining.{joined_stop}
 use Rattle.sect_graph.specs.{declared.flow.Node.{Node}, Layout.{entry_of, nodes_of}}
 use Rattle.sect_graph.specs.Rests.{rest_before, rest_at, Begins, RunsRests}
 use Rattle.sect_graph.proofs.Paths.{HasAt, has_front, has_all, behind, length-nodes_of}
-
-less : (m n : ℕ) → m < n → nat_lt m n ≡ true
-less m n h = grind (arith, nat_tests)
-
-not_less : (m n : ℕ) → n ≤ m → nat_lt m n ≡ false
-not_less m n h = grind (arith, nat_tests)
-
--- behind the last node k is to run
-past : (c : TextView) (j : ℕ) (k : TextView) → node_count c ≤ j → rest_before c j k ≡ k
-past Stop j k h = refl
-past (Do a r) zero k h = absurd (omega arith)
-past (Do a r) (suc j) k h = past r j k (omega arith)
-past (Choose t p q r) zero k h = absurd (omega arith)
-past (Choose t p q r) (suc j) k h =
-    rw (not_less j (node_count p) (omega arith), not_less (j - node_count p) (node_count q) (omega arith))
-    (past r (j - node_count p - node_count q) k (omega arith))
-past (Loop t p r) zero k h = absurd (omega arith)
-past (Loop t p r) (suc j) k h = rw (not_less j (node_count p) (omega arith)) (past r (j - node_count p) k (omega arith))
-past (Section i p r) zero k h = absurd (omega arith)
-past (Section i p r) (suc j) k h = past r j k (omega arith)
+use Rattle.sect_graph.proofs.shared.Rests.{past_end}
 
 -- what is to run at the nodes from n on is what the statements say
 abbrev Says : (ℕ → TextView) → TextView → ℕ → TextView → Type 0
@@ -43,21 +25,18 @@ at_entry rest (Choose t p q r) n next k says on = ap rest (omega arith) ∙ says
 at_entry rest (Loop t p r) n next k says on = ap rest (omega arith) ∙ says 0 (omega arith)
 at_entry rest (Section i p r) n next k says on = ap rest (omega arith) ∙ says 0 (omega arith)
 
-same : (g : List Node) (i : ℕ) (x y : Node) → slice_get g i ≡ Some x → slice_get g i ≡ Some y → x ≡ y
-same g i x y e f = cc
-
 -- what is to run at the nodes of the parts of an `if`
 says_holds : (rest : ℕ → TextView) (t : Condition) (p q r : TextView) (n : ℕ) (k : TextView)
     → Says rest (Choose t p q r) n k → Says rest p (n + 1) (joined r k)
 says_holds rest t p q r n k says i lt =
-    ap rest (omega arith) ∙ says (suc i) (omega arith) ∙ rw (less i (node_count p) lt) refl
+    ap rest (omega arith) ∙ says (suc i) (omega arith) ∙ rw (lt-ltb i (node_count p) lt) refl
 
 says_fails : (rest : ℕ → TextView) (t : Condition) (p q r : TextView) (n : ℕ) (k : TextView)
     → Says rest (Choose t p q r) n k → Says rest q (n + 1 + node_count p) (joined r k)
 says_fails rest t p q r n k says i lt =
     let e : node_count p + i - node_count p ≡ i = omega arith in
     ap rest (omega arith) ∙ says (suc (node_count p + i)) (omega arith)
-    ∙ rw (not_less (node_count p + i) (node_count p) (omega arith), e, less i (node_count q) lt) refl
+    ∙ rw (le-ltb (node_count p + i) (node_count p) (omega arith), e, lt-ltb i (node_count q) lt) refl
 
 says_behind : (rest : ℕ → TextView) (t : Condition) (p q r : TextView) (n : ℕ) (k : TextView)
     → Says rest (Choose t p q r) n k → Says rest r (n + 1 + node_count p + node_count q) k
@@ -66,9 +45,9 @@ says_behind rest t p q r n k says i lt =
     let f : node_count q + i - node_count q ≡ i = omega arith in
     ap rest (omega arith) ∙ says (suc (node_count p + node_count q + i)) (omega arith)
     ∙ rw (
-      not_less (node_count p + node_count q + i) (node_count p) (omega arith),
+      le-ltb (node_count p + node_count q + i) (node_count p) (omega arith),
       e,
-      not_less (node_count q + i) (node_count q) (omega arith),
+      le-ltb (node_count q + i) (node_count q) (omega arith),
       f,
     ) refl
 
@@ -76,20 +55,14 @@ says_behind rest t p q r n k says i lt =
 says_body : (rest : ℕ → TextView) (t : Condition) (p r : TextView) (n : ℕ) (k : TextView) → Says rest (Loop t p r) n k
     → Says rest p (n + 1) (Loop t p (joined r k))
 says_body rest t p r n k says i lt =
-    ap rest (omega arith) ∙ says (suc i) (omega arith) ∙ rw (less i (node_count p) lt) refl
+    ap rest (omega arith) ∙ says (suc i) (omega arith) ∙ rw (lt-ltb i (node_count p) lt) refl
 
 says_past : (rest : ℕ → TextView) (t : Condition) (p r : TextView) (n : ℕ) (k : TextView) → Says rest (Loop t p r) n k
     → Says rest r (n + 1 + node_count p) k
 says_past rest t p r n k says i lt =
     let e : node_count p + i - node_count p ≡ i = omega arith in
     ap rest (omega arith) ∙ says (suc (node_count p + i)) (omega arith)
-    ∙ rw (not_less (node_count p + i) (node_count p) (omega arith), e) refl
-
-within : (g : List Node) (j : ℕ) (x : Node) → slice_get g j ≡ Some x → j < length g
-within g j x at = elim (cases_lt j (length g)) [
-  | inl lt ↦ lt
-  | inr ge ↦ (let e : slice_get g j ≡ None = slice_get_past g j ge in absurd cc)
-]
+    ∙ rw (le-ltb (node_count p + i) (node_count p) (omega arith), e) refl
 
 begins : (g : List Node) (rest : ℕ → TextView) (c : TextView) (n next : ℕ) (k : TextView)
     → HasAt g n (nodes_of c n next)
@@ -100,7 +73,7 @@ begins g rest (Do a r) n next k has says on zero lt x at =
     let after = entry_of r (n + 1) next in
     let says' : Says rest r (n + 1) k = λ j lt. ap rest (omega arith) ∙ says (suc j) (omega arith) in (
       after,
-      same g n x _ (subst (λ i. slice_get g i ≡ Some x) (omega arith) at) has.0,
+      one_at g n x _ (subst (λ i. slice_get g i ≡ Some x) (omega arith) at) has.0,
       at_entry rest r (n + 1) next k says' on,
     )
 begins g rest (Do a r) n next k has says on (suc j) lt x at =
@@ -110,7 +83,7 @@ begins g rest (Section i p r) n next k has says on zero lt x at =
     let after = entry_of r (n + 1) next in
     let says' : Says rest r (n + 1) k = λ j lt. ap rest (omega arith) ∙ says (suc j) (omega arith) in (
       after,
-      same g n x _ (subst (λ i. slice_get g i ≡ Some x) (omega arith) at) has.0,
+      one_at g n x _ (subst (λ i. slice_get g i ≡ Some x) (omega arith) at) has.0,
       at_entry rest r (n + 1) next k says' on,
     )
 begins g rest (Section i p r) n next k has says on (suc j) lt x at =
@@ -122,7 +95,7 @@ begins g rest (Choose t p q r) n next k has says on zero lt x at =
     let on' = at_entry rest r end next k (says_behind rest t p q r n k says) on in (
       entry_of p (n + 1) after,
       entry_of q (n + 1 + node_count p) after,
-      same g n x _ (subst (λ i. slice_get g i ≡ Some x) (omega arith) at) has.0,
+      one_at g n x _ (subst (λ i. slice_get g i ≡ Some x) (omega arith) at) has.0,
       at_entry rest p (n + 1) after (joined r k) (says_holds rest t p q r n k says) on',
       at_entry rest q (n + 1 + node_count p) after (joined r k) (says_fails rest t p q r n k says) on',
     )
@@ -136,15 +109,15 @@ begins g rest (Choose t p q r) n next k has says on (suc j) lt x at =
     let has_q = behind g p (n + 1) after (ys ++ zs) has.1 in
     let has_r = behind g q (n + 1 + node_count p) after zs has_q in
     elim (cases_lt j (node_count p)) [
-      | inl holds ↦ rw (less j (node_count p) holds)
+      | inl holds ↦ rw (lt-ltb j (node_count p) holds)
           (begins g rest p (n + 1) after (joined r k) (has_front g (n + 1) xs (ys ++ zs) has.1)
           (says_holds rest t p q r n k says) on' j holds x (subst (λ i. slice_get g i ≡ Some x) (omega arith) at))
-      | inr other ↦ rw (not_less j (node_count p) other) (elim (cases_lt (j - node_count p) (node_count q)) [
-        | inl fails ↦ rw (less (j - node_count p) (node_count q) fails)
+      | inr other ↦ rw (le-ltb j (node_count p) other) (elim (cases_lt (j - node_count p) (node_count q)) [
+        | inl fails ↦ rw (lt-ltb (j - node_count p) (node_count q) fails)
             (begins g rest q (n + 1 + node_count p) after (joined r k) (has_front g (n + 1 + node_count p) ys zs has_q)
             (says_fails rest t p q r n k says) on' (j - node_count p) fails x
             (subst (λ i. slice_get g i ≡ Some x) (omega arith) at))
-        | inr behind ↦ rw (not_less (j - node_count p) (node_count q) behind)
+        | inr behind ↦ rw (le-ltb (j - node_count p) (node_count q) behind)
             (begins g rest r end next k has_r (says_behind rest t p q r n k says) on (j - node_count p - node_count q)
             (omega arith) x (subst (λ i. slice_get g i ≡ Some x) (omega arith) at))
       ])
@@ -153,7 +126,7 @@ begins g rest (Loop t p r) n next k has says on zero lt x at =
     let end = n + 1 + node_count p in (
       entry_of p (n + 1) n,
       entry_of r end next,
-      same g n x _ (subst (λ i. slice_get g i ≡ Some x) (omega arith) at) has.0,
+      one_at g n x _ (subst (λ i. slice_get g i ≡ Some x) (omega arith) at) has.0,
       at_entry rest p (n + 1) n (Loop t p (joined r k)) (says_body rest t p r n k says)
           (ap rest (omega arith) ∙ says zero (omega arith)),
       at_entry rest r end next k (says_past rest t p r n k says) on,
@@ -164,11 +137,11 @@ begins g rest (Loop t p r) n next k has says on (suc j) lt x at =
     let zs = nodes_of r end next in
     let has_r = behind g p (n + 1) n zs has.1 in
     elim (cases_lt j (node_count p)) [
-      | inl body ↦ rw (less j (node_count p) body)
+      | inl body ↦ rw (lt-ltb j (node_count p) body)
           (begins g rest p (n + 1) n (Loop t p (joined r k)) (has_front g (n + 1) xs zs has.1)
           (says_body rest t p r n k says) (ap rest (omega arith) ∙ says zero (omega arith)) j body x
           (subst (λ i. slice_get g i ≡ Some x) (omega arith) at))
-      | inr past ↦ rw (not_less j (node_count p) past)
+      | inr past ↦ rw (le-ltb j (node_count p) past)
           (begins g rest r end next k has_r (says_past rest t p r n k says) on (j - node_count p) (omega arith) x
           (subst (λ i. slice_get g i ≡ Some x) (omega arith) at))
     ]
@@ -188,7 +161,7 @@ runs_rests c g is =
     record {
       start = at_start c ∙ joined_stop c;
       begins = λ j x at. begins g (rest_at c) c 0 (node_count c) Stop has (λ i lt. ap (rest_at c) (omega arith))
-          (past c (node_count c) Stop (omega arith)) j (omega (arith, len, within g j x at)) x
+          (past_end c (node_count c) Stop (omega arith)) j (omega (arith, len, slice_get_within g j x at)) x
           (subst (λ i. slice_get g i ≡ Some x) (omega arith) at);
-      end = ap (rest_at c) len ∙ past c (node_count c) Stop (omega arith);
+      end = ap (rest_at c) len ∙ past_end c (node_count c) Stop (omega arith);
     }

@@ -1,3 +1,4 @@
 -- What follows from the public words of this crate, for the proofs of the crates above.
 pub mod Paths
+pub mod Rests
 pub mod Crossing

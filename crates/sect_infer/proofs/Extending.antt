@@ -6,7 +6,7 @@ use Rattle.std.proofs.lemmas.List.{append-nil, get_or-set_same, get_or-set_other
 use Rattle.std.proofs.lemmas.Option.{slice_get_within}
 use Rattle.std.specs.Prelude.{slice_get, slice_index_or, IsTrue, IsFalse, not, if◌then◌else◌}
 use Rattle.sect_lemmas.specs.Lists.{Has}
-use Rattle.sect_lemmas.proofs.{Places.{pushed_at}, Options.{some_injective}}
+use Rattle.sect_lemmas.proofs.{Places.{pushed_at}, Options.{some_injective}, Elements.{slice_get-left}}
 use Rattle.sect_lemmas.proofs.Membership.{Has-left, Has-right, Has-cases, Has-slice_get}
 use Rattle.sect_points.specs.Paths.{PathView}
 use Rattle.sect_names.specs.{declared.lock.Right.{Right}, declared.lock.Effect.{Effect}, declared.lock.Lock.{Lock}}
@@ -20,7 +20,7 @@ use Rattle.sect_infer.specs.Numberings.{Extends, IsNumbered}
 use Rattle.sect_infer.specs.steps.Putting.{IsPut, IsSame, IsTold, IsToldBelow}
 use Rattle.sect_infer.specs.steps.Putting.{IsBroad, AreThere, over_writes, over_reads}
 use Rattle.sect_infer.proofs.shared.Apart.{apart_push, apart_one}
-use Rattle.sect_infer.proofs.shared.Extending.{get_left, extends_none, extends_at}
+use Rattle.sect_infer.proofs.shared.Extending.{extends_none, extends_at}
 use Rattle.sect_names.specs.declared.lock.Effect.TheVariants as effect
 use Rattle.sect_names.specs.declared.lock.Right.TheVariants as right
 use Rattle.sect_names.specs.declared.lock.Lock.TheVariants as lock
@@ -75,7 +75,7 @@ has_more keys ns n l h = (h.0, Has-left ns (n ∷ []) h.0 h.1, h.2)
 
 -- and one lock more
 has_longer : (keys more : List Lock) (ns : List ℕ) (l : Lock) → HasLock keys ns l → HasLock (keys ++ more) ns l
-has_longer keys more ns l h = (h.0, h.1, get_left keys more h.0 l h.2)
+has_longer keys more ns l h = (h.0, h.1, slice_get-left keys more h.0 l h.2)
 
 -- none of the locks is there, and so none is missing
 pub there_none : (keys locks : List Lock) → ((l : Lock) → Has locks l → Has keys l → ⊥) → AreThere keys locks []
@@ -164,7 +164,7 @@ module _ (s : SchemeView) where
   above_more : (keys : List Lock) (x l : Lock) (ns : List ℕ) → (IsAbove s x l → ⊥) → AreAbove s keys l ns
       → AreAbove s (keys ++ x ∷ []) l ns
   above_more keys x l ns free a = record {
-    cover = λ n h. (let c = a.cover n h in (c.0, get_left keys (x ∷ []) n c.0 c.1, c.2));
+    cover = λ n h. (let c = a.cover n h in (c.0, slice_get-left keys (x ∷ []) n c.0 c.1, c.2));
     all = λ big h. elim (a.all big h) [
       | inl one ↦ inl (has_longer keys (x ∷ []) ns big one)
       | inr absent ↦ inr (λ there. elim (Has-cases keys (x ∷ []) big there) [
@@ -179,7 +179,7 @@ module _ (s : SchemeView) where
       → IsAbove s x l → AreAbove s keys l ns → AreAbove s (keys ++ x ∷ []) l (ns ++ n ∷ [])
   above_told keys x l ns n at over a = record {
     cover = λ m h. elim (Has-cases ns (n ∷ []) m h) [
-      | inl one ↦ (let c = a.cover m one in (c.0, get_left keys (x ∷ []) m c.0 c.1, c.2))
+      | inl one ↦ (let c = a.cover m one in (c.0, slice_get-left keys (x ∷ []) m c.0 c.1, c.2))
       | inr last ↦ elim last [
         | inl e ↦ (x, ap (slice_get (keys ++ x ∷ [])) (sym e) ∙ at, over)
         | inr none ↦ absurd none

@@ -1,9 +1,9 @@
 -- The locks that are found for a section.
-use Rattle.std.proofs.Common.{◌≡◌, ◌↔◌, ℕ, zero, suc, ◌+◌, ◌<◌, ◌≤◌, map, List, [], ◌∷◌, Some, length, inl, inr, refl}
+use Rattle.std.proofs.Common.{◌≡◌, ◌↔◌, ℕ, ◌+◌, ◌<◌, ◌≤◌, map, List, [], ◌∷◌, Some, length, inl, inr, refl}
 use Rattle.std.proofs.{Common.{sym, ap, ◌∙◌, subst, append-nil, arith}, lemmas.Bool.{cases_lt}}
 use Rattle.std.proofs.{lemmas.List.{length-map}, lemmas.Option.{slice_get_within, get_or_from_slice_get}}
 use Rattle.std.specs.Prelude.{slice_get, slice_index_or}
-use Rattle.sect_lemmas.proofs.Places.{one_at}
+use Rattle.sect_lemmas.proofs.{Places.{one_at}, Replaced.{slice_get-map}}
 use Rattle.sect_lemmas.specs.Lists.{Has}
 use Rattle.sect_front.specs.declared.tree.Locking.{Locking}
 use Rattle.sect_types.specs.{Statements.{TextView}, Traces.{Visit}}
@@ -19,13 +19,6 @@ use Rattle.sect_infer.proofs.{Settling.{derived_lock}, Listing.{maximal_of, list
 use Rattle.sect_front.specs.declared.tree.Locking.TheVariants as locking
 use Rattle.sect_names.specs.declared.lock.Lock.TheVariants as lock
 
--- what a list of values stands for
-mapped_at : {X Y : Type 0} (f : X → Y) (xs : List X) (j : ℕ) (y : Y) → slice_get (map f xs) j ≡ Some y
-    → (x : X) × (slice_get xs j ≡ Some x) × (f x ≡ y)
-mapped_at f [] j y at = absurd cc
-mapped_at f (x ∷ xs) zero y at = (x, refl, cc)
-mapped_at f (x ∷ xs) (suc j) y at = mapped_at f xs j y at
-
 -- a lock that the end of a section generates is on all
 pub end_is_all : (l : Locking) (x : Lock) → end_locks l ≡ x ∷ [] → x ≡ lock.All
 end_is_all locking.Inferred x is = absurd cc
@@ -38,7 +31,7 @@ module _ (s : SchemeView) (t : ℕ) (g : List Node) where
   are_found a lists order settled o = record {
     count = length-map lists (listed a order) ∙ settled.numbered.count;
     each = λ j locks at.
-        let ns = mapped_at (listed a order) lists j locks at in
+        let ns = slice_get-map (listed a order) lists j locks at in
         let here : slice_index_or lists j [] ≡ ns.0 = get_or_from_slice_get lists j ns.0 [] ns.1 in
         let there = subst (AreNumbers a.keys) here (settled.numbered.numbers j) in
         subst (AreMaximal s (λ l. IsDerived s t g (need j l))) ns.2
@@ -183,7 +176,7 @@ pub are_on_all : (s : SchemeView) (a : NumberingView) (lists : List (List ℕ)) 
 are_on_all s a lists order count n is at o long each = record {
   counted = length-map lists (listed a order) ∙ long;
   each = λ j locks got.
-      let ns = mapped_at (listed a order) lists j locks got in
+      let ns = slice_get-map (listed a order) lists j locks got in
       let within = slice_get_within lists j ns.0 ns.1 in
       let here : ns.0 ≡ n ∷ [] = sym (get_or_from_slice_get lists j ns.0 [] ns.1)
       ∙ each j (omega (arith, within, long)) in

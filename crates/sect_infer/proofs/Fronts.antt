@@ -1,11 +1,11 @@
 -- Lists that are the fronts of rows.
 use Rattle.std.proofs.Common.{◌≡◌, inl, inr, ℕ, zero, suc, ◌+◌, ◌<◌, ◌≤◌, List, [], ◌∷◌, ◌++◌, map, take, set, length}
 use Rattle.std.proofs.{Common.{length-set, length-append, refl, sym, ap, ◌∙◌, subst, arith}, lemmas.Bool.{cases_eq}}
-use Rattle.std.proofs.lemmas.List.{append-nil, get_or-map, get_or-set_same, get_or-set_other, take-append-le}
-use Rattle.std.proofs.Math.Seq.{take-length}
+use Rattle.std.proofs.lemmas.List.{append-nil, get_or-map, get_or-set_same, get_or-set_other, take-append-le, map-set}
+use Rattle.std.proofs.{Math.Seq.{take-length}, lemmas.List.{get_or_append_left}}
 use Rattle.std.specs.{Prelude.{slice_index_or}, declared.vec.Vec.{Vec}, Global.{Global}}
 use Rattle.sect_lemmas.specs.Lists.{Has}
-use Rattle.sect_lemmas.proofs.{Membership.{Has-get_or}, Elements.{map-set}}
+use Rattle.sect_lemmas.proofs.Membership.{Has-get_or}
 use Rattle.sect_infer.specs.declared.lists.Front.{Front}
 use Rattle.sect_infer.specs.steps.Fronts.{front_of, fronts_of, AreEmpty, IsFront, AreFronts, HasOneMore}
 
@@ -52,18 +52,11 @@ pub record IsLonger (old new : List (List ℕ)) : Type 0 where
 pub longer_same : (rows : List (List ℕ)) → IsLonger rows rows
 longer_same rows = record { count = omega arith; each = λ i within. ([], sym (append-nil (slice_index_or rows i []))) }
 
--- what stands in the first of two lists
-get_first : {X : Type 0} (xs ys : List X) (i : ℕ) (d : X) → i < length xs
-    → slice_index_or (xs ++ ys) i d ≡ slice_index_or xs i d
-get_first [] ys i d within = absurd (omega (arith, within))
-get_first (x ∷ xs) ys zero d within = refl
-get_first (x ∷ xs) ys (suc i) d within = get_first xs ys i d (omega (arith, within))
-
 -- one row more, and one that goes on
 pub longer_more : (rows more : List (List ℕ)) → IsLonger rows (rows ++ more)
 longer_more rows more = record {
   count = omega (arith, length-append rows more);
-  each = λ i within. ([], get_first rows more i [] within ∙ sym (append-nil (slice_index_or rows i [])));
+  each = λ i within. ([], get_or_append_left rows more [] i within ∙ sym (append-nil (slice_index_or rows i [])));
 }
 
 pub longer_put : (rows : List (List ℕ)) (r : ℕ) (more : List ℕ) → r < length rows

@@ -1,11 +1,12 @@
 -- Marks that say which numbers are there.
 use Rattle.std.proofs.Common.{◌≡◌, ◌↔◌, ℕ, zero, suc, ◌+◌, ◌<◌, ◌≤◌, List, [], ◌∷◌, ◌++◌, Bool, true, false, nat_eq}
 use Rattle.std.proofs.Common.{length, get_or, set, take, drop, replicate, refl, sym, ap, ◌∙◌, subst, arith, inl, inr}
-use Rattle.std.proofs.{Common.{true≢false}, lemmas.Bool.{cases_eq}}
+use Rattle.std.proofs.{Common.{true≢false}, lemmas.Bool.{cases_eq, or_right}}
 use Rattle.std.proofs.lemmas.List.{get_or-set_same, get_or-set_other, take_more, take_all}
 use Rattle.std.specs.{Prelude.{slice_index_or, ◌||◌}, Cmp.{unsigned_Decides}}
 use Rattle.sect_lemmas.specs.Lists.{Has}
-use Rattle.sect_lemmas.proofs.Elements.{drop_next}
+use Rattle.sect_lemmas.proofs.Elements.{drop_next, repeated}
+use Rattle.sect_lemmas.proofs.Booleans.{or_false}
 use Rattle.sect_infer.specs.Numbers.{has_number, with_number, with_numbers, AreApart, AreMarked}
 use Rattle.sect_infer.proofs.shared.Apart.{apart_push, number_tells, number_absent}
 
@@ -55,10 +56,6 @@ unmark_next ns marks i x apart within is told n =
 -- what is there with one number more
 has_behind : (ns : List ℕ) (x n : ℕ) → has_number (ns ++ x ∷ []) n ≡ (has_number ns n || nat_eq n x)
 has_behind [] x n = or_false (nat_eq n x)
-  where
-    or_false : (b : Bool) → (b || false) ≡ b
-    or_false true = refl
-    or_false false = refl
 has_behind (m ∷ ns) x n = ap (λ b. nat_eq n m || b) (has_behind ns x n)
     ∙ or_assoc (nat_eq n m) (has_number ns n) (nat_eq n x)
   where
@@ -73,7 +70,7 @@ pub mark_one : (ns : List ℕ) (marks : List Bool) (x : ℕ) → has_number ns x
 mark_one ns marks x absent there told apart = record {
   told = λ n. elim (cases_eq n x) [
     | inl e ↦ ap (λ m. get_or (set marks x true) m false) e ∙ get_or-set_same marks x true false there
-        ∙ sym (has_behind ns x n ∙ or_true (has_number ns n) (nat_eq n x) ((unsigned_Decides n x).1 e))
+        ∙ sym (has_behind ns x n ∙ or_right (has_number ns n) (nat_eq n x) ((unsigned_Decides n x).1 e))
     | inr other ↦ get_or-set_other marks x n true false other ∙ told n
         ∙ sym (has_behind ns x n ∙ or_off (has_number ns n) (nat_eq n x)
         (off (nat_eq n x) (unsigned_Decides n x) other))
@@ -81,10 +78,6 @@ mark_one ns marks x absent there told apart = record {
   apart = apart_push ns x apart (number_absent ns x absent);
 }
   where
-    or_true : (a b : Bool) → b ≡ true → (a || b) ≡ true
-    or_true true b e = refl
-    or_true false b e = e
-
     or_off : (a b : Bool) → b ≡ false → (a || b) ≡ a
     or_off true b e = refl
     or_off false b e = e
@@ -100,15 +93,10 @@ with_next ns ms i m within is =
     behind ns [] m = refl
     behind ns (k ∷ ms) m = behind (with_number ns k) ms m
 
-no_mark : (k n : ℕ) → get_or (replicate k false) n false ≡ false
-no_mark zero n = refl
-no_mark (suc k) zero = refl
-no_mark (suc k) (suc n) = no_mark k n
-
 -- room for more marks marks nothing
 pub room_marks_nothing : (marks : List Bool) (k n : ℕ)
     → get_or (marks ++ replicate k false) n false ≡ get_or marks n false
-room_marks_nothing [] k n = no_mark k n
+room_marks_nothing [] k n = repeated k n false
 room_marks_nothing (m ∷ marks) k zero = refl
 room_marks_nothing (m ∷ marks) k (suc n) = room_marks_nothing marks k n
 

@@ -4,7 +4,7 @@ use Rattle.std.proofs.{Common.{sym, ap, ◌∙◌, arith}, lemmas.Bool.{cases_eq
 use Rattle.std.proofs.lemmas.Map.Lookups.{exact_unsigned}
 use Rattle.std.specs.{List.{range_with_len, AllByRecursion}, List.Sorted.{IsStrictlySortedBy}, Cmp.{nat_cmp_is}}
 use Rattle.std.specs.{declared.cmp.Ordering.TheVariants.{Less}, BTreeSet.{insert_key}, Ordering.{nat_cmp}}
-use Rattle.sect_lemmas.proofs.{Membership.{Has-left, Has-right, Has-cases}, Inserting.{put_key}}
+use Rattle.sect_lemmas.proofs.{Membership.{Has-left, Has-right, Has-cases}, Inserting.{put_key}, Listing.{range_more}}
 use Rattle.sect_lemmas.specs.Lists.{Has}
 
 -- one node more waits
@@ -52,12 +52,6 @@ sorted_range a (suc n) xs from sorted =
       | inr k ↦ (let f = from y k in omega (arith, f))
     ])
     (sorted_range (a + 1) n xs (λ y h. let f = from y h in omega (arith, f)) sorted)
-
--- a range with one number more
-range_more : (a n : ℕ) → range_with_len a (suc n) ≡ range_with_len a n ++ (a + n) ∷ []
-range_more a zero = ap (λ m. m ∷ []) (omega arith)
-range_more a (suc n) = ap (λ xs. a ∷ xs) (range_more (a + 1) n
-    ∙ ap (λ m. range_with_len (a + 1) n ++ m ∷ []) (omega arith))
 
 -- the last of a range is taken out, where there are no others
 pub range_popped : (below less : ℕ) (old new : List ℕ) → below ≡ less + 1 → old ≡ [] → new ≡ []

@@ -1,11 +1,12 @@
 -- Locks of sections that workers have found, put in their places.
-use Rattle.std.proofs.Common.{◌≡◌, ℕ, zero, suc, ◌+◌, ◌<◌, List, [], ◌∷◌, ◌++◌, Option, Some, length, slice_get}
-use Rattle.std.proofs.Common.{slice_set, refl, sym, ap, ◌∙◌, subst, arith, inl, inr, ◌%◌, Bool, append-nil, add-zero}
+use Rattle.std.proofs.Common.{◌≡◌, ℕ, ◌+◌, ◌<◌, List, [], ◌∷◌, ◌++◌, Option, Some, length, slice_get}
+use Rattle.std.proofs.Common.{slice_set, refl, sym, ap, ◌∙◌, subst, arith, inl, inr, ◌%◌, Bool, append-nil}
 use Rattle.std.proofs.{Common.{add-one, zero-add}, lemmas.List.{length-set, map-append}, lemmas.Bool.{eq-eqb, ne_eqb}}
 use Rattle.std.proofs.lemmas.List.Elements.{filter-append}
 use Rattle.std.specs.{Prelude.{◌==◌, filter}, List.{range_with_len}}
 use Rattle.sect_types.specs.Sections.{sections_of}
 use Rattle.sect_lemmas.proofs.{Options.{some_injective, none_or_some}, Places.{pushed_at}, Replaced.{set_cases}}
+use Rattle.sect_lemmas.proofs.Listing.{range_more}
 use Rattle.sect_names.specs.Schemes.{SchemeView}
 use Rattle.sect_infer.specs.{Sets.{LocksView, AreInferredAt}, declared.workers.SectionLocks.{SectionLocks}}
 use Rattle.sect_infer.specs.steps.Sharing.{AreFound, AreInPlace, dealt, sections_in}
@@ -21,13 +22,6 @@ one_found s found x before within is = record {
     | inr h ↦ before.each k y h
   ];
 }
-
--- the first numbers, and one more
-range_more : (a n : ℕ) → range_with_len a (suc n) ≡ range_with_len a n ++ (a + n) ∷ []
-range_more a zero = rw add-zero refl
-range_more a (suc n) =
-    let next : (a + 1) + n ≡ a + suc n = omega arith in
-    ap (λ ns. a ∷ ns) (range_more (a + 1) n ∙ ap (λ m. range_with_len (a + 1) n ++ m ∷ []) next)
 
 dealt_next : (workers worker n : ℕ) → dealt workers worker (n + 1) ≡ dealt workers worker n
     ++ filter (λ i. i % workers == worker) (n ∷ [])

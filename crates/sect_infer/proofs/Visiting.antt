@@ -1,8 +1,8 @@
 -- A node is gone over.
-use Rattle.std.proofs.Common.{◌≡◌, ◌↔◌, ◌⊎◌, inl, inr, ℕ, zero, suc, ◌<◌, List, [], ◌∷◌, ◌++◌, Option, Some, None, Bool}
+use Rattle.std.proofs.Common.{◌≡◌, ◌↔◌, ◌⊎◌, inl, inr, ℕ, suc, ◌<◌, List, [], ◌∷◌, ◌++◌, Option, Some, None, Bool}
 use Rattle.std.proofs.Common.{true, false, not, ◌-◌, length, length-set, set, take, drop, refl, sym, ap, length-drop}
 use Rattle.std.proofs.{Common.{◌∙◌, subst, arith, true≢false, ◌==◌, rules}, lemmas.Bool.{cases_eq}}
-use Rattle.std.proofs.lemmas.List.{get_or-set_same, get_or-set_other, take_all}
+use Rattle.std.proofs.lemmas.List.{get_or-set_same, get_or-set_other, take_all, drop_at}
 use Rattle.std.specs.Prelude.{slice_get, slice_index_or}
 use Rattle.sect_lemmas.specs.Lists.{Has}
 use Rattle.sect_lemmas.proofs.{Membership.{Has-left, Has-right, Has-cases}, Places.{one_at}}
@@ -128,13 +128,6 @@ pub tested_some : {X : Type 0} (xs : List X) (b : Bool) → b ≡ (length xs == 
 tested_some [] b e on = absurd (true≢false (sym on ∙ ap not e))
 tested_some (x ∷ xs) b e on = omega arith
 
--- a list without its front
-drop_front : {X : Type 0} (xs ys : List X) (k : ℕ) → k ≡ length xs → drop k (xs ++ ys) ≡ ys
-drop_front [] ys zero e = refl
-drop_front [] ys (suc k) e = absurd (omega (arith, e))
-drop_front (x ∷ xs) ys zero e = absurd (omega (arith, e))
-drop_front (x ∷ xs) ys (suc k) e = drop_front xs ys k (omega (arith, e))
-
 -- node j has been gone over: these numbers were found, first those that it had
 module _ (s : SchemeView) (t : ℕ) (g : List Node) (j : ℕ) (a b d : NumberingView) (lists : List (List ℕ))
     (ms os : List ℕ)
@@ -174,7 +167,7 @@ module _ (s : SchemeView) (t : ℕ) (g : List Node) (j : ℕ) (a b d : Numbering
     os_is : os ≡ begun ++ new
     os_is =
         let behind : drop (length before) found ≡ all.behind.0 = ap (drop (length before)) (found_is ∙ all.behind.1)
-        ∙ drop_front begun all.behind.0 (length before) (ap length (before_is ∙ starts)) in
+        ∙ drop_at begun all.behind.0 (length before) (sym (ap length (before_is ∙ starts))) in
         let same : new ≡ all.behind.0 = ap (take (length found - length before)) behind
         ∙ take_all (length found - length before) all.behind.0
         (omega (arith, ap length behind, length-drop (length before) found)) in

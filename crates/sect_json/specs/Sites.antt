@@ -4,9 +4,9 @@ use Rattle.std.specs.Prelude.{◌≡◌, ◌<◌, ℕ, ◌+◌, ◌*◌, ◌/◌
 use Rattle.std.specs.Prelude.{None, codes, length, map, filter, nat_lt, option_map, slice_get, slice_index}
 use Rattle.std.specs.{Prelude.{slice_index_or}, List.{flat_map, range_with_len}, Int.{bit_at}}
 use Rattle.serde_json.specs.Data.{Data, null, string}
-use Rattle.sect_front.specs.{TreeView.{TreeView}, declared.span.Span.{Span}, declared.tree.GlobalObject.{GlobalObject}}
+use Rattle.sect_front.specs.{declared.span.Span.{Span}, declared.tree.GlobalObject.{GlobalObject}}
 use Rattle.sect_types.specs.{Limits.{most_fields}, LocalNames.{local_text}, Sections.{sections_of}}
-use Rattle.sect_types.specs.{Sight.{names_of_records}, declared.expansion.action.Label.{Label}}
+use Rattle.sect_types.specs.declared.expansion.action.Label.{Label}
 use Rattle.sect_points.specs.{Rows.{no_sites}, Sets.{PointsToView, rows_of}, declared.holders.Holder.{Holder}}
 use Rattle.sect_points.specs.declared.sites.SiteSet.{SiteSet}
 use Rattle.sect_names.specs.Printing.{local_at}
@@ -14,7 +14,7 @@ use Rattle.sect_places.specs.{Declarations.{global_of}, declared.name_use.NameSp
 use Rattle.sect_places.specs.declared.origin_spans.NodeSpan.{NodeSpan}
 use Rattle.sect_lint.specs.{Json.{span_json}, Naming.{found}}
 use Rattle.sect_store.specs.Printing.{fields_at}
-use Rattle.sect_emit.specs.{Compiled.{CompiledView, program_of}, Graphed.{graphed_nodes}}
+use Rattle.sect_emit.specs.{Compiled.{CompiledView, program_of}, Graphed.{graphed_nodes}, Labels.{record_name}}
 use Rattle.sect_json.specs.Values.{count, list, by_place, record_of}
 use Rattle.sect_types.specs.declared.expansion.action.Action.TheVariants as action
 use Rattle.sect_types.specs.declared.expansion.action.Label.TheVariants as label
@@ -100,10 +100,6 @@ global_json c source names s g = site_with (record {
   place = bytes_json source (name_bytes (found names (global_of names g.name)));
   shape = g.of;
 }) s
-
--- the name of the record of that number
-abbrev pub record_name : TreeView → ℕ → List ℕ
-record_name t r = slice_index_or (names_of_records t.records) r []
 
 -- the site of a `new` of that record, which stands there
 abbrev pub made_json : CompiledView → List ℕ → Option NodeSpan → ℕ → ℕ → Data

@@ -1,7 +1,7 @@
 -- The first element that passes a test.
-use Rattle.std.proofs.Common.{◌≡◌, ℕ, zero, suc, ◌≤◌, Bool, true, false, List, [], ◌∷◌, Option, Some, None, refl, sym}
-use Rattle.std.proofs.{Common.{ap, ◌∙◌, cond, length, true≢false, arith}, lemmas.Bool.{ltb-false, ltb-true}}
-use Rattle.std.proofs.lemmas.List.Folds.{find_at}
+use Rattle.std.proofs.Common.{◌≡◌, ℕ, Bool, true, false, List, [], ◌∷◌, Option, Some, None, refl, sym}
+use Rattle.std.proofs.{Common.{ap, ◌∙◌, cond, length, true≢false}, lemmas.Bool.{ltb-false, ltb-true}}
+use Rattle.std.proofs.{lemmas.List.Folds.{find_at}, lemmas.Option.{slice_get_past}}
 use Rattle.std.specs.{Prelude.{nat_lt, position, slice_get, filter, find, is_some, MatchOption}, List.{position_or_len}}
 use Rattle.std.specs.Option.{option_or}
 use Rattle.sect_lemmas.proofs.Places.{at_of}
@@ -23,11 +23,6 @@ find_kept {X} p q weaker (x ∷ xs) = by (q x) (weaker x) (find_kept p q weaker 
     by true passes rest = ap (cond (p x) (Some x)) rest
     by false passes rest = rest ∙ passed_by x (p x) passes (find p xs)
 
-past_all : {X : Type 0} (xs : List X) (i : ℕ) → length xs ≤ i → slice_get xs i ≡ None
-past_all [] i h = refl
-past_all (x ∷ xs) zero h = absurd (omega (arith, h))
-past_all (x ∷ xs) (suc i) h = past_all xs i (omega (arith, h))
-
 -- the first that passes stands at this place, or none is given and none passes
 abbrev pub Finds : {X : Type 0} → (X → Bool) → List X → Option ℕ → Type 0
 Finds {X} p xs o = MatchOption o (find p xs ≡ None) (λ i. (x : X) × (find p xs ≡ Some x) × (slice_get xs i ≡ Some x))
@@ -41,7 +36,7 @@ position_finds p xs = by (nat_lt (position_or_len p xs) (length xs)) refl
         let here = at_of xs (position_or_len p xs) (ltb-true (position_or_len p xs) (length xs) less) in
         (here.0, find_at p xs ∙ here.1, here.1)
     by false less =
-        find_at p xs ∙ past_all xs (position_or_len p xs) (ltb-false (position_or_len p xs) (length xs) less)
+        find_at p xs ∙ slice_get_past xs (position_or_len p xs) (ltb-false (position_or_len p xs) (length xs) less)
 
 -- a place is given where something is found
 pub position_there : {X : Type 0} (p : X → Bool) (xs : List X) → is_some (position p xs) ≡ is_some (find p xs)

@@ -1,7 +1,7 @@
 -- Lists that are made of others.
-use Rattle.std.proofs.Common.{ℕ, zero, suc, ◌<◌, List, [], ◌∷◌, map, sym, ap, subst, inl, inr, arith}
-use Rattle.std.proofs.lemmas.Bool.{cases_eq}
-use Rattle.std.specs.List.{flat_map}
+use Rattle.std.proofs.Common.{ℕ, zero, suc, ◌<◌, List, [], ◌∷◌, map, sym, ap, subst, inl, inr, arith, ◌≡◌, ◌+◌, ◌++◌}
+use Rattle.std.proofs.{Common.{◌∙◌}, lemmas.Bool.{cases_eq}}
+use Rattle.std.specs.List.{flat_map, range_with_len}
 use Rattle.sect_lemmas.specs.Lists.{Has}
 use Rattle.sect_lemmas.proofs.Membership.{Has-left, Has-right}
 
@@ -25,3 +25,9 @@ below (suc n) = n ∷ below n
 pub Has-below : (n i : ℕ) → i < n → Has (below n) i
 Has-below zero i h = absurd (omega arith)
 Has-below (suc n) i h = elim (cases_eq n i) [ inl e ↦ inl e | inr other ↦ inr (Has-below n i (omega arith)) ]
+
+-- numbers from a one on, and one more
+pub range_more : (a n : ℕ) → range_with_len a (suc n) ≡ range_with_len a n ++ (a + n) ∷ []
+range_more a zero = ap (λ m. m ∷ []) (omega arith)
+range_more a (suc n) = ap (λ xs. a ∷ xs) (range_more (a + 1) n
+    ∙ ap (λ m. range_with_len (a + 1) n ++ m ∷ []) (omega arith))

@@ -1,6 +1,6 @@
 -- What may be there or not.
-use Rattle.std.proofs.Common.{◌≡◌, sym, ap, subst, Option, Some, None}
-use Rattle.std.specs.Prelude.{⊤}
+use Rattle.std.proofs.Common.{◌≡◌, sym, ap, subst, Option, Some, None, refl, false, true≢false}
+use Rattle.std.specs.Prelude.{⊤, option_map, is_some}
 
 -- something is there
 abbrev pub IsThere : {A : Type 0} → Option A → Type 0
@@ -24,3 +24,14 @@ none_or_some x e = subst IsThere (sym e) tt
 abbrev pub mapped : {A B : Type 0} → (A → B) → Option A → Option B
 mapped g None = None
 mapped g (Some x) = Some (g x)
+
+-- what is made of a value that may be there is made of one that is there
+pub map_part : {A B : Type 0} (g : A → B) (o : Option A) (y : B) → option_map g o ≡ Some y
+    → (x : A) × (o ≡ Some x) × (g x ≡ y)
+map_part g (Some x) y e = (x, refl, some_injective (g x) y e)
+map_part g None y e = absurd (none_or_some y e)
+
+-- what is not there is none
+pub not_some : {A : Type 0} (o : Option A) → is_some o ≡ false → o ≡ None
+not_some None e = refl
+not_some (Some x) e = absurd (true≢false e)

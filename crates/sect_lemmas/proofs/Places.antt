@@ -1,9 +1,10 @@
 -- Elements of lists and the places where they stand.
 use Rattle.std.proofs.Common.{◌≡◌, ◌⊎◌, ◌∙◌, ℕ, zero, suc, ◌+◌, ◌<◌, List, [], ◌∷◌, ◌++◌, length, length-append, take}
-use Rattle.std.proofs.Common.{get_or, Option, Some, None, refl, sym, ap, subst, inl, inr, arith}
-use Rattle.std.proofs.{lemmas.List.{take_more}, lemmas.Slice.Zip.{all_zipped_more}}
-use Rattle.std.specs.{Prelude.{slice_get, option_map}, List.{AllZip, AllByRecursion}}
+use Rattle.std.proofs.Common.{get_or, Option, Some, None, refl, sym, ap, subst, inl, inr, arith, Bool, true}
+use Rattle.std.proofs.{lemmas.List.{take_more}, lemmas.Slice.Zip.{all_zipped_more}, lemmas.Bool.{and_parts, and_from}}
+use Rattle.std.specs.{Prelude.{slice_get, option_map}, List.{AllZip, AllByRecursion, list_all}}
 use Rattle.sect_lemmas.specs.Lists.{Has}
+use Rattle.sect_lemmas.proofs.Options.{some_injective, none_or_some}
 
 -- what a list has stands at some place
 pub Has-index : {X : Type 0} (xs : List X) (x : X) → Has xs x → (i : ℕ) × (slice_get xs i ≡ Some x)
@@ -83,3 +84,18 @@ chosen P (suc n) each =
         | inr h ↦ before.2 i x h
       ],
     )
+
+-- what all of a list pass, each of it passes
+pub each_passes : {X : Type 0} (test : X → Bool) (xs : List X) → list_all test xs ≡ true → (i : ℕ) (x : X)
+    → slice_get xs i ≡ Some x → test x ≡ true
+each_passes test [] all i x at = absurd (none_or_some x at)
+each_passes test (y ∷ xs) all zero x at =
+    subst (λ z. test z ≡ true) (some_injective y x at) (and_parts (test y) (list_all test xs) all).0
+each_passes test (y ∷ xs) all (suc i) x at = each_passes test xs (and_parts (test y) (list_all test xs) all).1 i x at
+
+-- and the other way round
+pub all_pass : {X : Type 0} (test : X → Bool) (xs : List X)
+    → ((i : ℕ) (x : X) → slice_get xs i ≡ Some x → test x ≡ true) → list_all test xs ≡ true
+all_pass test [] each = refl
+all_pass test (y ∷ xs) each = and_from (test y) (list_all test xs) (each 0 y refl)
+    (all_pass test xs (λ i. each (suc i)))

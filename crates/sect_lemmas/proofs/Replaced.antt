@@ -1,6 +1,7 @@
 -- Lists with one element replaced.
 use Rattle.std.proofs.Common.{true≢false, ◌≡◌, ◌≢◌, ◌⊎◌, inl, inr, ℕ, zero, suc, List, [], ◌∷◌, length, map, Option}
 use Rattle.std.proofs.Common.{Some, None, Bool, true, false, refl, sym, ap, ◌∙◌, subst, if◌then◌else◌, slice_get, set}
+use Rattle.std.proofs.lemmas.Bool.{cases_eq}
 use Rattle.sect_lemmas.specs.{Lists.{changed_at, put_at}, Numbers.{same_number}}
 use Rattle.sect_lemmas.proofs.{Options.{some_injective, none_or_some, mapped}, Booleans.{either_way}}
 
@@ -54,13 +55,6 @@ same_number-false n m other = by (same_number n m) refl where
   by true is = absurd (other (same_number-true n m is))
   by false is = refl
 
--- two numbers are one or two
-pub this_or_other : (t u : ℕ) → (t ≡ u) ⊎ (t ≢ u)
-this_or_other t u = by (same_number t u) refl where
-  by : (b : Bool) → same_number t u ≡ b → (t ≡ u) ⊎ (t ≢ u)
-  by true is = inl (same_number-true t u is)
-  by false is = inr (λ e. true≢false (sym (same_number-refl t) ∙ ap (same_number t) e ∙ is))
-
 -- the element put there
 pub put_same : {A : Type 0} → (t : ℕ) (old new : A) (xs : List A) → slice_get xs t ≡ Some old
     → slice_get (put_at t new xs) t ≡ Some new
@@ -81,7 +75,7 @@ pub each_put : {A : Type 0} → (P : ℕ → A → Type 0) (t : ℕ) (old new : 
     → P t new
     → ((u : ℕ) (x : A) → t ≢ u → slice_get xs u ≡ Some x → P u x) → (u : ℕ) (x : A)
     → slice_get (put_at t new xs) u ≡ Some x → P u x
-each_put {A = A} P t old new xs is own others u x e = by (this_or_other t u) where
+each_put {A = A} P t old new xs is own others u x e = by (cases_eq t u) where
   by : (t ≡ u) ⊎ (t ≢ u) → P u x
   by (inl here) =
       let same : x ≡ new = some_injective x new
@@ -94,7 +88,7 @@ pub each_before : {A : Type 0} → (P Q : ℕ → A → Type 0) (t : ℕ) (old n
     → ((u : ℕ) (x : A) → slice_get (put_at t new xs) u ≡ Some x → Q u x) → (Q t new → P t old)
     → ((u : ℕ) (x : A) → t ≢ u → slice_get xs u ≡ Some x → Q u x → P u x)
     → (u : ℕ) (x : A) → slice_get xs u ≡ Some x → P u x
-each_before {A = A} P Q t old new xs is after own others u x e = by (this_or_other t u) where
+each_before {A = A} P Q t old new xs is after own others u x e = by (cases_eq t u) where
   by : (t ≡ u) ⊎ (t ≢ u) → P u x
   by (inl here) =
       let same : x ≡ old = some_injective x old (sym e ∙ ap (slice_get xs) (sym here) ∙ is) in
@@ -126,3 +120,17 @@ pub slice_get-map : {A B : Type 0} → (g : A → B) (xs : List A) (n : ℕ) (y 
 slice_get-map g [] n y e = absurd (none_or_some y e)
 slice_get-map g (x ∷ xs) zero y e = (x, refl, some_injective (g x) y e)
 slice_get-map g (x ∷ xs) (suc n) y e = slice_get-map g xs n y e
+
+-- what is made of an element stands at its place in the mapped list
+pub at_map : {A B : Type 0} (g : A → B) (xs : List A) (n : ℕ) (x : A) → slice_get xs n ≡ Some x
+    → slice_get (map g xs) n ≡ Some (g x)
+at_map g [] n x at = absurd (none_or_some x at)
+at_map g (y ∷ xs) zero x at = ap (λ z. Some (g z)) (some_injective y x at)
+at_map g (y ∷ xs) (suc n) x at = at_map g xs n x at
+
+-- an element put in a list, and what is made of it put in the mapped list
+pub map_put : {A B : Type 0} (g : A → B) (n : ℕ) (x : A) (xs : List A)
+    → map g (put_at n x xs) ≡ put_at n (g x) (map g xs)
+map_put g n x [] = refl
+map_put g zero x (y ∷ xs) = refl
+map_put g (suc n) x (y ∷ xs) = ap (λ ys. g y ∷ ys) (map_put g n x xs)

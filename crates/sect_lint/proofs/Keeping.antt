@@ -1,11 +1,10 @@
 -- The names that matter to an item tell of it what all names do.
 use Rattle.std.proofs.Common.{◌≡◌, ◌≤◌, ℕ, Bool, true, false, List, [], ◌∷◌, Option, Some, None, refl, sym, ap, ◌∙◌}
 use Rattle.std.proofs.Common.{map, filter, inl, inr, subst, cond, true≢false, arith}
-use Rattle.std.proofs.lemmas.Bool.{eqb-true, le-ltb, ltb-true, and_from, and_parts}
+use Rattle.std.proofs.lemmas.Bool.{eqb-true, le-ltb, ltb-true, and_from, and_parts, or_left, or_right}
 use Rattle.std.specs.Prelude.{◌||◌, ◌&&◌, not, nat_eq, nat_lt, position, find, is_some, option_map}
 use Rattle.std.specs.{Option.{option_or, IfSome}, List.{list_all}, Cmp.Lexicographic.{pointwise}}
 use Rattle.sect_lemmas.specs.Lists.{Has}
-use Rattle.sect_lemmas.proofs.Booleans.{or_left, or_right}
 use Rattle.sect_lemmas.proofs.Firsts.{Finds, find_kept, position_finds, position_there, either_there}
 use Rattle.sect_front.specs.TreeView.{TreeView}
 use Rattle.sect_places.specs.{declared.name_use.NameUse.{NameUse}, declared.name_use.NameSpan.{NameSpan}}

@@ -8,7 +8,7 @@ use Rattle.sect_front.specs.{FaultPlaces.{IsWithin}, declared.span.Span.{Span}, 
 use Rattle.sect_front.specs.{declared.tree.Declaration.{Declaration}, declared.tree.Procedure.{Procedure}}
 use Rattle.sect_places.specs.{declared.name_use.NameSpan.{NameSpan}, Declarations.{is_global, type_in, variable_of}}
 use Rattle.sect_places.specs.{Ranges.{range}, Spans.{AreInOrder, AreProper, no_span}, Openings.{values_in}}
-use Rattle.sect_places.proofs.shared.{Ordered.{span_proper}, Names.{name_proper}}
+use Rattle.sect_places.proofs.shared.{Ordered.{span_proper, lower}, Names.{name_proper}}
 use Rattle.sect_lint.specs.{declared.diagnostic.Shape.{Shape}, declared.diagnostic.Typed.{Typed}}
 use Rattle.sect_lint.specs.{declared.diagnostic.Detail.{Detail}, declared.form.Form.{Form}}
 use Rattle.sect_lint.specs.Naming.{found, variable, member_of}
@@ -22,11 +22,6 @@ use Rattle.sect_lint.specs.{Labels.{IsShapeWithin, IsTypedWithin}, Details.{IsDe
 use Rattle.sect_front.specs.declared.token.Token.TheVariants as token
 use Rattle.sect_lint.specs.declared.diagnostic.Shape.TheVariants as shape
 use Rattle.sect_lint.specs.declared.form.Form.TheVariants as form
-
--- what stands in order from a place on stands in order from an earlier one on
-lower : (low from total : ℕ) (ss : List Span) → low ≤ from → AreInOrder from total ss → AreInOrder low total ss
-lower low from total [] le h = tt
-lower low from total (s ∷ ss) le h = (omega (arith, le, h.0), h.1, h.2, h.3)
 
 order_from : (from total n : ℕ) (ss : List Span) → AreInOrder from total ss → AreInOrder 0 total (drop n ss)
 order_from from total zero ss h = lower 0 from total ss (omega arith) h

@@ -3,11 +3,12 @@ use Rattle.std.specs.Prelude.{ℕ, Bool, true, false, if◌then◌else◌, List,
 use Rattle.std.specs.{Prelude.{drop}, Cmp.Lexicographic.{pointwise}}
 use Rattle.sect_front.specs.{declared.span.Span.{Span}, declared.token.Token.{Token}, declared.tree.Kind.{Kind}}
 use Rattle.sect_front.specs.{declared.tree.Declaration.{Declaration}, declared.tree.Procedure.{Procedure}}
+use Rattle.sect_types.specs.{Rules.{procedure_at}, Kinds.{is_reference}}
 use Rattle.sect_places.specs.{declared.name_use.NameSpan.{NameSpan}, Declarations.{procedure_of}}
 use Rattle.sect_lint.specs.{declared.diagnostic.Typed.{Typed}, declared.diagnostic.Detail.{Detail}}
 use Rattle.sect_lint.specs.{declared.arguments.Call.{Call}, Naming.{found, variable, type_by}}
 use Rattle.sect_lint.specs.{Typing.{shape_of, variable_in, value_shape, typed_by, types_detail, two}, Forms.{form_of}}
-use Rattle.sect_lint.specs.{declared.form.Form.{Form}, Counting.{called_at, procedure_at}}
+use Rattle.sect_lint.specs.{declared.form.Form.{Form}, Counting.{called_at}}
 use Rattle.sect_front.specs.declared.token.Token.TheVariants as token
 use Rattle.sect_front.specs.declared.tree.Kind.TheVariants as kind
 use Rattle.sect_lint.specs.declared.diagnostic.Detail.TheVariants as detail
@@ -20,14 +21,10 @@ takes kind.Int (Some r) = false
 takes (kind.Record r) None = false
 takes (kind.Record r) (Some s) = pointwise nat_eq r s
 
-abbrev pub is_record : Kind → Bool
-is_record kind.Int = false
-is_record (kind.Record r) = true
-
 -- it takes this value
 abbrev pub fits : List NameSpan → ℕ → Kind → Token → Bool
 fits names item k (token.Number v) = takes k None
-fits names item k token.Null = is_record k
+fits names item k token.Null = is_reference k
 fits names item k (token.Name x) = takes k (type_by names (variable_in names item x))
 fits names item k _ = true
 

@@ -1,8 +1,9 @@
 -- How many arguments a call has, and how many parameters the procedure.
-use Rattle.std.specs.Prelude.{ℕ, Bool, List, ◌∷◌, Option, Some, None, length, nat_eq, position, slice_get}
+use Rattle.std.specs.Prelude.{ℕ, Bool, List, ◌∷◌, Option, Some, None, length, nat_eq, position}
 use Rattle.std.specs.Cmp.Lexicographic.{pointwise}
 use Rattle.sect_front.specs.{declared.span.Span.{Span}, declared.token.Token.{Token}}
 use Rattle.sect_front.specs.declared.tree.Procedure.{Procedure}
+use Rattle.sect_types.specs.Rules.{procedure_at}
 use Rattle.sect_places.specs.Openings.{values_in}
 use Rattle.sect_lint.specs.declared.diagnostic.Detail.{Detail}
 use Rattle.sect_front.specs.declared.token.Token.TheVariants as token
@@ -18,10 +19,6 @@ called_at ps f = position (has_name f) ps
 abbrev pub parameters_by : Option Procedure → Option ℕ
 parameters_by None = None
 parameters_by (Some p) = Some (length p.parameters)
-
-abbrev pub procedure_at : List Procedure → Option ℕ → Option Procedure
-procedure_at ps None = None
-procedure_at ps (Some q) = slice_get ps q
 
 abbrev pub parameters_of : List Procedure → List ℕ → Option ℕ
 parameters_of ps f = parameters_by (procedure_at ps (called_at ps f))

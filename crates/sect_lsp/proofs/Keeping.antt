@@ -2,6 +2,7 @@
 use Rattle.std.proofs.Common.{◌≡◌, ◌≢◌, ℕ, List, [], ◌∷◌, ◌++◌, Some, None, Bool, true, false, not, cond, refl, ap, sym}
 use Rattle.std.proofs.{Common.{◌∙◌, Bor, Option, IfSome, filter, map}, lemmas.List.Elements.{All-head, All-tail}}
 use Rattle.std.proofs.lemmas.Slice.Eq.{bytes_eq-Decides}
+use Rattle.std.proofs.lemmas.Bool.{false_from_ne_true}
 use Rattle.std.specs.{Prelude.{All, option_map}, Str.{bytes_eq}}
 use Rattle.sect_lsp.specs.Documents.{DocumentView, text_of, closed, opened}
 use Rattle.sect_lsp.specs.steps.Keeping.{KeptView, document_of, kept_of}
@@ -9,12 +10,8 @@ use Rattle.sect_lsp.specs.steps.Keeping.{KeptView, document_of, kept_of}
 is_same : (a : List ℕ) → bytes_eq a a ≡ true
 is_same a = (bytes_eq-Decides a a).1 refl
 
-is_not : (b : Bool) → (b ≡ true → ⊥) → b ≡ false
-is_not true h = absurd (h refl)
-is_not false h = refl
-
 not_same : (a b : List ℕ) → a ≢ b → bytes_eq a b ≡ false
-not_same a b h = is_not (bytes_eq a b) (λ e. h ((bytes_eq-Decides a b).0 e))
+not_same a b h = false_from_ne_true (bytes_eq a b) (λ e. h ((bytes_eq-Decides a b).0 e))
 
 module _ (uri : List ℕ) where
   forgotten_by : (d : DocumentView) (ds : List DocumentView) (b : Bool) → bytes_eq d.uri uri ≡ b

@@ -1,8 +1,9 @@
 -- What is needed at a node of a graph is what is needed before the statements that are still to run there.
-use Rattle.std.proofs.Common.{◌≡◌, ◌↔◌, ◌⊎◌, ◌≤◌, ◌<◌, ℕ, zero, suc, List, [], ◌∷◌, length, Some, refl, sym, ap, ◌∙◌}
+use Rattle.std.proofs.Common.{◌≡◌, ◌↔◌, ◌⊎◌, ◌≤◌, ◌<◌, ℕ, List, [], ◌∷◌, length, Some, refl, sym, ap, ◌∙◌}
 use Rattle.std.proofs.{Common.{subst, inl, inr, arith}, lemmas.Bool.{cases_lt}}
 use Rattle.std.specs.Prelude.{slice_get}
 use Rattle.sect_lemmas.specs.Lists.{Has}
+use Rattle.sect_lemmas.proofs.Places.{at_of}
 use Rattle.sect_types.specs.Statements.{TextView, Stop, Do, Choose, Loop, Section}
 use Rattle.sect_types.specs.{Sections.{SectionView, sections_of}, Traces.{Visit, visit}}
 use Rattle.sect_types.specs.declared.expansion.action.Label.{Label}
@@ -15,12 +16,6 @@ use Rattle.sect_names.proofs.shared.{SectionSteps.{section_step}, Beginning.{rea
 use Rattle.sect_names.proofs.shared.Walking.{StepsOn, leads_walk, walk_leads}
 use Rattle.sect_names.proofs.Splitting.{split_along}
 use Rattle.sect_names.specs.declared.lock.Lock.TheVariants as lock
-
--- a node stands at each number below their count
-node_there : (g : List Node) (j : ℕ) → j < length g → (x : Node) × (slice_get g j ≡ Some x)
-node_there [] j lt = absurd (omega arith)
-node_there (x ∷ g) zero lt = (x, refl)
-node_there (x ∷ g) (suc j) lt = node_there g j (omega arith)
 
 module _ (rest : ℕ → TextView) where
   -- the node does what the text does first, and leads to what may be left
@@ -116,7 +111,7 @@ module _ (body : TextView) (g : List Node) (graph : IsGraphOf body g) where
   walk_path [] j within walk = elim (cases_lt j (length g)) [
     | inr past ↦ (let end : j ≡ length g = omega (arith, within, past) in ([], end, refl))
     | inl lt ↦
-        let x = node_there g j lt in
+        let x = at_of g j lt in
         elim (walk_leads (rest_at body j) [] walk) [
           | inl (stop, is) ↦ absurd (not_stop (rest_at body) (rest_at body j) x.0 (graph.running.begins j x.0 x.1) stop)
           | inr (l, k, tail, leads, is, rest) ↦ absurd cc
@@ -130,7 +125,7 @@ module _ (body : TextView) (g : List Node) (graph : IsGraphOf body g) where
           let end : length g ≡ j = omega (arith, within, past) in
           absurd (subst (λ z. Leads z l k) (ap (rest_at body) (sym end) ∙ graph.running.end) leads)
       goes later k leads rest (inl lt) =
-          let x = node_there g j lt in
+          let x = at_of g j lt in
           let f = leads_begins (rest_at body) (rest_at body j) x.0 l k (graph.running.begins j x.0 x.1) leads in
           let more = later f.0 (graph.within j f.0 x.0 x.1 f.1) (subst (λ z. IsWalk z ls) (sym f.3) rest) in (
             visit j x.0.label ∷ more.0,

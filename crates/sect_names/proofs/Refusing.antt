@@ -1,6 +1,5 @@
 -- Which refusals are due, and which are not.
 use Rattle.std.proofs.Common.{◌≡◌, ◌≤◌, ℕ, List, Result, Ok, Err, IsErrAnd, inr, refl, ◌∙◌}
-use Rattle.sect_front.proofs.shared.Only.{only}
 use Rattle.sect_front.specs.{TreeView.{TreeView}, Front.{Gives}, declared.parsing.FrontFault.{FrontFault}}
 use Rattle.sect_types.specs.Programs.{ProgramView}
 use Rattle.sect_names.specs.declared.fault.SchemeFault.{SchemeFault}
@@ -8,7 +7,6 @@ use Rattle.sect_names.specs.declared.fault.SchemeFault.TheVariants.{Memory, BadK
 use Rattle.sect_names.specs.{declared.fault.SchemeFault.TheVariants.{HintTwice}, Verdicts.{Judges}}
 use Rattle.sect_names.specs.declared.refusal.SourceRefusal.{SourceRefusal}
 use Rattle.sect_names.specs.Sources.{IsTypedText, GivesProgram, IsDue, of_front, of_scheme}
-use Rattle.sect_names.proofs.shared.Refusing.{one_program}
 use Rattle.sect_front.specs.declared.parsing.FrontFault.TheVariants as front
 use Rattle.sect_names.specs.declared.refusal.SourceRefusal.TheVariants as refusal
 
@@ -26,10 +24,6 @@ pub gives_memory : (p : ProgramView) (r : Result ProgramView SourceRefusal) (e :
     → IsErrAnd r (λ x. x ≡ e) → GivesProgram p r
 gives_memory p (Ok q) e memory is = absurd is
 gives_memory p (Err x) e memory is = is ∙ memory
-
-pub one_text : (bytes : List ℕ) (p q : ProgramView) → IsTypedText bytes p → IsTypedText bytes q → q ≡ p
-one_text bytes p q of_p of_q =
-    one_program p q of_p.numbers of_q.numbers (only bytes p.source of_p.spelled (Ok q.source) of_q.spelled)
 
 -- a text that spells a tree is refused for want of memory alone
 pub spelled_gives : (t : TreeView) (fault : FrontFault) → Gives t (Err fault) → of_front fault ≡ refusal.Memory

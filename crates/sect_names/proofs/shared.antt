@@ -7,6 +7,7 @@ pub mod Crossing
 pub mod Ending
 pub mod Ends
 pub mod Finiteness
+pub mod Linking
 pub mod Maximals
 pub mod Named
 pub mod Needing

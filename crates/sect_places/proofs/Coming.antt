@@ -2,7 +2,8 @@
 use Rattle.std.proofs.Common.{◌≡◌, ℕ, zero, suc, ◌+◌, List, [], ◌∷◌, ◌++◌, length, drop, Option, Some, None, slice_get}
 use Rattle.std.proofs.Common.{refl, sym, ap, ◌∙◌, subst}
 use Rattle.std.specs.{Option.{option_or}, Prelude.{slice_index_or}}
-use Rattle.sect_lemmas.proofs.Options.{none_or_some, some_injective}
+use Rattle.sect_lemmas.proofs.Options.{none_or_some, some_injective, map_part}
+use Rattle.sect_lemmas.proofs.Elements.{at_front}
 use Rattle.sect_front.specs.TreeView.{TreeView}
 use Rattle.sect_front.specs.Syntax.{StatementView, BlockView, Primitive, If, IfElse, While, Atomic, Call, End, Then}
 use Rattle.sect_front.specs.{declared.tree.Declaration.{Declaration}, declared.tree.Operand.{Operand}}
@@ -23,7 +24,7 @@ use Rattle.sect_places.specs.Origins.{procedure_origins, origins_within, starts_
 use Rattle.sect_places.specs.NodeOrigins.{labels, Says, IsCall, AreFrom}
 use Rattle.sect_places.proofs.Past.{ahead}
 use Rattle.sect_places.proofs.ItemPast.{items_past_statement, items_past_block, past_parameters, past_variables}
-use Rattle.sect_places.proofs.{ItemPast.{tree_procedures_at}, Parts.{mapped_part, both_parts, all_parts}}
+use Rattle.sect_places.proofs.{ItemPast.{tree_procedures_at}, Parts.{both_parts, all_parts}}
 use Rattle.sect_types.specs.declared.expansion.action.Action.TheVariants as action
 
 -- what statements after statements do
@@ -34,19 +35,12 @@ labels_joined (Choose c p q k) y w = ap (λ l. Test c ∷ labels p (labels q l))
 labels_joined (Loop c p k) y w = ap (λ l. Test c ∷ labels p l) (labels_joined k y w)
 labels_joined (Section i p k) y w = ap (λ l. WholeSection i ∷ l) (labels_joined k y w)
 
--- what stands there
-pub item_at : (all : List Item) (n : ℕ) (x : Item) (w : List Item) → drop n all ≡ x ∷ w → slice_get all n ≡ Some x
-item_at [] zero x w h = cc
-item_at [] (suc n) x w h = cc
-item_at (y ∷ all) zero x w h = cc
-item_at (y ∷ all) (suc n) x w h = item_at all n x w h
-
 module _ (t : TreeView) where
   node_from : (label : Label) (call : Option ℕ) (m : ℕ) (item : Item) (w : List Item) (ls : List Label)
       (os : List Origin) → drop m (items t) ≡ item ∷ w → Says t item label → IsCall t call → AreFrom t ls os
       → AreFrom t (label ∷ ls) (origin call m ∷ os)
   node_from label call m item w ls os h says c k =
-      (record { item = item; there = item_at (items t) m item w h; says = says; called = c }, k)
+      (record { item = item; there = at_front (items t) m item w h; says = says; called = c }, k)
 
   -- the assignments to parameters come from the parameters
   set_from : (v : Scene) (x m : ℕ) (ds es : List Declaration) (us : List Operand) (before : List (List ℕ))
@@ -81,7 +75,7 @@ module _ (t : TreeView) where
   pub still_call : (call : Option ℕ) (m : ℕ) (f : List ℕ) (vs : List Operand) (ls : List Declaration) (at : Place)
       (w : List Item) → drop m (items t) ≡ AStatement (CallHead f vs) ls at ∷ w → IsCall t call
       → IsCall t (option_or call (Some m))
-  still_call None m f vs ls at w h c = (f, vs, ls, at, item_at (items t) m (AStatement (CallHead f vs) ls at) w h)
+  still_call None m f vs ls at w h c = (f, vs, ls, at, at_front (items t) m (AStatement (CallHead f vs) ls at) w h)
   still_call (Some n) m f vs ls at w h c = c
 
   -- the nodes that stand for a call come from these
@@ -102,7 +96,7 @@ module _ (t : TreeView) where
           → drop m (items t) ≡ statement_items own at s w → IsCall t call → AreFrom t ls os
           → AreFrom t (labels text ls) (statement_origins t.procedures expand call m s os)
       statement_from a (Primitive p) at m w text call ls os e h c k =
-          let r = mapped_part (λ x. Do x Stop) (action_at (scene_of own first) a p) text e in
+          let r = map_part (λ x. Do x Stop) (action_at (scene_of own first) a p) text e in
           subst (λ z. AreFrom t (labels z ls) (origin call m ∷ os)) r.2
           (node_from (Act r.0) call m (AStatement (PrimitiveHead p) own at) w ls os h (first, a.sites, r.1) c k)
       statement_from a (If q b) at m w text call ls os e h c k =
@@ -136,7 +130,7 @@ module _ (t : TreeView) where
           (labels r.1 ls) (block_origins t.procedures expand call (m + 1) b os) h (first, r.2) c
           (block_from a b (deeper at) (m + 1) w r.1 call ls os r.3 (ahead (items t) m 1 _ h) c k))
       statement_from a (Atomic l b) at m w text call ls os e h c k =
-          let r = mapped_part (λ x. Section a.sections x Stop)
+          let r = map_part (λ x. Section a.sections x Stop)
           (expanded_block t.procedures table expander (scene_of own first)
           (record a { sections = a.sections + 1 }) b) text e in
           subst (λ z. AreFrom t (labels z ls) (origin call m ∷ os)) r.2

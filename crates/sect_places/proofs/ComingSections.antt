@@ -2,7 +2,7 @@
 use Rattle.std.proofs.Common.{◌≡◌, ℕ, zero, suc, ◌+◌, List, [], ◌∷◌, ◌++◌, length, drop, Option, Some, None, slice_get}
 use Rattle.std.proofs.Common.{refl, sym, ap, ◌∙◌, subst, append_assoc}
 use Rattle.std.specs.{Option.{option_or}, Prelude.{slice_index_or, ⊤}}
-use Rattle.sect_lemmas.proofs.Options.{none_or_some, some_injective}
+use Rattle.sect_lemmas.proofs.Options.{none_or_some, some_injective, map_part}
 use Rattle.sect_front.specs.TreeView.{TreeView}
 use Rattle.sect_front.specs.Syntax.{StatementView, BlockView, Primitive, If, IfElse, While, Atomic, Call, End, Then}
 use Rattle.sect_front.specs.{declared.tree.Declaration.{Declaration}, declared.tree.Operand.{Operand}}
@@ -20,7 +20,7 @@ use Rattle.sect_places.specs.Origins.{origins_within, sections_within, starts_of
 use Rattle.sect_places.specs.NodeOrigins.{labels, IsCall, AreFrom}
 use Rattle.sect_places.proofs.Past.{ahead}
 use Rattle.sect_places.proofs.ItemPast.{items_past_statement, items_past_block, past_variables, tree_procedures_at}
-use Rattle.sect_places.proofs.Parts.{mapped_part, both_parts, all_parts}
+use Rattle.sect_places.proofs.Parts.{both_parts, all_parts}
 use Rattle.sect_places.proofs.Coming.{CallsFrom, scene_of, still_call, block_from, calls_from}
 use Rattle.sect_types.specs.declared.expansion.action.Action.TheVariants as action
 
@@ -89,7 +89,7 @@ module _ (t : TreeView) where
           → drop m (items t) ≡ statement_items own at s w → IsCall t call → AllFrom t bs ls
           → AllFrom t (bodies text bs) (statement_sections t.procedures expand sections call m s ls)
       statement_sections_from a (Primitive p) at m w text call bs ls e h c f =
-          let r = mapped_part (λ x. Do x Stop) (action_at (scene_of t own first) a p) text e in
+          let r = map_part (λ x. Do x Stop) (action_at (scene_of t own first) a p) text e in
           subst (λ z. AllFrom t (bodies z bs) ls) r.2 f
       statement_sections_from a (If q b) at m w text call bs ls e h c f =
           let r = both_parts (λ x y. Choose x y Stop Stop) (condition_at (scene_of t own first) q)
@@ -115,7 +115,7 @@ module _ (t : TreeView) where
           (block_sections_from a b (deeper at) (m + 1) w r.1 call bs ls r.3 (ahead (items t) m 1 _ h) c f)
       statement_sections_from a (Atomic l b) at m w text call bs ls e h c f =
           let inner : NextNumbers = record a { sections = a.sections + 1 } in
-          let r = mapped_part (λ x. Section a.sections x Stop)
+          let r = map_part (λ x. Section a.sections x Stop)
           (expanded_block t.procedures table expander (scene_of t own first) inner b) text e in
           subst (λ z. AllFrom t (bodies z bs) (block_origins t.procedures expand call (m + 1) b [] ∷ ls)) r.2 (
             block_from t table expander expand g own first inner b (in_section at) (m + 1) w r.0 call [] [] r.1

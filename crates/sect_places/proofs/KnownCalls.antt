@@ -1,6 +1,6 @@
 -- In a program all calls come to an end.
 use Rattle.std.proofs.Common.{◌≡◌, ℕ, zero, suc, List, [], ◌∷◌, length, Option, Some, None, slice_get, refl, ◌+◌}
-use Rattle.sect_lemmas.proofs.Options.{none_or_some}
+use Rattle.sect_lemmas.proofs.Options.{none_or_some, map_part}
 use Rattle.sect_front.specs.TreeView.{TreeView}
 use Rattle.sect_front.specs.Syntax.{StatementView, BlockView, Primitive, If, IfElse, While, Atomic, Call, End, Then}
 use Rattle.sect_front.specs.{declared.tree.Operand.{Operand}, declared.tree.Record.{Record}}
@@ -12,7 +12,7 @@ use Rattle.sect_types.specs.Expanded.{Scene, NextNumbers, Expander, condition_at
 use Rattle.sect_types.specs.Expanded.{past_block, past_statement, past_thread, clear_locals, set_parameters, after_call}
 use Rattle.sect_types.specs.Expanded.{call_of, expand_within, expanded_thread, expanded_threads}
 use Rattle.sect_places.specs.steps.Ending.{StatementEnds, BlockEnds, CallEnds, EndsWithin, ThreadsEnd}
-use Rattle.sect_places.proofs.Parts.{mapped_part, both_parts, all_parts}
+use Rattle.sect_places.proofs.Parts.{both_parts, all_parts}
 
 -- what has a text ends
 abbrev pub CallsKnown : Expander → (Option ℕ → Type 0) → Type 0
@@ -38,7 +38,7 @@ module _ (ps : List Procedure) (table : List Sums) (expander : Expander) (Ends :
         block_known a b r.1 r.3
     statement_known a (Atomic l b) text e =
         let inner : NextNumbers = record a { sections = a.sections + 1 } in
-        let r = mapped_part (λ x. Section a.sections x Stop) (expanded_block ps table expander v inner b) text e in
+        let r = map_part (λ x. Section a.sections x Stop) (expanded_block ps table expander v inner b) text e in
         block_known inner b r.0 r.1
     statement_known a (Call f vs) text e = g (number_of ps f) v a vs text e
 

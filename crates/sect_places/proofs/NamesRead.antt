@@ -1,7 +1,8 @@
 -- How the names of a tree are read off a text.
 use Rattle.std.proofs.Common.{◌≡◌, ℕ, zero, suc, ◌+◌, ◌<◌, Bool, true, false, List, [], ◌∷◌, ◌++◌, length, take, drop}
 use Rattle.std.proofs.Common.{map, Some, slice_get, refl, sym, ◌∙◌, ap, subst, arith, append_assoc, length-append}
-use Rattle.std.proofs.{Common.{length-drop, if◌then◌else◌}, lemmas.List.{length-map, map-append, take-append-drop}}
+use Rattle.std.proofs.Common.{length-drop, if◌then◌else◌}
+use Rattle.std.proofs.lemmas.List.{map_push, length-map, map-append, take-append-drop}
 use Rattle.sect_front.specs.{TreeView.{TreeView}, TokenAt.{TokenAt}, Front.{IsSpelled}, FaultPlaces.{token_span}}
 use Rattle.sect_front.specs.{Gaps.{after_gap}, Grammar.{tokens_of}, declared.span.Span.{Span}}
 use Rattle.sect_front.specs.{declared.token.Token.{Token}, NameTokens.{is_name_token}}
@@ -10,7 +11,7 @@ use Rattle.sect_places.specs.{declared.name_use.NameUse.{NameUse}, declared.name
 use Rattle.sect_places.specs.{NameUses.{name_uses}, NameSpans.{names_among, AreNameSpans}}
 use Rattle.sect_places.specs.steps.Standing.{StandsFrom}
 use Rattle.sect_places.proofs.NameTokens.{as_many_names, are_name_spans}
-use Rattle.sect_places.proofs.Standing.{OneRead, stands_none, map_push, places_count, same_places}
+use Rattle.sect_places.proofs.Standing.{OneRead, stands_none, places_count, same_places}
 use Rattle.sect_places.proofs.shared.Naming.{joined, joined_used, joined_spans}
 
 -- these names have been read, and here the next token stands

@@ -1,13 +1,7 @@
 -- What is there is made of what is there.
 use Rattle.std.proofs.Common.{◌≡◌, Option, Some, None, refl}
-use Rattle.std.specs.Prelude.{option_map}
 use Rattle.sect_lemmas.proofs.Options.{none_or_some, some_injective}
 use Rattle.sect_types.specs.Numbered.{of_both, of_all}
-
-pub mapped_part : {A B : Type 0} (f : A → B) (x : Option A) (z : B) → option_map f x ≡ Some z
-    → (a : A) × (x ≡ Some a) × (f a ≡ z)
-mapped_part f (Some a) z h = (a, refl, some_injective (f a) z h)
-mapped_part f None z h = absurd (none_or_some z h)
 
 pub both_parts : {A B C : Type 0} (f : A → B → C) (x : Option A) (y : Option B) (z : C) → of_both f x y ≡ Some z
     → (a : A) × (b : B) × (x ≡ Some a) × (y ≡ Some b) × (f a b ≡ z)

@@ -1,11 +1,12 @@
 -- How the bytes of given tokens are found in a text.
 use Rattle.std.proofs.Common.{◌≡◌, ℕ, zero, suc, ◌+◌, ◌-◌, ◌<◌, ◌≤◌, List, [], ◌∷◌, ◌++◌, length, take, drop, map}
-use Rattle.std.proofs.{Common.{get_or, refl, sym, ◌∙◌, ap, subst, arith}, lemmas.List.{length-take-le}}
+use Rattle.std.proofs.{Common.{get_or, refl, sym, ◌∙◌, ap, subst, arith}, lemmas.List.{length-take-le, map_push}}
 use Rattle.sect_front.specs.{TokenAt.{TokenAt}, Gaps.{after_gap}, Spelling.{spelling_of}}
 use Rattle.sect_front.specs.{Lexing.{IsFirst, Reaches, Spells}, Faults.{tokens_in}, declared.token.Token.{Token}}
 use Rattle.sect_front.specs.{declared.span.Span.{Span}, FaultPlaces.{token_span}}
 use Rattle.sect_front.proofs.shared.Lexings.{gap_fits, one_lexing}
 use Rattle.sect_places.specs.steps.Placing.{IsSpelledBy}
+use Rattle.sect_places.proofs.Whole.{tokens_length}
 
 -- the first i tokens have their spans, and here the next one stands
 pub record PlacedHere (bytes : List ℕ) (tokens : List Token) (i : ℕ) (here : List ℕ) (spans : List Span) : Type 0 where
@@ -80,10 +81,6 @@ stands_here bytes tokens i here spans t h lt e =
       passed = r.passed;
     }
 
-map_push : {A B : Type 0} (f : A → B) (xs : List A) (x : A) → map f (xs ++ x ∷ []) ≡ map f xs ++ f x ∷ []
-map_push f [] x = refl
-map_push f (y ∷ xs) x = ap (λ w. f y ∷ w) (map_push f xs x)
-
 abbrev pub span_from : ℕ → ℕ → Span
 span_from start end = record { start = start; end = end }
 
@@ -123,13 +120,9 @@ pub placed_all : (bytes : List ℕ) (tokens : List Token) (i : ℕ) (here : List
     → PlacedHere bytes tokens i here spans → i ≡ length tokens → (s : IsSpelledBy bytes tokens)
     → spans ≡ map token_span s.places
 placed_all bytes tokens i here spans h all s =
-    h.written ∙ (ap (map token_span) (take_all i h.places (all ∙ (ap length (sym h.same) ∙ map_length h.places)))
+    h.written ∙ (ap (map token_span) (take_all i h.places (all ∙ (ap length (sym h.same) ∙ tokens_length h.places)))
     ∙ ap (map token_span) (one_lexing bytes h.places s.places h.spells s.spells))
   where
-    map_length : (ps : List TokenAt) → length (tokens_in ps) ≡ length ps
-    map_length [] = refl
-    map_length (p ∷ ps) = ap suc (map_length ps)
-
     take_all : (n : ℕ) (ps : List TokenAt) → n ≡ length ps → take n ps ≡ ps
     take_all zero [] e = refl
     take_all zero (p ∷ ps) e = absurd (omega arith)

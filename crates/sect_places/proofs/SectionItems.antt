@@ -1,6 +1,7 @@
 -- The items of sections are `atomic`s, and there are as many as sections.
 use Rattle.std.proofs.Common.{◌≡◌, ℕ, zero, suc, ◌+◌, List, [], ◌∷◌, ◌++◌, length, drop, All, Some, slice_get, refl, ap}
 use Rattle.std.proofs.Common.{false, arith}
+use Rattle.sect_lemmas.proofs.Elements.{at_front}
 use Rattle.sect_front.specs.TreeView.{TreeView}
 use Rattle.sect_front.specs.Syntax.{StatementView, BlockView, Primitive, If, IfElse, While, Atomic, Call, End, Then}
 use Rattle.sect_front.specs.{declared.tree.Declaration.{Declaration}, declared.tree.Locking.{Locking}}
@@ -44,13 +45,6 @@ threads_many n (t ∷ ts) =
 -- there are as many as sections
 pub as_many : (t : TreeView) → length (section_items_of t) ≡ length (lockings_of t)
 as_many t = threads_many (first_thread t) t.threads
-
--- what stands at the front of what is left stands at that place
-at_front : (all : List Item) (n : ℕ) (x : Item) (rest : List Item) → drop n all ≡ x ∷ rest → slice_get all n ≡ Some x
-at_front [] zero x rest e = absurd cc
-at_front [] (suc n) x rest e = absurd cc
-at_front (y ∷ all) zero x rest e = ap Some (cc)
-at_front (y ∷ all) (suc n) x rest e = at_front all n x rest e
 
 -- the item is an `atomic`
 abbrev IsAtomic : List Item → ℕ → Type 0

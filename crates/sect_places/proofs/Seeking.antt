@@ -1,7 +1,8 @@
 -- How one range is found among those of the parts of a tree.
 use Rattle.std.proofs.Common.{◌≡◌, ℕ, zero, suc, ◌+◌, ◌-◌, ◌*◌, ◌<◌, ◌≤◌, List, [], ◌∷◌, Some, length, get_or, drop}
 use Rattle.std.proofs.{Common.{slice_get, sym, ◌∙◌, ap, arith, subst}, lemmas.Option.{slice_get_past}}
-use Rattle.sect_lemmas.proofs.{Options.{none_or_some}, Places.{at_of}}
+use Rattle.std.proofs.lemmas.List.{drop_all}
+use Rattle.sect_lemmas.proofs.{Options.{none_or_some}, Places.{at_of}, Elements.{drop_next}}
 use Rattle.sect_front.specs.{TreeView.{TreeView}, Grammar.{tokens_of}, declared.tree.Declaration.{Declaration}}
 use Rattle.sect_front.specs.{declared.tree.Record.{Record}, declared.tree.Procedure.{Procedure}}
 use Rattle.sect_front.specs.{declared.tree.Thread.{Thread}, declared.tree.GlobalObject.{GlobalObject}}
@@ -10,7 +11,7 @@ use Rattle.sect_places.specs.Counts.{records_count, procedures_count, threads_co
 use Rattle.sect_places.specs.Ranges.{AreAmong, range, declarations_ranges, globals_ranges, item_tokens}
 use Rattle.sect_types.specs.Items.{items}
 use Rattle.sect_places.specs.steps.Seeking.{IsFound, IsBehind, parts_ranges, parts_count}
-use Rattle.sect_places.proofs.{Past.{count_is}, Owned.{are_own, own_many}, Walked.{IsList, left, drop_all}}
+use Rattle.sect_places.proofs.{Past.{count_is}, Owned.{are_own, own_many}, Walked.{IsList}}
 
 -- of fields, parameters or locals, and of globals
 pub declared_found : (n : ℕ) (ds : List Declaration) (k : ℕ) → k < length ds
@@ -51,13 +52,13 @@ module _ {X : Type 0} (size : X → ℕ) (total : List X → ℕ)
   pub sought_room : (x : X) (most : ℕ) → i < length xs → x ≡ get_or xs i x → from + total xs < most
       → at + size x < most
   sought_room x most lt e fits =
-      omega (arith, h.counted, ap total (left xs i x lt e), is.more x (drop (i + 1) xs), fits)
+      omega (arith, h.counted, ap total (drop_next xs i x lt e), is.more x (drop (i + 1) xs), fits)
 
   -- what is left begins with the next part
   next_part : (x : X) → i < length xs → x ≡ get_or xs i x → (w : List TokenRange)
       → slice_get (all from xs w) k ≡ slice_get (each at x (all (at + size x) (drop (i + 1) xs) w)) m
   next_part x lt e w =
-      h.behind w ∙ ap (λ ys. slice_get (all at ys w) m) (left xs i x lt e)
+      h.behind w ∙ ap (λ ys. slice_get (all at ys w) m) (drop_next xs i x lt e)
       ∙ ap (λ ys. slice_get ys m) (is.step at x (drop (i + 1) xs) w)
 
   pub sought_here : (x : X) (r : TokenRange) → i < length xs → x ≡ get_or xs i x → IsFound m (each at x) r
@@ -67,17 +68,17 @@ module _ {X : Type 0} (size : X → ℕ) (total : List X → ℕ)
   pub sought_more : (x : X) (next l : ℕ) → i < length xs → x ≡ get_or xs i x → next ≡ at + size x
       → IsBehind m (each at x) l → Sought total all xs (i + 1) from next k l
   sought_more x next l lt e sum f = record {
-    counted = omega (arith, h.counted, ap total (left xs i x lt e), is.more x (drop (i + 1) xs), sum);
+    counted = omega (arith, h.counted, ap total (drop_next xs i x lt e), is.more x (drop (i + 1) xs), sum);
     behind = λ w. next_part x lt e w ∙ f (all (at + size x) (drop (i + 1) xs) w)
         ∙ ap (λ n. slice_get (all n (drop (i + 1) xs) w) l) (sym sum);
   }
 
   pub sought_count : length xs ≤ i → at ≡ from + total xs
-  sought_count end = omega (arith, h.counted, ap total (drop_all xs i end), is.none)
+  sought_count end = omega (arith, h.counted, ap total (drop_all i xs end), is.none)
 
   pub sought_behind : length xs ≤ i → IsBehind k (all from xs) m
   sought_behind end w =
-      h.behind w ∙ ap (λ ys. slice_get (all at ys w) m) (drop_all xs i end)
+      h.behind w ∙ ap (λ ys. slice_get (all at ys w) m) (drop_all i xs end)
       ∙ ap (λ ys. slice_get ys m) (is.nothing at w)
 
 -- a range that is found among others is one of them

@@ -1,7 +1,7 @@
 -- How a text is read token by token, where it spells a tree.
 use Rattle.std.proofs.Common.{◌≡◌, ℕ, zero, suc, ◌+◌, ◌-◌, ◌<◌, ◌≤◌, List, [], ◌∷◌, ◌++◌, length, take, drop, map}
 use Rattle.std.proofs.Common.{get_or, Option, Some, None, refl, sym, ◌∙◌, ap, subst, arith}
-use Rattle.std.proofs.lemmas.List.{drop_more, drop-drop, take-map, drop-map}
+use Rattle.std.proofs.lemmas.List.{drop_more, drop-drop, take-map, drop-map, map_push}
 use Rattle.sect_lemmas.proofs.{Options.{none_or_some, some_injective}, Places.{at_of}}
 use Rattle.sect_front.specs.{TreeView.{TreeView}, TokenAt.{TokenAt}, Gaps.{after_gap}, Front.{IsSpelled}}
 use Rattle.sect_front.specs.{FaultPlaces.{token_span}, Grammar.{tokens_of}, Lexing.{IsFirst, Reaches}}
@@ -216,10 +216,6 @@ next_taken [] zero x rest e = absurd cc
 next_taken [] (suc i) x rest e = absurd cc
 next_taken (y ∷ xs) zero x rest e = let same : y ≡ x = cc in ap (λ z. z ∷ []) same
 next_taken (y ∷ xs) (suc i) x rest e = ap (λ ys. y ∷ ys) (next_taken xs i x rest e)
-
-pub map_push : {A B : Type 0} (f : A → B) (xs : List A) (x : A) → map f (xs ++ x ∷ []) ≡ map f xs ++ f x ∷ []
-map_push f [] x = refl
-map_push f (y ∷ xs) x = ap (λ w. f y ∷ w) (map_push f xs x)
 
 pub words_more : (bytes : List ℕ) (tree : TreeView) (first i : ℕ) (here : List ℕ) (tokens : List Token)
     (spans : List Span) → (h : WordsHere bytes tree first i here tokens spans) → (t : Token) (count : ℕ) (s : Span)

@@ -1,6 +1,7 @@
 -- Loops that add what the parts of a list give, one part after another.
-use Rattle.std.proofs.Common.{◌≡◌, ℕ, zero, suc, ◌+◌, ◌<◌, ◌≤◌, List, [], ◌∷◌, ◌++◌, length, get_or, drop, refl, sym}
-use Rattle.std.proofs.{Common.{◌∙◌, ap, arith}, lemmas.List.{drop_more}}
+use Rattle.std.proofs.Common.{◌≡◌, ℕ, ◌+◌, ◌<◌, ◌≤◌, List, [], ◌∷◌, ◌++◌, length, get_or, drop, refl, sym}
+use Rattle.std.proofs.{Common.{◌∙◌, ap, arith}, lemmas.List.{drop_all}}
+use Rattle.sect_lemmas.proofs.Elements.{drop_next}
 use Rattle.sect_places.specs.steps.Adding.{Adds}
 
 -- how what a list gives is made of what its parts give, and how many numbers it takes
@@ -28,18 +29,13 @@ pub walked_none : {X A : Type 0} (total : List X → ℕ) (all : ℕ → List X 
     (xs : List X) (at : ℕ) (old : List A) → Walked total all xs 0 at at old old
 walked_none total all xs at old = record { counted = refl; added = λ w. refl }
 
--- what is left begins with the next part
-pub left : {X : Type 0} (xs : List X) (i : ℕ) (x : X) → i < length xs → x ≡ get_or xs i x
-    → drop i xs ≡ x ∷ drop (i + 1) xs
-left xs i x lt is = drop_more xs i x lt ∙ ap (λ y. y ∷ drop (i + 1) xs) (sym is)
-
 pub walked_room : {X A : Type 0} (size : X → ℕ) (total : List X → ℕ) (each : ℕ → X → List A → List A)
     (all : ℕ → List X → List A → List A) → IsList size total each all
     → (xs : List X) (i from at : ℕ) (old now : List A) (x : X) (most : ℕ)
     → Walked total all xs i from at old now → i < length xs → x ≡ get_or xs i x → from + total xs < most
     → at + size x < most
 walked_room size total each all is xs i from at old now x most h lt e fits =
-    omega (arith, h.counted, ap total (left xs i x lt e), is.more x (drop (i + 1) xs), fits)
+    omega (arith, h.counted, ap total (drop_next xs i x lt e), is.more x (drop (i + 1) xs), fits)
 
 pub walked_more : {X A : Type 0} (size : X → ℕ) (total : List X → ℕ) (each : ℕ → X → List A → List A)
     (all : ℕ → List X → List A → List A) → IsList size total each all
@@ -47,25 +43,19 @@ pub walked_more : {X A : Type 0} (size : X → ℕ) (total : List X → ℕ) (ea
     → Walked total all xs i from at old now → i < length xs → x ≡ get_or xs i x
     → next ≡ at + size x → Adds now new (each at x) → Walked total all xs (i + 1) from next old new
 walked_more size total each all is xs i from at next old now new x h lt e sum adds = record {
-  counted = omega (arith, h.counted, ap total (left xs i x lt e), is.more x (drop (i + 1) xs), sum);
+  counted = omega (arith, h.counted, ap total (drop_next xs i x lt e), is.more x (drop (i + 1) xs), sum);
   added = λ w. ap (λ n. new ++ all n (drop (i + 1) xs) w) sum
       ∙ (adds (all (at + size x) (drop (i + 1) xs) w)
       ∙ (ap (λ r. now ++ r) (sym (is.step at x (drop (i + 1) xs) w))
-      ∙ (ap (λ ys. now ++ all at ys w) (sym (left xs i x lt e)) ∙ h.added w)));
+      ∙ (ap (λ ys. now ++ all at ys w) (sym (drop_next xs i x lt e)) ∙ h.added w)));
 }
-
-pub drop_all : {X : Type 0} (xs : List X) (i : ℕ) → length xs ≤ i → drop i xs ≡ []
-drop_all [] zero h = refl
-drop_all [] (suc i) h = refl
-drop_all (x ∷ xs) zero h = absurd (omega arith)
-drop_all (x ∷ xs) (suc i) h = drop_all xs i (omega arith)
 
 pub walked_count : {X A : Type 0} (size : X → ℕ) (total : List X → ℕ) (each : ℕ → X → List A → List A)
     (all : ℕ → List X → List A → List A) → IsList size total each all
     → (xs : List X) (i from at : ℕ) (old now : List A)
     → Walked total all xs i from at old now → length xs ≤ i → at ≡ from + total xs
 walked_count size total each all is xs i from at old now h end =
-    omega (arith, h.counted, ap total (drop_all xs i end), is.none)
+    omega (arith, h.counted, ap total (drop_all i xs end), is.none)
 
 pub walked_all : {X A : Type 0} (size : X → ℕ) (total : List X → ℕ) (each : ℕ → X → List A → List A)
     (all : ℕ → List X → List A → List A) → IsList size total each all
@@ -73,4 +63,4 @@ pub walked_all : {X A : Type 0} (size : X → ℕ) (total : List X → ℕ) (eac
     → Walked total all xs i from at old now → length xs ≤ i → Adds old now (all from xs)
 walked_all size total each all is xs i from at old now h end = λ w.
     ap (λ r. now ++ r) (sym (is.nothing at w))
-    ∙ (ap (λ ys. now ++ all at ys w) (sym (drop_all xs i end)) ∙ h.added w)
+    ∙ (ap (λ ys. now ++ all at ys w) (sym (drop_all i xs end)) ∙ h.added w)

@@ -1,8 +1,9 @@
 -- How the wanted names of a tree are read off a text.
 use Rattle.std.proofs.Common.{◌≡◌, ℕ, zero, suc, ◌+◌, ◌<◌, ◌≤◌, Bool, true, false, List, [], ◌∷◌, ◌++◌, length, take}
 use Rattle.std.proofs.Common.{drop, map, Some, slice_get, refl, sym, ◌∙◌, ap, subst, arith, append-nil, if◌then◌else◌}
-use Rattle.std.proofs.{Common.{length-append}, lemmas.List.{length-map, take-append-drop, drop_more, length-take-le}}
+use Rattle.std.proofs.Common.{length-append}
 use Rattle.std.proofs.{lemmas.Option.{slice_get_within, get_or_from_slice_get}, lemmas.List.Elements.{filter-append}}
+use Rattle.std.proofs.lemmas.List.{nil_from_length, length-map, take-append-drop, drop_more, length-take-le}
 use Rattle.std.specs.Prelude.{filter}
 use Rattle.sect_lemmas.proofs.{Places.{at_of}, Options.{some_injective}}
 use Rattle.sect_front.specs.{TreeView.{TreeView}, TokenAt.{TokenAt}, Front.{IsSpelled}, FaultPlaces.{token_span}}
@@ -133,13 +134,9 @@ module _ (bytes : List ℕ) (tree : TreeView) (which : Wish) (some : List NameSp
         h.names ++ more,
         left.1,
         h.are ∙ (sym (append-nil (wanted which h.names))
-            ∙ (ap (λ ns. wanted which h.names ++ ns) (sym (none_left (wanted which more) none))
+            ∙ (ap (λ ns. wanted which h.names ++ ns) (sym (nil_from_length (wanted which more) none))
             ∙ sym (filter-append (λ (n : NameSpan). is_taken which n.used) h.names more))),
       )
-    where
-      none_left : {A : Type 0} (xs : List A) → length xs ≡ 0 → xs ≡ []
-      none_left [] e = refl
-      none_left (x ∷ xs) e = absurd (omega (arith, e))
 
   -- a token that is no name
   pub wanted_on : (t : Token) (n : ℕ) (r : OneRead bytes tree h.named.number here h.named.stands t n) (s : Span)

@@ -1,5 +1,6 @@
 -- The items of a whole text.
 use Rattle.std.proofs.Common.{◌≡◌, ℕ, suc, ◌+◌, ◌*◌, List, [], ◌∷◌, length, map, sym, ◌∙◌, ap, subst, arith, append-nil}
+use Rattle.std.proofs.lemmas.List.{length-map}
 use Rattle.sect_front.specs.{TreeView.{TreeView}, TokenAt.{TokenAt}, Front.{IsSpelled}, FaultPlaces.{token_span}}
 use Rattle.sect_front.specs.{Faults.{tokens_in}, Grammar.{tokens_of}, declared.span.Span.{Span}}
 use Rattle.sect_front.specs.{declared.token.Token.{Token}, declared.tree.Record.{Record}}
@@ -19,10 +20,6 @@ abbrev pub spelled_by : (bytes : List ℕ) (tree : TreeView) (listed : List Toke
 spelled_by bytes tree listed s e =
     record { places = s.places; spells = s.spells; same = sym s.parses.tokens ∙ sym e }
 
-map_length : {A B : Type 0} (f : A → B) (xs : List A) → length (map f xs) ≡ length xs
-map_length f [] = λ i. 0
-map_length f (x ∷ xs) = ap suc (map_length f xs)
-
 pub tokens_length : (ps : List TokenAt) → length (tokens_in ps) ≡ length ps
 tokens_length [] = λ i. 0
 tokens_length (p ∷ ps) = ap suc (tokens_length ps)
@@ -34,7 +31,7 @@ spans_count bytes tree s tokens e =
     omega (
       arith,
       ap length e,
-      map_length token_span s.places,
+      length-map s.places token_span,
       tokens_length s.places,
       ap length s.parses.tokens,
     )
@@ -78,7 +75,7 @@ item_spans_are bytes tree s tokens out ranges e f own g = record {
   spelled = s;
   are = g ∙ (λ i. map (span_in (e i)) (f i));
   own = subst (λ rs. AreOwn (tokens_of tree) rs (items tree)) f own;
-  many = ap length g ∙ (map_length (span_in tokens) ranges
+  many = ap length g ∙ (length-map ranges (span_in tokens)
       ∙ own_many (tokens_of tree) ranges (items tree) own);
   proper = subst (AreProper (length bytes)) (sym g)
       (spans_proper (length bytes) tokens ranges (spans_order bytes tree s tokens e)

@@ -10,18 +10,18 @@ use Rattle.sect_points.specs.{declared.holders.Growth.{Growth}, Partitions.{AreS
 use Rattle.sect_points.specs.Flow.{Family, ValueHas, BaseHas, Within, Moved, family_of}
 use Rattle.sect_points.specs.Sets.{PointsToView, InSets, HasSet, SameHolders, Adds, sites_for, spread_to, sets_room}
 use Rattle.sect_points.specs.{Sets.{rows_of}, Rows.{no_sites}}
-use Rattle.sect_points.specs.{Sets.{AreBelow}, declared.holders.Holder.{Holder}}
+use Rattle.sect_points.specs.declared.holders.Holder.{Holder}
 use Rattle.sect_points.specs.declared.holders.Holder.TheVariants.{Local, Slot}
 use Rattle.sect_types.specs.{declared.expansion.action.Value.{Value}, declared.expansion.action.Base.{Base}}
 use Rattle.sect_types.specs.{declared.expansion.action.Action.{Action}, declared.expansion.action.Field.{Field}}
-use Rattle.sect_points.specs.steps.Solving.{FitsBase, FitsAction, AllFit}
+use Rattle.sect_points.specs.steps.Solving.{FitsAction, AllFit}
 use Rattle.sect_points.specs.steps.Marks.{IsUntouched, MissesBases, Marked, HasMark, Suits, Grows, Grown, grown, GrewBy}
 use Rattle.sect_points.specs.steps.Marks.{Reads, ReadsValue, ReadsBase, ReadsGrowth, IsBase, AreBases, MovedBy}
 use Rattle.sect_points.specs.steps.Marks.{IsGrowth, Handles, Covers, IsThere, IsBaseAlone, IsOnlyBase, IsStretch}
 use Rattle.sect_points.specs.steps.Marks.{IsGoing, IsLeft, IsSpan}
 use Rattle.sect_points.proofs.SetLaws.{both_false, one_true, adds_as, spread_below, spread_more, spread_all}
-use Rattle.sect_points.proofs.SolvingLaws.{moved_below, base_below, action_same}
-use Rattle.sect_points.proofs.shared.SolvingLaws.{moved_more}
+use Rattle.sect_points.proofs.SolvingLaws.{moved_below, action_same}
+use Rattle.sect_points.proofs.shared.SolvingLaws.{moved_more, value_more, base_more}
 use Rattle.sect_types.specs.declared.expansion.action.Value.TheVariants as value
 use Rattle.sect_types.specs.declared.expansion.action.Base.TheVariants as base
 use Rattle.sect_types.specs.declared.expansion.action.Action.TheVariants as action
@@ -79,44 +79,30 @@ spread_whole n old new bases f sites before after grew none g = record {
 }
 
 -- the bases of a growth
-covers_value : (F G : Family) (t : ℕ) (v : Value) (s : ℕ) → Within F G → ValueHas F t v s → ValueHas G t v s
-covers_value F G t (value.Local x) s sub h = sub _ s h
-covers_value F G t (value.Global g) s sub h = h
-covers_value F G t value.Null s sub h = h
-covers_value F G t (value.Number n) s sub h = h
-
-covers_base : (F G : Family) (t : ℕ) (b : Base) (s : ℕ) → Within F G → BaseHas F t b s → BaseHas G t b s
-covers_base F G t (base.Local x) s sub h = sub _ s h
-covers_base F G t (base.Global g) s sub h = h
-
 pub covers_all : (sets : PointsToView) (g : Grown) (p : ThreadAction) (bases : List ℕ)
     → ((o : ℕ) → HasSite bases o ↔ IsBase (InSets sets) p.thread p.action o) → Covers sets g p bases
 covers_all sets g p bases are before after grew-so sub h s m = inr (by p.action are m)
   where
     by : (a : Action) → ((o : ℕ) → HasSite bases o ↔ IsBase (InSets sets) p.thread a o)
         → Moved (InSets after) p.thread a h s → MovedBy (InSets sets) bases p.thread a h s
-    by (action.Assign x v) are m = (m.0, covers_value (InSets after) (InSets sets) p.thread v s sub m.1)
+    by (action.Assign x v) are m = (m.0, value_more (InSets after) (InSets sets) p.thread v s sub m.1)
     by (action.Compute x v o w) are m = m
     by (action.New x r i) are m = m
     by (action.Load x b f) are m = (
       m.0,
       (
         m.1.0,
-        (are m.1.0).1 (covers_base (InSets after) (InSets sets) p.thread b m.1.0 sub m.1.1),
+        (are m.1.0).1 (base_more (InSets after) (InSets sets) p.thread b m.1.0 sub m.1.1),
         sub (Slot m.1.0 f.number) s m.1.2,
       ),
     )
     by (action.Store b f v) are m = (
       m.0,
-      (are m.0).1 (covers_base (InSets after) (InSets sets) p.thread b m.0 sub m.1),
+      (are m.0).1 (base_more (InSets after) (InSets sets) p.thread b m.0 sub m.1),
       m.2,
-      covers_value (InSets after) (InSets sets) p.thread v s sub m.3,
+      value_more (InSets after) (InSets sets) p.thread v s sub m.3,
     )
     by (action.Print v) are m = m
-
-pub bases_below : (sets : PointsToView) (t : ℕ) (b : Base) (s : ℕ) → AreBelow sets → FitsBase sets t b
-    → BaseHas (InSets sets) t b s → s < sets.sites
-bases_below sets t b s below fits h = base_below sets t b s below fits h
 
 pub load_grows : (old new : PointsToView) (t x : ℕ) (b : Base) (f : Field) (bases all : List ℕ) (before after : Marked)
     (grew : Bool)
@@ -164,7 +150,7 @@ covers_new sets p t x new bases (same, alone) both before after grew-so sub h s 
     ]
     by (action.Store b f v) alone m = elim (base_new b m.0 alone.0 m.1) [
       | inl k ↦ inl (m.0, k, m.2, value_at v x s alone.1 (λ y apart. local_other y s apart) m.3)
-      | inr k ↦ inr (m.0, (both m.0).1 (k, k), m.2, covers_value (InSets after) (InSets sets) p.thread v s sub m.3)
+      | inr k ↦ inr (m.0, (both m.0).1 (k, k), m.2, value_more (InSets after) (InSets sets) p.thread v s sub m.3)
     ]
     by (action.Print v) alone m = absurd alone
 
@@ -205,7 +191,7 @@ covers_field sets p f new all bases are both before after grew-so sub h s m = by
               m.1.0,
               (both m.1.0).1 (
                 (are m.1.0).1
-                    (covers_base (InSets after) (InSets sets) p.thread b m.1.0 sub m.1.1),
+                    (base_more (InSets after) (InSets sets) p.thread b m.1.0 sub m.1.1),
                 subst (HasSite new) same k,
               ),
               sub (Slot m.1.0 g.number) s m.1.2,
@@ -239,7 +225,7 @@ untouched sets p (growth.Field f) new none before after grew-so sub h s m = inl 
       | inr (o, is, k) ↦
           let e : Slot m.1.0 g.number ≡ Slot o f = is in
           let same : o ≡ m.1.0 = cc in
-          absurd (none m.1.0 (covers_base (InSets after) (InSets sets) p.thread b m.1.0 sub m.1.1)
+          absurd (none m.1.0 (base_more (InSets after) (InSets sets) p.thread b m.1.0 sub m.1.1)
           (subst (HasSite new) same k))
     ]
     by (action.Store b g v) none m = absurd none

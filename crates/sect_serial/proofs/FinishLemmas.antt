@@ -1,9 +1,9 @@
 -- The local code of all threads, run to its end.
-use Rattle.std.proofs.Common.{true≢false, ◌≡◌, ◌<◌, ◌+◌, ℕ, zero, suc, List, [], ◌∷◌, ◌++◌, Option, Some, None, refl}
+use Rattle.std.proofs.Common.{true≢false, ◌≡◌, ◌<◌, ◌+◌, ℕ, suc, List, [], ◌∷◌, ◌++◌, Option, Some, None, refl}
 use Rattle.std.proofs.{Common.{sym, ap, ◌∙◌, arith, map, slice_get, length, take}, lemmas.List.{map-append}}
 use Rattle.sect_types.specs.{Programs.{ProgramView}, declared.meaning.store.End.{End}}
 use Rattle.sect_types.specs.Whole.{FrameView, RunView, ahead, all_ahead, has_ended}
-use Rattle.sect_lemmas.proofs.Options.{mapped}
+use Rattle.sect_lemmas.proofs.{Options.{mapped}, Elements.{taken}}
 use Rattle.sect_types.proofs.shared.RunningAhead.{get-all_ahead}
 use Rattle.sect_serial.specs.Judging.{HasSectionLeft, IsLeastLeft}
 use Rattle.sect_serial.proofs.JudgeLemmas.{ended_at}
@@ -32,13 +32,6 @@ ends_more p fs f g ends e so_far is some =
     ∙ sym (ap (map (λ (f : FrameView). f.ended)) (all_ahead-more p 0 fs f)
     ∙ map-append (λ (f : FrameView). f.ended) (all_ahead p 0 fs) (ahead p (0 + length fs) f ∷ []))
 
--- what stands before a place is in the part before it
-get_take : {A : Type 0} → (n u : ℕ) (xs : List A) → u < n → slice_get (take n xs) u ≡ slice_get xs u
-get_take zero u xs lt = absurd (omega (arith, lt))
-get_take (suc n) u [] lt = refl
-get_take (suc n) zero (x ∷ xs) lt = refl
-get_take (suc n) (suc u) (x ∷ xs) lt = get_take n u xs (omega (arith, lt))
-
 -- the first thread that hasn't ended is the least with a section left
 pub least_left : (p : ProgramView) (s : RunView) (n : ℕ) (f g : FrameView) (ends : List End)
     → slice_get s.frames n ≡ Some f → g ≡ ahead p n f → g.ended ≡ None
@@ -51,7 +44,7 @@ least_left p s n f g ends at is none so_far = (here, λ u lt. earlier u lt (slic
   earlier u lt None there h = h
   earlier u lt (Some x) there h =
       let first = get-all_ahead p 0 (take n s.frames) u
-      ∙ ap (mapped (ahead p (0 + u))) (get_take n u s.frames lt ∙ there) in
+      ∙ ap (mapped (ahead p (0 + u))) (taken s.frames n u lt ∙ there) in
       let zeroed : ahead p (0 + u) x ≡ ahead p u x = ap (λ m. ahead p m x) (let z : 0 + u ≡ u = omega arith in z) in
       true≢false (sym (ended_at (all_ahead p 0 (take n s.frames)) ends u (ahead p (0 + u) x) (sym so_far) first)
       ∙ ap (λ (f : FrameView). has_ended f.ended) zeroed ∙ h)

@@ -1,7 +1,8 @@
 -- What is still to run, as its parts change.
-use Rattle.std.proofs.Common.{true≢false, ◌≡◌, ℕ, zero, suc, Bool, true, false, List, [], ◌∷◌, ◌++◌, length, take}
+use Rattle.std.proofs.Common.{true≢false, ◌≡◌, ℕ, zero, suc, true, false, List, [], ◌∷◌, ◌++◌, length, take}
 use Rattle.std.proofs.Common.{Option, Some, None, refl, sym, ap, ◌∙◌, arith, slice_get, slice_set, ◌==◌}
 use Rattle.std.proofs.lemmas.Bool.Decides.{Decides-eqb}
+use Rattle.std.proofs.lemmas.Bool.{false_from_ne_true}
 use Rattle.sect_types.specs.Statements.{TextView, Stop, Do, Choose, Loop, Section, joined}
 use Rattle.sect_types.specs.{Texts.{step_then, statements_of}, declared.expansion.text.Step.{Step}}
 use Rattle.sect_serial.specs.steps.Rests.{rest_of, is_stop, AreFull, after_first, Begins}
@@ -29,14 +30,9 @@ begins_joined None k r e h = absurd (true≢false (sym (ap is_stop h) ∙ e))
 begins_joined (Some s) k r e h =
     ap (λ k. joined k r) h ∙ joined_step s (after_first k) r ∙ ap (step_then s) (sym (after_joined k r e))
 
--- a test that is never true is false
-only_false : (b : Bool) → (b ≡ true → ⊥) → b ≡ false
-only_false true no_true = absurd (no_true refl)
-only_false false no_true = refl
-
 -- a successor is not 0
 not_zero : (n : ℕ) → (suc n == 0) ≡ false
-not_zero n = only_false (suc n == 0) (λ e. absurd (omega (arith, (Decides-eqb (suc n) 0).0 e)))
+not_zero n = false_from_ne_true (suc n == 0) (λ e. absurd (omega (arith, (Decides-eqb (suc n) 0).0 e)))
 
 -- no step means no statement
 pub is_stop-text : (ss : List Step) → (length ss == 0) ≡ is_stop (statements_of ss)
@@ -76,13 +72,6 @@ rest_set (x ∷ xs) (suc n) k e =
 pub rest_push : (ks : List TextView) (k : TextView) → rest_of (ks ++ k ∷ []) ≡ joined k (rest_of ks)
 rest_push [] k = sym (joined_stop k)
 rest_push (x ∷ ks) k = ap (λ r. joined r x) (rest_push ks k) ∙ joined_again k (rest_of ks) x
-
--- the parts before the last stay
-pub take_set : (ks : List TextView) (n : ℕ) (k : TextView) → take n (slice_set ks n k) ≡ take n ks
-take_set [] zero k = refl
-take_set [] (suc n) k = refl
-take_set (x ∷ ks) zero k = refl
-take_set (x ∷ ks) (suc n) k = ap (λ r. x ∷ r) (take_set ks n k)
 
 -- the last part is not empty
 pub full_last : (ks : List TextView) (n : ℕ) (k : TextView) → AreFull ks → slice_get ks n ≡ Some k → is_stop k ≡ false

@@ -1,6 +1,6 @@
 -- What a step keeps, and what it takes.
 use Rattle.std.proofs.Common.{true≢false, ◌≡◌, ◌<◌, ◌≤◌, ℕ, ℤ, zero, suc, Option, Some, None, Bool, true, false}
-use Rattle.std.proofs.Common.{is_some, refl, sym, ap, subst, ◌∙◌, arith, if◌then◌else◌}
+use Rattle.std.proofs.Common.{refl, sym, ap, subst, ◌∙◌, arith, if◌then◌else◌}
 use Rattle.sect_types.specs.{declared.expansion.action.Action.{Action}, Environments.{Environment}}
 use Rattle.sect_types.specs.{Statements.{TextView, Stop, Do, Choose, Loop, Section, joined}, Programs.{ProgramView}}
 use Rattle.sect_types.specs.{Sound.{IsSound, StandsRight}, declared.meaning.store.Datum.TheVariants.{Number}}
@@ -13,7 +13,8 @@ use Rattle.sect_types.specs.Whole.{Left, Broken, body_of, FrameView, settled, fa
 use Rattle.sect_types.specs.Whole.{has_ended, is_standing, ahead}
 use Rattle.sect_serial.specs.steps.{Moves.{Stepped, stepped, stepped_by}, Rests.{is_stop}, Frames.{IsReady}}
 use Rattle.sect_types.proofs.shared.RunningAhead.{LeavesFuel, done_leaves, ahead_after_local}
-use Rattle.sect_types.proofs.shared.{BodySteps.{left_after, step_keeps}, Joining.{sound_joined}, Starts.{settled_text}}
+use Rattle.sect_types.proofs.shared.{Joining.{sound_joined}, Starts.{settled_text}}
+use Rattle.sect_types.proofs.shared.BodySteps.{looks_nowhere, left_after, step_keeps}
 use Rattle.sect_types.specs.declared.expansion.action.Action.TheVariants as action
 use Rattle.sect_types.specs.declared.meaning.store.Fault.TheVariants as fault
 
@@ -93,19 +94,6 @@ pub left_stepped : (p : ProgramView) (t : ℕ) (k : TextView) (w : WorkView) (s 
 left_stepped p t k w s l v r f e =
     step_keeps p t k w s ∙ left_alike p t k s (next p t k (found_at s (looks k w)) w) ∙ ap (left_from p t) (sym e)
 
--- outside a section a statement looks into no object
-pub looks_local : (e : Environment) (k : TextView) (w : WorkView) → IsSound e false k → looks k w ≡ None
-looks_local e Stop w h = refl
-looks_local e (Do (action.Assign x v) k) w h = refl
-looks_local e (Do (action.Compute x v o u) k) w h = refl
-looks_local e (Do (action.New x r site) k) w h = refl
-looks_local e (Do (action.Load x b f) k) w h = absurd (true≢false h.1)
-looks_local e (Do (action.Store b f v) k) w h = absurd (true≢false h.1)
-looks_local e (Do (action.Print v) k) w h = refl
-looks_local e (Choose c p q k) w h = refl
-looks_local e (Loop c p k) w h = refl
-looks_local e (Section i p k) w h = refl
-
 -- and leaves the store as it is
 pub store_local : (e : Environment) (p : ProgramView) (t : ℕ) (k : TextView) (found : Option ObjectView) (w : WorkView)
     (s : StoreView)
@@ -164,7 +152,7 @@ pub ahead_stepped : (e : Environment) (p : ProgramView) (t : ℕ) (f : FrameView
     → ahead p t (frame_now l v why) ≡ ahead p t f
 ahead_stepped e p t f s l v r why sound none steps is =
     ap (ahead p t) (ap frame_from (is
-    ∙ ap (λ o. stepped_by t f.text s (next p t f.text (found_at s o) f.work)) (looks_local e f.text f.work sound))
+    ∙ ap (λ o. stepped_by t f.text s (next p t f.text (found_at s o) f.work)) (looks_nowhere e f.text f.work sound))
     ∙ sym (frame_alike t f.text s (next p t f.text None f.work)))
     ∙ ahead_after_local p t f none steps
 
@@ -193,11 +181,6 @@ ready_settled (Do a r) w e = refl
 ready_settled (Choose c y z r) w e = refl
 ready_settled (Loop c l r) w e = refl
 ready_settled (Section i l r) w e = refl
-
--- what is not there is none
-pub not_some : {A : Type 0} → (o : Option A) → is_some o ≡ false → o ≡ None
-not_some None e = refl
-not_some (Some x) e = absurd (true≢false e)
 
 -- how many steps a frame may still make, and one that ends it
 abbrev pub room : FrameView → ℕ

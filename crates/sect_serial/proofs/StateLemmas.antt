@@ -1,11 +1,11 @@
 -- States that are kept while outcomes are sought, and all that whole sections lead to.
-use Rattle.std.proofs.Common.{◌≡◌, ◌<◌, ◌≤◌, ◌+◌, inl, inr, ℕ, zero, suc, false, List, [], ◌∷◌, ◌++◌}
+use Rattle.std.proofs.Common.{◌≡◌, ◌<◌, ◌≤◌, ◌+◌, inl, inr, ℕ, false, List, [], ◌∷◌, ◌++◌}
 use Rattle.std.proofs.Common.{Option, Some, None, refl, sym, ap, subst, ◌∙◌, arith, length, slice_get}
-use Rattle.std.proofs.{Common.{length-append}, lemmas.Bool.{cases_lt}, lemmas.List.{length-map}}
-use Rattle.std.proofs.lemmas.Option.{slice_get_past, slice_get_within}
+use Rattle.std.proofs.{Common.{length-append}, lemmas.Bool.{cases_lt}, lemmas.List.{length-map, append-nil}}
+use Rattle.std.proofs.{lemmas.Option.{slice_get_past, slice_get_within}, lemmas.List.{append_assoc}}
 use Rattle.sect_lemmas.specs.Lists.{Has}
-use Rattle.sect_lemmas.proofs.{Distinct.{distinct_none}, Membership.{Has-cases, Has-unmap}}
-use Rattle.sect_lemmas.proofs.{Options.{some_injective, none_or_some}, Places.{Has-index}}
+use Rattle.sect_lemmas.proofs.{Distinct.{distinct_none}, Membership.{Has-cases, Has-unmap}, Elements.{slice_get-left}}
+use Rattle.sect_lemmas.proofs.{Options.{some_injective, none_or_some}, Places.{Has-index}, Elements.{get_front}}
 use Rattle.sect_types.specs.Programs.{ProgramView}
 use Rattle.sect_types.specs.Whole.{RunView, begun, in_order, run_section, section_of_thread, option_then}
 use Rattle.sect_serial.specs.{Comparing.{run_eq}, Exploring.{Found, HasMoreThan, HasStates, IsReached, AreOutcomes}}
@@ -67,52 +67,31 @@ kept_is_there most es fs r order (inl k) =
 kept_is_there most es fs r order (inr k) =
     subst (λ (xs : States). Has (states_in xs) (trimmed r)) (sym k.2) (key_last trimmed es r order)
 
-append_none : {A : Type 0} (xs : List A) → xs ≡ xs ++ []
-append_none [] = refl
-append_none (x ∷ xs) = ap (λ ys. x ∷ ys) (append_none xs)
-
-append_twice : {A : Type 0} (xs ys zs : List A) → (xs ++ ys) ++ zs ≡ xs ++ (ys ++ zs)
-append_twice [] ys zs = refl
-append_twice (x ∷ xs) ys zs = ap (λ rs. x ∷ rs) (append_twice xs ys zs)
-
 pub grows_none : (es : States) → Grows es es
-grows_none es = ([], append_none es)
+grows_none es = ([], sym (append-nil es))
 
 pub kept_grows : (most : ℕ) (es fs : States) (r : RunView) (order : List ℕ) → Keeps most r order es fs → Grows es fs
-kept_grows most es fs r order (inl k) = ([], k.1 ∙ append_none es)
+kept_grows most es fs r order (inl k) = ([], k.1 ∙ sym (append-nil es))
 kept_grows most es fs r order (inr k) = ((r, order) ∷ [], k.2)
 
 pub grows_more : (es fs gs : States) → Grows es fs → Grows fs gs → Grows es gs
 grows_more es fs gs a b = (
   a.0 ++ b.0,
-  b.1 ∙ ap (λ (xs : States). xs ++ b.0) a.1 ∙ append_twice es a.0 b.0,
+  b.1 ∙ ap (λ (xs : States). xs ++ b.0) a.1 ∙ append_assoc es a.0 b.0,
 )
 
 pub grows_has : (es fs : States) (r : RunView) → Grows es fs → Has (states_in es) r → Has (states_in fs) r
 grows_has es fs r g h = subst (λ (xs : States). Has (states_in xs) r) (sym g.1) (key_left trimmed es g.0 r h)
 
--- what stands in the first part stands in the whole
-get_left : {A : Type 0} (xs ys : List A) (i : ℕ) (x : A) → slice_get xs i ≡ Some x → slice_get (xs ++ ys) i ≡ Some x
-get_left [] ys i x e = absurd (none_or_some x e)
-get_left (y ∷ xs) ys zero x e = e
-get_left (y ∷ xs) ys (suc i) x e = get_left xs ys i x e
-
--- what stands in the whole, at a place of the first part, stands there
-get_before : {A : Type 0} (xs ys : List A) (i : ℕ) (x : A) → i < length xs → slice_get (xs ++ ys) i ≡ Some x
-    → slice_get xs i ≡ Some x
-get_before [] ys i x lt e = absurd (omega (arith, lt))
-get_before (y ∷ xs) ys zero x lt e = e
-get_before (y ∷ xs) ys (suc i) x lt e = get_before xs ys i x (omega (arith, lt)) e
-
 pub grows_get : (es fs : States) (n : ℕ) (e : RunView × List ℕ) → Grows es fs → slice_get es n ≡ Some e
     → slice_get fs n ≡ Some e
-grows_get es fs n e g at = ap (λ (xs : States). slice_get xs n) g.1 ∙ get_left es g.0 n e at
+grows_get es fs n e g at = ap (λ (xs : States). slice_get xs n) g.1 ∙ slice_get-left es g.0 n e at
 
 -- what was followed stays so
 pub grows_on : (p : ProgramView) (es fs : States) (n t : ℕ) → Grows es fs → n < length es → GoesOn p es n t
     → GoesOn p fs n t
 grows_on p es fs n t g lt on e r at ran =
-    grows_has es fs (trimmed r) g (on e r (get_before es g.0 n e lt
+    grows_has es fs (trimmed r) g (on e r (get_front es g.0 n e lt
     (sym (ap (λ (xs : States). slice_get xs n) g.1) ∙ at)) ran)
 
 -- one state is at a place

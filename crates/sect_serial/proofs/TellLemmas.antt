@@ -5,12 +5,11 @@ use Rattle.std.specs.{Bool.{Decides}, Cmp.{unsigned_Decides, signed_Decides}}
 use Rattle.std.specs.{Cmp.Lexicographic.{pointwise, pointwise_decides}, Option.{option_eq}}
 use Rattle.sect_types.specs.{Store.{ObjectView, StoreView}, Meaning.{WorkView}}
 use Rattle.sect_types.specs.{Whole.{FrameView, RunView, SerialEndView}, declared.meaning.store.ObjectName.{ObjectName}}
-use Rattle.sect_types.specs.declared.meaning.store.ObjectName.TheVariants.{Global, Made}
 use Rattle.sect_types.specs.declared.meaning.store.Datum.{Datum}
 use Rattle.sect_types.specs.declared.meaning.store.Datum.TheVariants.{Number, Null, Refers}
 use Rattle.sect_types.specs.{declared.meaning.store.Fault.{Fault}, declared.meaning.store.End.{End}}
 use Rattle.sect_types.specs.declared.meaning.store.End.TheVariants.{Done, Failed}
-use Rattle.sect_types.specs.contracts.meaning.store.ObjectNamePartialEq.TheImpl.{ghosts as the_name_eq}
+use Rattle.sect_types.proofs.shared.SameData.{name_tells}
 use Rattle.sect_types.specs.contracts.meaning.store.DatumPartialEq.TheImpl.{ghosts as the_datum_eq}
 use Rattle.sect_types.specs.contracts.meaning.store.FaultPartialEq.TheImpl.{ghosts as the_fault_eq}
 use Rattle.sect_types.specs.contracts.meaning.store.EndPartialEq.TheImpl.{ghosts as the_end_eq}
@@ -24,12 +23,6 @@ both : {P Q R : Type 0} (x y : Bool) → Decides x P → Decides y Q → (P → 
 both true true d e make one two = (λ h. make (d.0 refl) (e.0 refl), λ r. refl)
 both true false d e make one two = (λ h. make (d.0 refl) (e.0 h), λ r. e.1 (two r))
 both false y d e make one two = (λ h. make (d.0 h) (absurd (cc)), λ r. d.1 (one r))
-
-name_tells : (m n : ObjectName) → Decides (the_name_eq.eq m n) (m ≡ n)
-name_tells (Global g) (Global h) = search rules
-name_tells (Global g) (Made t n) = search rules
-name_tells (Made t n) (Global g) = search rules
-name_tells (Made t n) (Made u m) = search rules
 
 -- the name in a reference
 abbrev name_of : ObjectName → Datum → ObjectName

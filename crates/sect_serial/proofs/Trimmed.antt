@@ -1,9 +1,9 @@
 -- What a thread that has ended has in its locals makes no difference to what comes.
-use Rattle.std.proofs.Common.{◌≡◌, ◌+◌, ◌∙◌, refl, sym, ap, ℕ, zero, suc, List, [], ◌∷◌, map, Option, Some}
+use Rattle.std.proofs.Common.{◌≡◌, ◌+◌, ◌∙◌, refl, sym, ap, ℕ, List, [], ◌∷◌, map, Option, Some}
 use Rattle.std.proofs.{Common.{None, true, ◌++◌, if◌then◌else◌}, lemmas.Option.{slice_get-map}}
 use Rattle.std.specs.{Prelude.{slice_get}, Option.{option_map}}
 use Rattle.sect_lemmas.specs.Lists.{put_at}
-use Rattle.sect_lemmas.proofs.Options.{some_injective, none_or_some}
+use Rattle.sect_lemmas.proofs.{Options.{map_part}, Replaced.{map_put}}
 use Rattle.sect_types.specs.{declared.meaning.store.End.{End}, Programs.{ProgramView}}
 use Rattle.sect_types.specs.Statements.{TextView, Stop, Do, Choose, Loop, Section}
 use Rattle.sect_types.specs.Meaning.{WorkView}
@@ -13,12 +13,6 @@ use Rattle.sect_types.specs.Whole.{after_section, is_standing, has_ended, begins
 use Rattle.sect_types.specs.declared.meaning.store.Datum.{Datum}
 use Rattle.sect_types.proofs.shared.RunningAhead.{ahead_standing}
 use Rattle.sect_serial.specs.Trimming.{trimmed_frame, trimmed, in_use}
-
--- an element put in a list, and its image
-map_put : {A B : Type 0} (f : A → B) (t : ℕ) (x : A) (xs : List A) → map f (put_at t x xs) ≡ put_at t (f x) (map f xs)
-map_put f t x [] = refl
-map_put f zero x (z ∷ xs) = refl
-map_put f (suc t) x (z ∷ xs) = ap (λ zs. f z ∷ zs) (map_put f t x xs)
 
 -- a thread that hasn't ended is as it was
 kept_whole : (f : FrameView) → f.ended ≡ None → trimmed_frame f ≡ f
@@ -134,15 +128,9 @@ same_run p t r =
       by None = refl
       by (Some f) = same_section p t r f
 
--- what a list of choices tells of one that is there
-told_there : {A B : Type 0} (g : A → B) (o : Option A) (v : B) → option_map g o ≡ Some v
-    → (x : A) × (o ≡ Some x) × (g x ≡ v)
-told_there g None v e = absurd (none_or_some v e)
-told_there g (Some x) v e = (x, refl, some_injective (g x) v e)
-
 -- states that are the same but for such locals go on alike
 pub trimmed_section : (p : ProgramView) (t : ℕ) (r s q : RunView) → trimmed r ≡ trimmed s → run_section p t r ≡ Some q
     → (o : RunView) × (run_section p t s ≡ Some o) × (trimmed o ≡ trimmed q)
-trimmed_section p t r s q same ran = told_there trimmed (run_section p t s) (trimmed q)
+trimmed_section p t r s q same ran = map_part trimmed (run_section p t s) (trimmed q)
     (sym (same_run p t s) ∙ ap (λ x. option_map trimmed (run_section p t x)) (sym same) ∙ same_run p t r
     ∙ ap (option_map trimmed) ran)

@@ -1,22 +1,22 @@
 -- Lists of claims and of holds.
 use Rattle.std.proofs.Common.{◌≡◌, inl, inr, ℕ, ◌+◌, ◌<◌, ◌≤◌, List, [], ◌∷◌, ◌++◌, Bool, true, false, not, Some, None}
-use Rattle.std.proofs.{Common.{refl, sym, ◌∙◌, ap, subst, arith}, lemmas.Bool.{and_parts, cases_Bool, or_right}}
+use Rattle.std.proofs.Common.{refl, sym, ◌∙◌, ap, subst, arith}
+use Rattle.std.proofs.lemmas.Bool.{or_parts, and_parts, cases_Bool, or_right}
 use Rattle.std.specs.Prelude.{◌==◌, ◌||◌, ◌&&◌, if◌then◌else◌}
 use Rattle.sect_modes.specs.{declared.mode.Mode.{Mode}, declared.key.Key.{Key}, Mode.{are_compatible, is_at_least}}
 use Rattle.sect_modes.specs.Key.{is_same_key}
+use Rattle.sect_modes.proofs.shared.Keys.{same_key, key_itself}
 use Rattle.sect_table.specs.{declared.claims.Claim.{Claim}, declared.claims.Hold.{Hold}}
 use Rattle.sect_table.specs.Contents.{is_among, mode_in, mode_for, may_join, first_of, stay, AreApart}
 use Rattle.sect_table.specs.Sound.{SharesWith, AreTogether, AreKeysApart, claims_by, one_if, AreThreadsBelow}
-use Rattle.sect_table.proofs.shared.Shown.{same_key, key_itself}
 use Rattle.sect_table.proofs.shared.Claiming.{true_or_false, among-append, among_append, mode_for-here, mode_for-later}
 use Rattle.sect_table.proofs.shared.Claiming.{mode_in-here, mode_in-later}
-use Rattle.sect_lemmas.proofs.Booleans.{neither}
 
 pub apart_insert : (xs : List Claim) (w : Claim) (ys : List Claim) → AreApart (xs ++ ys)
     → is_among w.thread (xs ++ ys) ≡ false → AreApart (xs ++ w ∷ ys)
 apart_insert [] w ys a e = (e, a)
 apart_insert (x ∷ xs) w ys a e =
-    let both = neither (x.thread == w.thread) (is_among w.thread (xs ++ ys)) e in
+    let both = or_parts (x.thread == w.thread) (is_among w.thread (xs ++ ys)) e in
     let off = among-append x.thread xs ys a.0 in
     let other : (w.thread == x.thread) ≡ false = grind (arith, both.0) in (
       among_append x.thread xs (w ∷ ys) off.0 (ap (λ b. b || is_among x.thread ys) other ∙ off.1),
@@ -36,7 +36,7 @@ pub together_push : (hs : List Claim) (w : Claim) → AreTogether hs → is_amon
     → may_join hs w.thread w.mode ≡ true → AreTogether (hs ++ w ∷ [])
 together_push [] w t e j = (tt, tt)
 together_push (h ∷ hs) w t e j =
-    let off = neither (h.thread == w.thread) (is_among w.thread hs) e in
+    let off = or_parts (h.thread == w.thread) (is_among w.thread hs) e in
     let both = and_parts ((h.thread == w.thread) || are_compatible h.mode w.mode) (may_join hs w.thread w.mode) j in (
       shares_push h.mode w hs t.0 (compatible_other h.thread w.thread (are_compatible h.mode w.mode) both.0 off.0),
       together_push hs w t.1 off.1 both.1,
@@ -118,7 +118,7 @@ claims_by-append t (x ∷ xs) ys = let rest = claims_by-append t xs ys in omega 
 pub claims_by-missing : (t : ℕ) (xs : List Claim) → is_among t xs ≡ false → claims_by t xs ≡ 0
 claims_by-missing t [] e = refl
 claims_by-missing t (x ∷ xs) e =
-    let both = neither (x.thread == t) (is_among t xs) e in
+    let both = or_parts (x.thread == t) (is_among t xs) e in
     let rest = claims_by-missing t xs both.1 in
     let first : one_if (x.thread == t) ≡ 0 = ap one_if both.0 in
     omega arith

@@ -3,8 +3,9 @@ use Rattle.std.proofs.Common.{◌≡◌, inl, inr, suc, ◌<◌, ◌≤◌, List
 use Rattle.std.proofs.{Common.{ap, subst, arith}, lemmas.Bool.{cases_Bool}}
 use Rattle.std.specs.Prelude.{if◌then◌else◌}
 use Rattle.sect_modes.specs.{declared.key.Key.{Key}, Key.{is_same_key}}
+use Rattle.sect_modes.proofs.shared.Keys.{same_key, key_itself, other_key}
 use Rattle.sect_table.specs.{Contents.{Entry, number_of, entry_of, no_entry, put}, Sound.{AreEntriesApart}}
-use Rattle.sect_table.proofs.shared.Shown.{same_key, key_itself, entry_of-here, entry_of-later}
+use Rattle.sect_table.proofs.shared.Shown.{entry_of-here, entry_of-later}
 use Rattle.sect_table.proofs.shared.Entries.{entry_key, entry-new}
 use Rattle.sect_table.proofs.Shown.{put-here, put-later}
 
@@ -57,13 +58,6 @@ number-push k (e ∷ es) is = elim (cases_Bool (is_same_key k e.key)) [
       number-later k e (es ++ no_entry k ∷ []) later ∙ (ap suc (number-push k es (omega arith)) ∙ sym at)
 ]
 
-other_way : (a b : Key) → is_same_key a b ≡ false → is_same_key b a ≡ false
-other_way a b ne = elim (cases_Bool (is_same_key b a)) [
-  | inl same ↦ (let e : b ≡ a = same_key b a same in let on : is_same_key a b ≡ true =
-      ap (is_same_key a) e ∙ key_itself a in absurd (let both : false ≡ true = sym ne ∙ on in cc))
-  | inr apart ↦ apart
-]
-
 -- another key's entry that is put leaves an unknown key unknown
 unknown-put : (k : Key) (e : Entry) (es : List Entry) → is_same_key k e.key ≡ false → number_of k es ≡ length es
     → number_of k (put e es) ≡ length (put e es)
@@ -88,5 +82,5 @@ put_apart e (f ∷ es) a = elim (cases_Bool (is_same_key e.key f.key)) [
   | inl here ↦ subst AreEntriesApart (sym (put-here e f es here))
       (ap (λ k. number_of k es) (same_key e.key f.key here) ∙ a.0, a.1)
   | inr later ↦ subst AreEntriesApart (sym (put-later e f es later))
-      (unknown-put f.key e es (other_way e.key f.key later) a.0, put_apart e es a.1)
+      (unknown-put f.key e es (other_key e.key f.key later) a.0, put_apart e es a.1)
 ]

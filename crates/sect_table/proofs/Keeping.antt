@@ -1,7 +1,8 @@
 -- What each call keeps.
 use Rattle.std.proofs.Common.{◌≡◌, inl, inr, ℕ, zero, suc, ◌<◌, List, [], ◌∷◌, ◌++◌, length, get_or, true, false, not}
-use Rattle.std.proofs.{Common.{Option, Some, None, refl, sym, ◌∙◌, ap, subst, arith}, lemmas.Bool.{cases_lt, and_parts}}
+use Rattle.std.proofs.{Common.{None, refl, sym, ◌∙◌, ap, subst, arith}, lemmas.Bool.{cases_lt, and_parts}}
 use Rattle.std.specs.Prelude.{◌&&◌, is_some, replicate}
+use Rattle.sect_lemmas.proofs.Options.{not_some}
 use Rattle.sect_modes.specs.{declared.mode.Mode.{Mode}, declared.key.Key.{Key}}
 use Rattle.sect_table.specs.{declared.claims.Claim.{Claim}, declared.claims.Hold.{Hold}}
 use Rattle.sect_table.specs.Contents.{Entry, Contents, number_of, entry_of, no_entry, put, held_by, is_among}
@@ -167,13 +168,9 @@ prepared_answer Queued t k m c c1 c2 h e a = (
       ∙ prepared_put (with_waiter (claim_of t m)) k c.entries c1.entries (λ z. refl) e,
 )
 
-none_of : (o : Option Mode) → is_some o ≡ false → o ≡ None
-none_of None e = refl
-none_of (Some m) e = absurd (let on : true ≡ false = e in cc)
-
 pub answer_kept : (a : Answer) (t : ℕ) (k : Key) (m : Mode) (c c' : Contents) → IsKept c → t < length c.held
     → is_waiting t c ≡ false → holds t k c ≡ false → IsAnswered a t k m c c' → IsKept c'
 answer_kept Granted t k m c c' s lt idle none a =
-    granted_kept c c' t k m s lt idle (none_of (mode_in k (held_by c t)) none) a.0 a.1 a.2
+    granted_kept c c' t k m s lt idle (not_some (mode_in k (held_by c t)) none) a.0 a.1 a.2
 answer_kept Queued t k m c c' s lt idle none a =
-    queued_kept c c' t k m s lt idle (none_of (mode_in k (held_by c t)) none) a.0 a.1 a.2
+    queued_kept c c' t k m s lt idle (not_some (mode_in k (held_by c t)) none) a.0 a.1 a.2

@@ -18,6 +18,7 @@ use Rattle.sect_table.proofs.Shown.{seen, entries-put, entries-kept, held-set, h
 use Rattle.sect_table.proofs.Shown.{one_place, uncons}
 use Rattle.sect_table.proofs.Roles.{arena_moved, labelled_first, WaitsFor, waiter_role, HoldsBy, holding_role}
 use Rattle.sect_table.proofs.Roles.{free_role}
+use Rattle.sect_table.proofs.shared.Claiming.{stay-missing}
 
 -- a number goes from one list to the end of another one
 pub record Moved (q q' : List (List ℕ)) (x from to : ℕ) : Type 0 where
@@ -455,15 +456,6 @@ first_granted nodes keys threads q c q' c' now key at x r a is number known firs
     )
 
 -- a node leaves the holders: its thread's claim goes
-stay-missing : (t : ℕ) (cs : List Claim) → is_among t cs ≡ false → stay t cs ≡ cs
-stay-missing t [] e = refl
-stay-missing t (c ∷ cs) e = go (c.thread == t) refl e (stay-missing t cs)
-  where
-    go : (b : Bool) → (c.thread == t) ≡ b → (b || is_among t cs) ≡ false → (is_among t cs ≡ false → stay t cs ≡ cs)
-        → stay t (c ∷ cs) ≡ c ∷ cs
-    go true is none rest = absurd (let off : true ≡ false = none in cc)
-    go false is none rest = ap (λ b. if not b then c ∷ stay t cs else stay t cs) is ∙ ap (λ z. c ∷ z) (rest none)
-
 missing_node : (nodes : List Grant) (x : ℕ) (xs : List ℕ) → is_among (node_at nodes x).thread (claims nodes xs) ≡ false
     → IsAbsent x xs
 missing_node nodes x [] e = tt

@@ -2,19 +2,19 @@
 use Rattle.std.proofs.Common.{◌≡◌, inl, inr, ℕ, suc, ◌+◌, ◌<◌, ◌≤◌, List, [], ◌∷◌, ◌++◌, length, map, drop, get_or, set}
 use Rattle.std.proofs.Common.{true, false, Some, None, refl, sym, ◌∙◌, ap, subst, arith, append_assoc, length-append}
 use Rattle.std.proofs.{Common.{get_or-set_other}, lemmas.List.{length-set, append-nil, set_comm}}
-use Rattle.std.proofs.lemmas.Bool.{cases_Bool}
+use Rattle.std.proofs.lemmas.Bool.{cases_Bool, or_parts, eqb-false}
 use Rattle.std.specs.Prelude.{◌==◌, ◌||◌, if◌then◌else◌}
 use Rattle.sect_modes.specs.{declared.key.Key.{Key}, Key.{is_same_key}}
+use Rattle.sect_modes.proofs.shared.Keys.{key_itself}
 use Rattle.sect_table.specs.{declared.claims.Claim.{Claim}, declared.claims.Hold.{Hold}, declared.claims.Grant.{Grant}}
 use Rattle.sect_table.specs.Contents.{Entry, Contents, number_of, entry_of, put, is_among, may_join, first_of, give}
 use Rattle.sect_table.specs.Contents.{hold_of, grant_of, with_grant, let_in, let_through, give_all}
 use Rattle.sect_table.specs.Sound.{waiting_count}
 use Rattle.sect_table.specs.steps.Letting.{LettingIn}
-use Rattle.sect_table.proofs.shared.{Shown.{key_itself}, Entries.{entry_key, entry_of-put, put-put}}
+use Rattle.sect_table.proofs.shared.Entries.{entry_key, entry_of-put, put-put}
 use Rattle.sect_table.proofs.shared.Passing.{let_through-yes, let_through-no}
 use Rattle.sect_table.proofs.{Shown.{put-here, put-later}, Entries.{number-here, number-later, put-itself}}
-use Rattle.sect_table.proofs.Sounding.{waiting_count-put, sound_of, grant_sound, apart_threads, other_way}
-use Rattle.sect_lemmas.proofs.Booleans.{neither}
+use Rattle.sect_table.proofs.Sounding.{waiting_count-put, sound_of, grant_sound, other_way}
 
 -- a known key keeps its number
 pub length-put : (e : Entry) (es : List Entry) → number_of e.key es < length es → length (put e es) ≡ length es
@@ -171,7 +171,7 @@ room_left k room es n c first fits =
 pub among_through : (t : ℕ) (hs ws : List Claim) → is_among t ws ≡ false → is_among t (let_through hs ws) ≡ false
 among_through t hs [] e = refl
 among_through t hs (w ∷ ws) e =
-    let both = neither (w.thread == t) (is_among t ws) e in
+    let both = or_parts (w.thread == t) (is_among t ws) e in
     let rest = among_through t (hs ++ w ∷ []) ws both.1 in
     elim (may_join hs w.thread w.mode) as
     (λ b. is_among t (if b then w ∷ let_through (hs ++ w ∷ []) ws else []) ≡ false) [
@@ -183,10 +183,10 @@ pub give_all-other : (k : Key) (t : ℕ) (gs : List Claim) (held : List (List Ho
     → get_or (give_all k gs held) t [] ≡ get_or held t []
 give_all-other k t [] held e = refl
 give_all-other k t (g ∷ gs) held e =
-    let both = neither (g.thread == t) (is_among t gs) e in
+    let both = or_parts (g.thread == t) (is_among t gs) e in
     give_all-other k t gs (give g.thread k g.mode held) both.1
     ∙ get_or-set_other held g.thread t (get_or held g.thread [] ++ hold_of k g.mode ∷ []) []
-    (apart_threads t g.thread (other_way g.thread t both.0))
+    (eqb-false t g.thread (other_way g.thread t both.0))
 
 pub length-give_all : (k : Key) (gs : List Claim) (held : List (List Hold)) → length (give_all k gs held) ≡ length held
 length-give_all k [] held = refl
@@ -197,8 +197,8 @@ pub set-give_all : (k : Key) (t : ℕ) (x : List Hold) (gs : List Claim) (held :
     → set (give_all k gs held) t x ≡ give_all k gs (set held t x)
 set-give_all k t x [] held e = refl
 set-give_all k t x (g ∷ gs) held e =
-    let both = neither (g.thread == t) (is_among t gs) e in
-    let apart = apart_threads t g.thread (other_way g.thread t both.0) in
+    let both = or_parts (g.thread == t) (is_among t gs) e in
+    let apart = eqb-false t g.thread (other_way g.thread t both.0) in
     let same : get_or (set held t x) g.thread [] ≡ get_or held g.thread [] =
     get_or-set_other held t g.thread x [] (λ q. apart (sym q)) in
     set-give_all k t x gs (give g.thread k g.mode held) both.1

@@ -4,6 +4,7 @@ use Rattle.std.proofs.Common.{Some, None, refl, sym, ◌∙◌, ap, subst, arith
 use Rattle.std.proofs.{lemmas.Bool.{eq-eqb}, lemmas.List.{length-set, set-set, length-map}}
 use Rattle.std.specs.Prelude.{◌==◌, is_some}
 use Rattle.sect_modes.specs.declared.key.Key.{Key}
+use Rattle.sect_modes.proofs.shared.Keys.{key_itself}
 use Rattle.sect_table.specs.{declared.claims.Claim.{Claim}, declared.claims.Hold.{Hold}, declared.claims.Grant.{Grant}}
 use Rattle.sect_table.specs.Contents.{Entry, Contents, Released, number_of, entry_of, put, held_by, mode_in, is_among}
 use Rattle.sect_table.specs.Contents.{is_waiting, first_hold, grant_of, without_holder, let_in, let_through, give_all}
@@ -15,7 +16,7 @@ use Rattle.sect_table.proofs.{Whole.{few_distinct}, Entries.{put_apart}}
 use Rattle.sect_table.proofs.{Sounding.{waiting_count-put, sound_of, release_sound}, Keeping.{held_known}}
 use Rattle.sect_table.proofs.Passing.{length-put, number_of-put, entry-put, among_through, give_all-other}
 use Rattle.sect_table.proofs.Passing.{length-give_all, set-give_all}
-use Rattle.sect_table.proofs.shared.{Shown.{key_itself}, Entries.{entry_key, put-put}}
+use Rattle.sect_table.proofs.shared.Entries.{entry_key, put-put}
 use Rattle.sect_table.proofs.shared.Claiming.{apart_left, mode_in-here, claims_by-drop, missing-claims_by}
 use Rattle.sect_table.proofs.shared.Sounding.{put_all, waits_of-put, waits_at-le, waits_for_none}
 

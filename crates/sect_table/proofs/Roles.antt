@@ -1,7 +1,7 @@
 -- Where the nodes of an arena stand.
-use Rattle.std.proofs.Common.{◌≡◌, ◌≢◌, inl, inr, ℕ, zero, suc, ◌+◌, ◌<◌, List, [], ◌∷◌, length, get_or, set, Bool}
+use Rattle.std.proofs.Common.{◌≡◌, ◌≢◌, inl, inr, ℕ, zero, suc, ◌+◌, ◌<◌, List, [], ◌∷◌, length, get_or, set}
 use Rattle.std.proofs.Common.{true, false, None, Some, refl, sym, ◌∙◌, ap, subst, arith, get_or-set_same}
-use Rattle.std.proofs.{Common.{get_or-set_other}, lemmas.Bool.{cases_eq, eq-eqb}}
+use Rattle.std.proofs.{Common.{get_or-set_other}, lemmas.Bool.{cases_eq, eq-eqb, or_right}}
 use Rattle.std.specs.{Prelude.{◌==◌, ◌||◌, is_some}, List.{list_any}}
 use Rattle.sect_modes.specs.declared.key.Key.{Key}
 use Rattle.sect_table.specs.{declared.claims.Claim.{Claim}, declared.claims.Grant.{Grant}, declared.claims.Hold.{Hold}}
@@ -155,10 +155,6 @@ free_role nodes keys threads q c x a lt label = elim (a.roles x lt) [
 ]
 
 -- a thread among claims
-or_true : (b : Bool) → (b || true) ≡ true
-or_true true = refl
-or_true false = refl
-
 pub thread_found : (nodes : List Grant) (t x : ℕ) (xs : List ℕ) → Among x xs → (node_at nodes x).thread ≡ t
     → is_among t (claims nodes xs) ≡ true
 thread_found nodes t x [] h is = absurd h
@@ -167,7 +163,7 @@ thread_found nodes t x (y ∷ ys) (inl h) is =
     (eq-eqb (node_at nodes y).thread t (ap (λ z. (node_at nodes z).thread) h ∙ is))
 thread_found nodes t x (y ∷ ys) (inr h) is =
     ap (λ b. ((node_at nodes y).thread == t) || b) (thread_found nodes t x ys h is)
-    ∙ or_true ((node_at nodes y).thread == t)
+    ∙ or_right ((node_at nodes y).thread == t) true refl
 
 pub thread_missing : (nodes : List Grant) (t : ℕ) (xs : List ℕ) → Each (λ i. (node_at nodes i).thread ≢ t) xs
     → is_among t (claims nodes xs) ≡ false
@@ -184,7 +180,7 @@ waits_at t queue k (x ∷ xs) zero j lt is h =
     (subst (λ z. is_among t (queue (z + z + 2)) ≡ true) same h)
 waits_at t queue k (x ∷ xs) (suc i) j lt is h =
     ap (λ b. is_among t (queue (k + k + 2)) || b) (waits_at t queue (suc k) xs i j (omega arith) (omega arith) h)
-    ∙ or_true (is_among t (queue (k + k + 2)))
+    ∙ or_right (is_among t (queue (k + k + 2))) true refl
 
 waits_nowhere : (t : ℕ) (queue : ℕ → List Claim) (k : ℕ) (keys : List Key)
     → ((j : ℕ) → j < k + length keys → is_among t (queue (j + j + 2)) ≡ false)

@@ -4,13 +4,14 @@ use Rattle.std.proofs.Common.{true, false, Option, Some, None, refl, sym, ◌∙
 use Rattle.std.proofs.lemmas.Bool.{cases_Bool}
 use Rattle.std.specs.{Prelude.{if◌then◌else◌, IsSome}, Option.{option_map}}
 use Rattle.sect_modes.specs.{declared.key.Key.{Key}, Key.{is_same_key}}
+use Rattle.sect_modes.proofs.shared.Keys.{same_key}
 use Rattle.sect_table.specs.{declared.claims.Hold.{Hold}, declared.claims.Claim.{Claim}, declared.claims.Grant.{Grant}}
 use Rattle.sect_table.specs.Contents.{Entry, Contents, number_of, entry_of, put, first_of, first_hold, claim_of}
 use Rattle.sect_table.specs.Contents.{hold_of}
 use Rattle.sect_table.specs.steps.{Keys.{place_in}, Links.{Shape, head_or}}
 use Rattle.sect_table.specs.steps.Arena.{node_at, claims, holds_at, queue_at, chain_at, entry_at, entries_from}
 use Rattle.sect_table.specs.steps.Arena.{held_from, shown, IsArena}
-use Rattle.sect_table.proofs.shared.Shown.{same_key, entry_of-here, entry_of-later}
+use Rattle.sect_table.proofs.shared.Shown.{entry_of-here, entry_of-later}
 
 -- places of keys
 pub place-here : (k x : Key) (xs : List Key) → is_same_key k x ≡ true → place_in k (x ∷ xs) ≡ 0

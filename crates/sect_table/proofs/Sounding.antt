@@ -1,16 +1,17 @@
 -- What each step of a call keeps.
-use Rattle.std.proofs.Common.{◌≡◌, ◌≢◌, inl, inr, ℕ, ◌+◌, ◌<◌, ◌≤◌, List, [], ◌∷◌, ◌++◌, length, drop, get_or, set}
+use Rattle.std.proofs.Common.{◌≡◌, inl, inr, ℕ, ◌+◌, ◌<◌, ◌≤◌, List, [], ◌∷◌, ◌++◌, length, drop, get_or, set}
 use Rattle.std.proofs.Common.{true, false, None, refl, sym, ◌∙◌, ap, subst, arith, append_assoc, get_or-set_same}
-use Rattle.std.proofs.{Common.{get_or-set_other}, lemmas.Bool.{eqb-true, eq-eqb, cases_Bool}}
+use Rattle.std.proofs.{Common.{get_or-set_other}, lemmas.Bool.{eqb-true, eq-eqb, cases_Bool, eqb-false}}
 use Rattle.std.proofs.lemmas.List.{length-set, append-nil}
 use Rattle.std.specs.Prelude.{◌==◌, if◌then◌else◌}
 use Rattle.sect_modes.specs.{declared.mode.Mode.{Mode}, declared.key.Key.{Key}, Key.{is_same_key}}
+use Rattle.sect_modes.proofs.shared.Keys.{same_key, key_itself}
 use Rattle.sect_table.specs.{declared.claims.Claim.{Claim}, declared.claims.Hold.{Hold}}
 use Rattle.sect_table.specs.Contents.{Entry, Contents, entry_of, put, is_among, mode_in, mode_for, may_join, stay, give}
 use Rattle.sect_table.specs.Contents.{hold_of, claim_of, with_holder, with_waiter, with_grant, without_holder, AreApart}
 use Rattle.sect_table.specs.Sound.{AreTogether, AreKeysApart, claims_by, waits_of, waiting_count, AreThreadsBelow}
 use Rattle.sect_table.specs.Sound.{AreWaitersBelow, IsSound}
-use Rattle.sect_table.proofs.shared.Shown.{same_key, key_itself, entry_of-here, entry_of-later}
+use Rattle.sect_table.proofs.shared.Shown.{entry_of-here, entry_of-later}
 use Rattle.sect_table.proofs.shared.Entries.{entry_key, entry_of-put, entry_of-put_other, put-put}
 use Rattle.sect_table.proofs.shared.Claiming.{true_or_false, among-append, apart_swap, apart_stay, mode_for-missing}
 use Rattle.sect_table.proofs.shared.Claiming.{mode_for-push, mode_for-push_other, mode_for-stay_other, missing_stay}
@@ -69,9 +70,6 @@ sound_of c c' h e s = record {
       (subst (λ hs. AreWaitersBelow (length hs) c.entries) (sym h) s.threads);
 }
 
-pub apart_threads : (t u : ℕ) → (t == u) ≡ false → t ≢ u
-apart_threads t u ne same = true_or_false (t == u) (eq-eqb t u same) ne
-
 pub other_way : (t u : ℕ) → (t == u) ≡ false → (u == t) ≡ false
 other_way t u ne = grind (arith, ne)
 
@@ -114,7 +112,7 @@ holder_sound held entries spare spare' t m k s lt none joins =
         | inl same ↦ subst (λ z. AreKeysApart (get_or (give t k m held) z [])) (sym (eqb-true u t same))
             (subst AreKeysApart (sym here) (keys_push (get_or held t []) (hold_of k m) (s.keys t) no_mode))
         | inr other ↦ subst AreKeysApart
-            (sym (get_or-set_other held t u (get_or held t [] ++ hold_of k m ∷ []) [] (apart_threads u t other)))
+            (sym (get_or-set_other held t u (get_or held t [] ++ hold_of k m ∷ []) [] (eqb-false u t other)))
             (s.keys u)
       ];
       once = λ u. (let sum = waits_of-put u e' entries in
@@ -136,7 +134,7 @@ holder_sound held entries spare spare' t m k s lt none joins =
           (ap (mode_in k) here ∙ (mode_in-push k (get_or held t []) (hold_of k m) no_mode (key_itself k)
           ∙ sym (mode_for-push t e.holders (claim_of t m) off (eq-eqb t t refl))))
       | inr other ↦ ap (mode_in k) (get_or-set_other held t u (get_or held t [] ++ hold_of k m ∷ []) []
-          (apart_threads u t other)) ∙ (was
+          (eqb-false u t other)) ∙ (was
           ∙ sym (mode_for-push_other u e.holders (claim_of t m) (other_way u t other)))
     ]
 
@@ -153,7 +151,7 @@ holder_sound held entries spare spare' t m k s lt none joins =
           ∙ (ap (mode_in j) here ∙ (mode_in-push_other j (get_or held t []) (hold_of k m) apart
           ∙ (ap (λ z. mode_in j (get_or held z [])) (sym (eqb-true u t same)) ∙ was)))
       | inr other ↦ ap (mode_in j) (get_or-set_other held t u (get_or held t [] ++ hold_of k m ∷ []) []
-          (apart_threads u t other)) ∙ was
+          (eqb-false u t other)) ∙ was
     ]
 
 -- the waiters of a key change, to no more than they were and one
@@ -297,7 +295,7 @@ release_sound held entries spare spare' t h rest s lt is =
       keys = λ u. elim (cases_Bool (u == t)) [
         | inl same ↦ subst (λ z. AreKeysApart (get_or (set held t rest) z [])) (sym (eqb-true u t same))
             (subst AreKeysApart (sym here) keys.1)
-        | inr other ↦ subst AreKeysApart (sym (get_or-set_other held t u rest [] (apart_threads u t other))) (s.keys u)
+        | inr other ↦ subst AreKeysApart (sym (get_or-set_other held t u rest [] (eqb-false u t other))) (s.keys u)
       ];
       once = λ u. (let sum = waits_of-put u e' entries in
           let same : claims_by u (entry_of e'.key entries).waiters ≡ claims_by u e.waiters =
@@ -317,7 +315,7 @@ release_sound held entries spare spare' t h rest s lt is =
           (ap (mode_in h.key) here ∙ (none
           ∙ sym (mode_for-missing t (stay t (entry_of h.key entries).holders)
           (missing_stay t (entry_of h.key entries).holders))))
-      | inr other ↦ ap (mode_in h.key) (get_or-set_other held t u rest [] (apart_threads u t other))
+      | inr other ↦ ap (mode_in h.key) (get_or-set_other held t u rest [] (eqb-false u t other))
           ∙ (was ∙ sym (mode_for-stay_other u t (entry_of h.key entries).holders other))
     ]
 
@@ -334,5 +332,5 @@ release_sound held entries spare spare' t h rest s lt is =
           ap (λ z. mode_in j (get_or (set held t rest) z [])) (eqb-true u t same)
           ∙ (ap (mode_in j) here ∙ (sym (mode_in-later j h rest apart)
           ∙ (sym (ap (mode_in j) is) ∙ (ap (λ z. mode_in j (get_or held z [])) (sym (eqb-true u t same)) ∙ was))))
-      | inr other ↦ ap (mode_in j) (get_or-set_other held t u rest [] (apart_threads u t other)) ∙ was
+      | inr other ↦ ap (mode_in j) (get_or-set_other held t u rest [] (eqb-false u t other)) ∙ was
     ]

@@ -11,8 +11,8 @@ use Rattle.sect_types.specs.Sight.{Sight, names_of_records, place, base_of, oper
 use Rattle.sect_types.specs.Numbered.{base_by, value_by, local_by, target_of, source_of, field_behind, value_of}
 use Rattle.sect_types.specs.{Numbered.{action_of, condition_of}, Environments.{environment, type_of}}
 use Rattle.sect_types.specs.steps.Below.{IsValueBelow, IsBaseBelow, IsActionBelow, IsConditionBelow}
-use Rattle.sect_lemmas.proofs.Options.{some_injective, none_or_some}
-use Rattle.sect_types.proofs.Optional.{both_parts, three_parts, map_part}
+use Rattle.sect_lemmas.proofs.Options.{some_injective, none_or_some, map_part}
+use Rattle.sect_types.proofs.Optional.{both_parts, three_parts}
 use Rattle.sect_types.proofs.SoundLemmas.{IsThere, IsGiven, base_there, operand_there}
 use Rattle.sect_front.specs.declared.tree.Primitive as leaf
 use Rattle.sect_front.specs.declared.tree.Primitive.TheVariants as primitive

@@ -19,8 +19,8 @@ use Rattle.sect_types.specs.Expanded.{texts_of}
 use Rattle.sect_types.specs.steps.Written.{Writer, action_in, condition_in, argument_in, written_action}
 use Rattle.sect_types.specs.steps.Written.{written_statement, written_block, write_locals, write_parameters}
 use Rattle.sect_types.specs.steps.Written.{written_call, written_within, written_thread, written_threads, written_texts}
-use Rattle.sect_types.proofs.Optional.{both_parts, three_parts, map_part}
-use Rattle.sect_lemmas.proofs.Options.{some_injective, none_or_some}
+use Rattle.sect_types.proofs.Optional.{both_parts, three_parts}
+use Rattle.sect_lemmas.proofs.Options.{some_injective, none_or_some, map_part}
 use Rattle.sect_types.proofs.shared.Joining.{joined_again}
 use Rattle.sect_front.specs.declared.tree.Primitive as leaf
 use Rattle.sect_types.specs.declared.expansion.action.Action.TheVariants as action

@@ -2,11 +2,11 @@
 use Rattle.std.specs.Prelude.{◌||◌, ◌-◌, ◌<◌, Bool, true, false, is_some, nat_eq, eqb, ◌≤◌}
 use Rattle.std.specs.List.{list_any, AllByRecursion, IsDistinct}
 use Rattle.std.proofs.Common.{◌≡◌, inl, inr, ℕ, zero, suc, ◌+◌, List, [], ◌∷◌, Option, Some, None, refl, arith, subst}
-use Rattle.std.proofs.{Common.{length, slice_get, sym}, lemmas.Bool.{eqb-true, eqb-false, or_cases, cases_Bool}}
+use Rattle.std.proofs.Common.{length, slice_get, sym}
 use Rattle.std.proofs.{lemmas.Option.{slice_get_within}, lemmas.Map.Steps.{length-le_from_distinct_below}}
+use Rattle.std.proofs.lemmas.Bool.{or_left, or_right, or_parts, eqb-true, eqb-false, or_cases, cases_Bool}
 use Rattle.sect_front.specs.declared.tree.Procedure.{Procedure}
 use Rattle.sect_types.specs.Sums.{calls_in, sums, sums_at, sums_within}
-use Rattle.sect_lemmas.proofs.Booleans.{neither, or_left, or_right}
 use Rattle.sect_types.specs.steps.Search.{reaches, returns}
 use Rattle.sect_types.proofs.FuelLaws.{chain, one_more}
 
@@ -93,7 +93,7 @@ there ps q (Some p) e h = slice_get_within ps q p e
 
 pub none_equal : (q : ℕ) (xs : List ℕ) → list_any (eqb q) xs ≡ false → AllByRecursion (λ y. eqb q y ≡ false) xs
 none_equal q [] h = tt
-none_equal q (x ∷ xs) h = (let s = neither (eqb q x) (list_any (eqb q) xs) h in (s.0, none_equal q xs s.1))
+none_equal q (x ∷ xs) h = (let s = or_parts (eqb q x) (list_any (eqb q) xs) h in (s.0, none_equal q xs s.1))
 
 -- those that have been passed differ, are procedures, and reach q
 pub record IsWay (ps : List Procedure) (xs : List ℕ) (q : ℕ) : Type 0 where

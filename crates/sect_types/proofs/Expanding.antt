@@ -1,30 +1,12 @@
 -- A block of which the first statements have been expanded.
-use Rattle.std.proofs.Common.{◌≡◌, ℕ, ◌+◌, ◌<◌, List, [], ◌∷◌, drop, get_or, length, refl, sym, ap, ◌∙◌, append-nil}
+use Rattle.std.proofs.Common.{◌≡◌, ℕ, ◌+◌, sym, ap, ◌∙◌, append-nil}
 use Rattle.std.proofs.Common.{arith, Result, Ok, Err, OnOk}
-use Rattle.sect_types.specs.{declared.expansion.text.Step.{Step}, Texts.{step_then}, Sight.{operand_of}}
-use Rattle.sect_types.specs.{Statements.{TextView, Stop, Do, joined}, Expanded.{Scene, cleared}}
-use Rattle.sect_front.specs.{Syntax.{StatementView, BlockView, End, Then}, Trees.{statement_of, block_of}}
-use Rattle.sect_front.specs.{declared.tree.Statement.{Statement}, declared.tree.Operand.{Operand}}
-use Rattle.sect_front.specs.declared.tree.Declaration.{Declaration}
-use Rattle.sect_types.specs.steps.Written.{argument_in, write_parameters, write_locals}
+use Rattle.sect_types.specs.{declared.expansion.text.Step.{Step}, Texts.{step_then}}
+use Rattle.sect_types.specs.{Statements.{TextView, Stop, joined}, Expanded.{Scene}}
+use Rattle.sect_front.specs.Syntax.{StatementView, BlockView, End}
 use Rattle.sect_types.specs.steps.Expanding.{SettingView, FrontView, front_past_block, expanded_there, block_there}
-use Rattle.sect_lemmas.proofs.Elements.{drop_next}
 use Rattle.sect_types.proofs.Filling.{joined_step}
 use Rattle.sect_types.proofs.shared.Joining.{joined_stop}
-use Rattle.sect_types.specs.declared.expansion.action.Action.TheVariants as action
-use Rattle.sect_types.specs.declared.expansion.action.Value.TheVariants as value
-
-set_on : (v : Scene) (x : ℕ) (ds : List Declaration) (us : List Operand) (b k : TextView)
-    → write_parameters v x ds us (joined b k) ≡ joined (write_parameters v x ds us b) k
-set_on v x [] us b k = refl
-set_on v x (d ∷ ds) [] b k = ap (Do (action.Assign x value.Null)) (set_on v (x + 1) ds [] b k)
-set_on v x (d ∷ ds) (u ∷ us) b k =
-    ap (Do (action.Assign x (argument_in v.first (operand_of v.sight u)))) (set_on v (x + 1) ds us b k)
-
-clear_on : (x : ℕ) (ds : List Declaration) (b k : TextView)
-    → write_locals x ds (joined b k) ≡ joined (write_locals x ds b) k
-clear_on x [] b k = refl
-clear_on x (d ∷ ds) b k = ap (Do (action.Assign x (cleared d.kind))) (clear_on (x + 1) ds b k)
 
 -- the statements `rest` of `all` are left
 pub record AreExpanded (w : SettingView) (n : ℕ) (v : Scene) (block all rest : BlockView) (old now : FrontView)
@@ -33,10 +15,6 @@ pub record AreExpanded (w : SettingView) (n : ℕ) (v : Scene) (block all rest :
   pub text : (k : TextView)
       → joined out (joined (block_there w n v now rest) k) ≡ joined start (joined (block_there w n v old block) k)
   pub front : front_past_block w n now rest ≡ front_past_block w n old block
-
-next_of : (ss : List Statement) (i : ℕ) (x : Statement) → i < length ss → x ≡ get_or ss i x
-    → block_of (drop i ss) ≡ Then (statement_of x) (block_of (drop (i + 1) ss))
-next_of ss i x h e = ap block_of (drop_next ss i x h e)
 
 past_end : (w : SettingView) (n : ℕ) (f : FrontView) → front_past_block w n f End ≡ f
 past_end w n f =

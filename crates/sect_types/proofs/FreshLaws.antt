@@ -1,7 +1,7 @@
 -- The same of the fresh locals: more fuel than there are procedures changes none.
 use Rattle.std.specs.{Prelude.{Bool, true, false, is_some}, List.{list_any}}
 use Rattle.std.proofs.Common.{◌≡◌, ℕ, zero, suc, ◌+◌, List, [], ◌++◌, Option, Some, None, refl, ◌∙◌, ap, arith, inl}
-use Rattle.std.proofs.{Common.{inr, length}, lemmas.Bool.{cases_Bool}}
+use Rattle.std.proofs.{Common.{inr, length}, lemmas.Bool.{cases_Bool, or_parts}}
 use Rattle.sect_front.specs.Syntax.{StatementView, Primitive, If, IfElse, While, Atomic, Call, BlockView, End, Then}
 use Rattle.sect_front.specs.declared.tree.Procedure.{Procedure}
 use Rattle.sect_types.specs.{Items.{variables}, declared.counting.sums.Sums.{Sums}}
@@ -11,7 +11,6 @@ use Rattle.sect_types.specs.Expanded.{Freshens, of_call, statement_fresh, block_
 use Rattle.sect_types.specs.Expanded.{procedure_numbered}
 use Rattle.sect_types.proofs.FuelLaws.{Agree, same_statement, same_block, chain, one_more}
 use Rattle.sect_types.proofs.EnoughLaws.{IsAcyclic, ends, no_way}
-use Rattle.sect_lemmas.proofs.Booleans.{neither}
 
 abbrev SameAt : Freshens → Freshens → Option ℕ → Type 0
 SameAt f g q = (c : ℕ) → f q c ≡ g q c
@@ -24,7 +23,7 @@ record AreSame (test : ℕ → Bool) (f g : Freshens) : Type 0 where
 call_fresh : (test : ℕ → Bool) (f g : Freshens) → AreSame test f g → (q : Option ℕ) (w : List ℕ)
     → list_any test (prepend q w) ≡ false → SameAt f g q
 call_fresh test f g h None w e = h.none
-call_fresh test f g h (Some r) w e = h.some r (neither (test r) (list_any test w) e).0
+call_fresh test f g h (Some r) w e = h.some r (or_parts (test r) (list_any test w) e).0
 
 mutual
   same_statement_fresh : (test : ℕ → Bool) (ps : List Procedure) (t u : List Sums) (f g : Freshens) → Agree test t u

@@ -20,7 +20,7 @@ use Rattle.sect_types.specs.steps.Expanding.{numbered_there, numbered_block, exp
 use Rattle.sect_types.specs.steps.{Expanding.{most_size, tree_of, AreFlat}, Expansion.{Appends, view_of}}
 use Rattle.sect_types.specs.steps.Threads.{VariablesView, variables_shown}
 use Rattle.std.specs.{Prelude.{IsSome}, Option.{option_map}}
-use Rattle.sect_types.proofs.Optional.{first_there, second_there}
+use Rattle.sect_types.proofs.{Optional.{first_there, second_there}, Passing.{next_of}}
 use Rattle.sect_types.proofs.Writing.{called, statement_follows, call_by_parts, alone, either_written}
 use Rattle.sect_lemmas.proofs.Elements.{drop_next}
 
@@ -50,10 +50,6 @@ starts w n v block all f text e k = record {
   past = ap (front_past_block w n f) e;
   known = subst (λ b. IsSome (numbered_block w n v f b)) (sym e) k;
 }
-
-next_of : (ss : List Statement) (i : ℕ) (x : Statement) → i < length ss → x ≡ get_or ss i x
-    → block_of (drop i ss) ≡ Then (statement_of x) (block_of (drop (i + 1) ss))
-next_of ss i x h e = ap block_of (drop_next ss i x h e)
 
 part_fits : (w : SettingView) (n : ℕ) (f : FrontView) (s : StatementView) (b : BlockView)
     → Fits (front_past_block w n f (Then s b)) → Fits (front_past_statement w n f s)

@@ -1,6 +1,7 @@
 -- Where calls stand in one another less than n deep, more than n says no more.
 use Rattle.std.specs.{Prelude.{Bool, true, false, is_some}, List.{list_any}}
 use Rattle.std.proofs.Common.{◌≡◌, ℕ, zero, suc, ◌+◌, List, [], Option, Some, None, refl, sym, ◌∙◌, ap, length}
+use Rattle.std.proofs.lemmas.Bool.{or_parts}
 use Rattle.sect_front.specs.Syntax.{StatementView, Primitive, If, IfElse, While, Atomic, Call, BlockView, End, Then}
 use Rattle.sect_front.specs.declared.tree.Procedure.{Procedure}
 use Rattle.sect_types.specs.declared.counting.sums.Sums.{Sums}
@@ -8,7 +9,6 @@ use Rattle.sect_types.specs.Sums.{nothing, both, around, call_sums, sums_at, num
 use Rattle.sect_types.specs.Sums.{sums_within, prepend, statement_calls, block_calls, calls_in, sums_of}
 use Rattle.sect_types.specs.Expanded.{procedure_numbered}
 use Rattle.sect_types.proofs.CountLaws.{looked}
-use Rattle.sect_lemmas.proofs.Booleans.{neither}
 
 -- so many calls in a row from q
 abbrev pub chain : ℕ → List Procedure → Option ℕ → Bool
@@ -24,7 +24,7 @@ same_call : (test : ℕ → Bool) (t u : List Sums) → Agree test t u → (q : 
     (sums_at t q ≡ sums_at u q) × (list_any test w ≡ false)
 same_call test t u h None w e = (refl, e)
 same_call test t u h (Some r) w e =
-    (h r (neither (test r) (list_any test w) e).0, (neither (test r) (list_any test w) e).1)
+    (h r (or_parts (test r) (list_any test w) e).0, (or_parts (test r) (list_any test w) e).1)
 
 mutual
   pub same_statement : (test : ℕ → Bool) (ps : List Procedure) (t u : List Sums) → Agree test t u

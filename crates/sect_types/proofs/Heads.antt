@@ -1,7 +1,6 @@
 -- What resolving a statement says of the rules.
-use Rattle.std.proofs.Common.{◌≡◌, ℕ, suc, ◌+◌, nat_eq, Bool, true, false, not, ◌&&◌, ◌||◌, List, [], ◌∷◌, Option, Some}
-use Rattle.std.proofs.Common.{None, is_some, if◌then◌else◌, refl, ap, sym, ◌∙◌, cond, nat_lt, length, arith}
-use Rattle.std.proofs.lemmas.Bool.Decides.{nat_tests}
+use Rattle.std.proofs.Common.{◌≡◌, ℕ, ◌+◌, nat_eq, Bool, true, false, not, ◌&&◌, ◌||◌, List, [], ◌∷◌, Option, Some}
+use Rattle.std.proofs.Common.{None, is_some, if◌then◌else◌, refl, ap, sym, ◌∙◌, cond, nat_lt, length}
 use Rattle.std.specs.{Cmp.Lexicographic.{pointwise}, List.{list_any, prefix_len}, Prelude.{nat_le}}
 use Rattle.sect_front.specs.{declared.tree.Test.{Test}, declared.tree.Operator.{Operator}}
 use Rattle.sect_front.specs.{declared.tree.Comparison.{Comparison}, declared.tree.Procedure.{Procedure}}
@@ -19,6 +18,7 @@ use Rattle.sect_types.specs.Rules.{local_accepts, local_is, local_gets, field_ac
 use Rattle.sect_types.specs.Rules.{by_place, after_item, after_primitive, passes_limit, after}
 use Rattle.sect_types.proofs.Typing.{well_typed, well_typed_test, assign_of, compute_of, new_of, load_of, store_of}
 use Rattle.sect_types.proofs.Typing.{print_of, compared_of, primitive_of, test_of}
+use Rattle.sect_types.proofs.Numbering.{lifts, starts}
 use Rattle.sect_types.specs.steps.{Spots.{full_for}, Standing.{declared_by}, Judging.{rule_of, judge, fault_or, Faulty}}
 use Rattle.sect_types.specs.steps.Walks.{rule_in, of_types, then_rest}
 use Rattle.sect_front.specs.declared.tree.Primitive as leaf
@@ -91,12 +91,6 @@ condition_law None c w = refl
 shown : (b : Bool) (n : ℕ) → is_some (cond b (Some n) None) ≡ b
 shown true n = refl
 shown false n = refl
-
-lifts : (m n k : ℕ) → k ≡ suc n → nat_lt (1 + m) k ≡ nat_lt m n
-lifts m n k e = grind (arith, nat_tests)
-
-starts : (n k : ℕ) → k ≡ suc n → nat_lt 0 k ≡ true
-starts n k e = grind (arith, nat_tests)
 
 first_place : (p : List ℕ → Bool) (xs : List (List ℕ))
     → nat_lt (prefix_len (λ x. not (p x)) xs) (length xs) ≡ list_any p xs

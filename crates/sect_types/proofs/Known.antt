@@ -2,14 +2,11 @@
 use Rattle.std.proofs.Common.{◌≡◌, ℕ, ◌+◌, Bool, true, false, ◌||◌, List, [], ◌∷◌, ◌++◌, take, nat_eq, if◌then◌else◌}
 use Rattle.std.proofs.{Common.{refl, sym, ap, ◌∙◌}, lemmas.List.{map-append}, lemmas.List.Folds.{list_any-append}}
 use Rattle.std.specs.Cmp.Lexicographic.{pointwise}
+use Rattle.sect_lemmas.proofs.Booleans.{or_false}
 use Rattle.sect_front.specs.declared.tree.Record.{Record}
 use Rattle.sect_types.specs.Sight.{has_name, added, same_name, names_of_records}
 use Rattle.sect_types.specs.steps.Listing.{Knows}
 use Rattle.sect_types.proofs.shared.SoundLemmas.{same_names}
-
-or_false : (b : Bool) → (b || false) ≡ b
-or_false true = refl
-or_false false = refl
 
 has_last : (x n : List ℕ) (ks : List (List ℕ)) → has_name x (ks ++ n ∷ []) ≡ (has_name x ks || same_name x n)
 has_last x n ks = list_any-append (pointwise nat_eq x) ks (n ∷ [])

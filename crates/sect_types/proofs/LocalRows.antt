@@ -4,25 +4,12 @@ use Rattle.std.proofs.{Common.{ap, ◌∙◌, subst, length, get_or, arith}, lem
 use Rattle.std.proofs.lemmas.List.{get_or-map, get_or_past, length-map, length-append}
 use Rattle.std.proofs.lemmas.Option.{slice_get-map, slice_get-get_or}
 use Rattle.std.specs.{Prelude.{slice_get, slice_index_or}, Option.{option_map}}
+use Rattle.sect_lemmas.proofs.Elements.{slice_get-left, slice_get-right}
 use Rattle.sect_front.specs.{TreeView.{TreeView}, declared.tree.Thread.{Thread}}
 use Rattle.sect_front.specs.declared.tree.Declaration.{Declaration}
 use Rattle.sect_types.specs.{declared.expansion.expand.Fresh.{Fresh}, Expanded.{fresh_in}}
 use Rattle.sect_types.specs.{LocalNames.{local_names_of, all_local_names}, Programs.{ProgramView, IsOfTree}}
 use Rattle.sect_types.proofs.shared.LocalRows.{own_name, fresh_name, as_many_names}
-
--- what stands in the first of two lists
-left : {A : Type 0} (xs ys : List A) (j : ℕ) (x : A) → slice_get xs j ≡ Some x → slice_get (xs ++ ys) j ≡ Some x
-left [] ys j x e = absurd cc
-left (y ∷ xs) ys zero x e = e
-left (y ∷ xs) ys (suc j) x e = left xs ys j x e
-
--- what stands in the second of two lists
-right : {A : Type 0} (xs ys : List A) (j : ℕ) (x : A) → slice_get ys j ≡ Some x
-    → slice_get (xs ++ ys) (length xs + j) ≡ Some x
-right [] ys j x e = let z : j ≡ 0 + j = omega arith in subst (λ k. slice_get ys k ≡ Some x) z e
-right (y ∷ xs) ys j x e =
-    let z : suc (length xs + j) ≡ length (y ∷ xs) + j = omega arith in
-    subst (λ k. slice_get (y ∷ (xs ++ ys)) k ≡ Some x) z (right xs ys j x e)
 
 -- what stands in two lists stands in one of them
 pub which : {A : Type 0} (xs ys : List A) (i : ℕ) (x : A) → slice_get (xs ++ ys) i ≡ Some x
@@ -70,7 +57,7 @@ pub own_here : (t : TreeView) (u n : ℕ) (th : Thread) (d : Declaration)
     → d ≡ get_or th.locals n d → slice_get (slice_index_or (all_local_names t) u []) n ≡ Some (own_name d)
 own_here t u n th d few is own at =
     ap (λ l. slice_get l n) (row_is t u th (thread_there t u n few) is)
-    ∙ left (map own_name th.locals) (map fresh_name (fresh_in t th)) n (own_name d)
+    ∙ slice_get-left (map own_name th.locals) (map fresh_name (fresh_in t th)) n (own_name d)
     (there own_name th.locals n d own at)
 
 -- so has a local of a call, after those
@@ -95,7 +82,7 @@ fresh_after t u n th f few is past at =
     let number : length owns + place ≡ n = omega (arith, past, length-map th.locals own_name) in
     ap (λ l. slice_get l n) row
     ∙ subst (λ k. slice_get (owns ++ map fresh_name fs) k ≡ Some (fresh_name f)) number
-    (right owns (map fresh_name fs) place (fresh_name f) (there fresh_name fs place f within at))
+    (slice_get-right owns (map fresh_name fs) place (fresh_name f) (there fresh_name fs place f within at))
 
 -- where these are the fresh locals of all threads
 pub fresh_here : (t : TreeView) (u n : ℕ) (th : Thread) (all : List (List Fresh)) (fs : List Fresh) (f : Fresh)

@@ -1,7 +1,7 @@
 -- Procedures that are marked one after another.
 use Rattle.std.proofs.Common.{◌≡◌, ◌≢◌, ◌⊎◌, inl, inr, ℕ, zero, suc, ◌+◌, ◌<◌, ◌≤◌, Bool, true, false, List, [], ◌∷◌}
 use Rattle.std.proofs.Common.{◌++◌, Option, Some, None, length, take, get_or, refl, sym, ap, subst, ◌∙◌, arith}
-use Rattle.std.proofs.{Common.{length-append, slice_get}, lemmas.Bool.{eqb-true, or_cases}}
+use Rattle.std.proofs.{Common.{length-append, slice_get}, lemmas.Bool.{eqb-true, or_cases, or_left, or_right, cases_eq}}
 use Rattle.std.proofs.{lemmas.List.{take_more, take_all, length-replicate}, lemmas.List.Folds.{list_any-append}}
 use Rattle.std.proofs.lemmas.Option.{slice_get_within}
 use Rattle.std.specs.{Prelude.{eqb, nat_eq, replicate, slice_index_or}, List.{list_any}}
@@ -10,9 +10,8 @@ use Rattle.sect_lemmas.specs.Lists.{put_at}
 use Rattle.sect_types.specs.steps.Called.{IsAmong, Calls, IsMarked, marks, AreMarked, AreFound, Grows, AreClosed, Marks}
 use Rattle.sect_types.specs.steps.{Called.{AreCallersBefore, callers_of}, Standing.{AreReturning}}
 use Rattle.sect_types.specs.steps.Search.{returns, reaches}
-use Rattle.sect_lemmas.proofs.{Options.{some_injective}, Elements.{is_there}}
-use Rattle.sect_lemmas.proofs.Replaced.{put_same, put_other, length-put_at, at-put_at, this_or_other}
-use Rattle.sect_lemmas.proofs.Booleans.{or_left, or_right}
+use Rattle.sect_lemmas.proofs.{Options.{some_injective}, Elements.{is_there}, Changed.{get_there}}
+use Rattle.sect_lemmas.proofs.Replaced.{put_same, put_other, length-put_at, at-put_at}
 use Rattle.sect_types.proofs.{EnoughLaws.{same, there, calls_there}, ReachLaws.{returns_caller, closed_returns}}
 
 -- one mark more
@@ -50,7 +49,7 @@ kept_at (x ∷ xs) n zero q e = e
 kept_at (x ∷ xs) n (suc i) q e = kept_at xs n i q e
 
 stays_put : (n q : ℕ) (bs : List Bool) → slice_get bs n ≡ Some false → IsMarked bs q → IsMarked (put_at n true bs) q
-stays_put n q bs off e = elim (this_or_other n q) [
+stays_put n q bs off e = elim (cases_eq n q) [
   | inl same ↦ absurd (let both : Some false ≡ Some true = sym off ∙ ap (slice_get bs) same ∙ e in cc)
   | inr other ↦ put_other n q true bs other ∙ e
 ]
@@ -184,7 +183,7 @@ pub gone_through : (ps : List Procedure) (p n q : ℕ) (m : List Bool) (f : List
     → ((c : ℕ) → Calls ps c q → IsMarked k c) → AreClosed ps p k g (n + 1)
 gone_through ps p n q m f k g at right closed grows callers = record {
   start = grows.stays p closed.start;
-  callers = λ i r c lt is calls. elim (this_or_other n i) [
+  callers = λ i r c lt is calls. elim (cases_eq n i) [
     | inl same ↦ callers c (subst (Calls ps c) (some_injective r q (sym is ∙ ap (slice_get g) (sym same)
         ∙ grows.keeps n q at)) calls)
     | inr other ↦ grows.stays c (closed.callers i r c (omega (arith, lt, apart i other))
@@ -284,12 +283,6 @@ read_false [] n b lt at e = absurd (omega (arith, lt))
 read_false (x ∷ m) zero b lt at e = ap Some (sym at ∙ e)
 read_false (x ∷ m) (suc n) b lt at e = read_false m n b (omega (arith, lt)) at e
 
--- the callers that were read
-pub own_row : (xs : List (List ℕ)) (n : ℕ) (x : List ℕ) → n < length xs → x ≡ get_or xs n x → x ≡ callers_of xs n
-own_row [] n x lt at = absurd (omega (arith, lt))
-own_row (y ∷ xs) zero x lt at = at
-own_row (y ∷ xs) (suc n) x lt at = own_row xs n x (omega (arith, lt)) at
-
 pub read_at : (xs : List ℕ) (i : ℕ) → i < length xs → slice_get xs i ≡ Some (slice_index_or xs i 0)
 read_at [] i lt = absurd (omega (arith, lt))
 read_at (x ∷ xs) zero lt = refl
@@ -319,14 +312,9 @@ all_callers ps callers n cs i m h e le marked c calls =
     marked c (subst (λ x. IsAmong x c) (sym (take_all i cs le)) (subst (λ x. IsAmong x c) (sym e)
     (h.all n c (there ps c (slice_get ps c) refl (calls_there ps (slice_get ps c) n calls)) calls)))
 
-pub read_found : (f : List ℕ) (n q : ℕ) → n < length f → q ≡ get_or f n q → slice_get f n ≡ Some q
-read_found [] n q lt at = absurd (omega (arith, lt))
-read_found (x ∷ f) zero q lt at = ap Some (sym at)
-read_found (x ∷ f) (suc n) q lt at = read_found f n q (omega (arith, lt)) at
-
 -- what was found is there
 pub found_there : (ps : List Procedure) (p n : ℕ) (m : List Bool) (f : List ℕ) (q : ℕ) → n < length f → q ≡ get_or f n q
     → IsSearched ps p n m f → q < length ps
 found_there ps p n m f q lt at so_far =
-    let marked = so_far.right.found_marked q (among_at f n q (read_found f n q lt at)) in
+    let marked = so_far.right.found_marked q (among_at f n q (get_there n q f lt at)) in
     omega (arith, slice_get_within m q true marked, so_far.right.as_many)

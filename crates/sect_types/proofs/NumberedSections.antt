@@ -3,6 +3,7 @@ use Rattle.std.proofs.Common.{◌≡◌, ℕ, zero, suc, ◌+◌, ◌<◌, true,
 use Rattle.std.proofs.Common.{Some, None, slice_get, nat_eq, if◌then◌else◌, refl, sym, ap, ◌∙◌, arith}
 use Rattle.std.proofs.{lemmas.List.{length-map}, lemmas.Option.{slice_get-map}, lemmas.Bool.Decides.{nat_tests}}
 use Rattle.std.specs.Option.{option_or, option_map}
+use Rattle.sect_lemmas.proofs.Elements.{is_there}
 use Rattle.sect_types.specs.Statements.{TextView, Stop, Do, Choose, Loop, Section as TheSection, section_body}
 use Rattle.sect_types.specs.Statements.{section_bodies}
 use Rattle.sect_types.specs.Sections.{SectionView, sections_from, sections_of, AreNumbered, AllNumbered, found_in}
@@ -74,16 +75,11 @@ pub section_of_number : (ps : List TextView) (n : ℕ) → AllNumbered 0 ps
     → section_from n 0 ps ≡ slice_get (sections_of ps) n
 section_of_number ps n h = ap (λ k. section_from k 0 ps) (omega arith) ∙ section_at ps 0 0 n h
 
-not_past : {A : Type 0} (xs : List A) (n : ℕ) → n < length xs → None ≡ slice_get xs n → ⊥
-not_past [] n h e = omega arith
-not_past (x ∷ xs) zero h e = cc
-not_past (x ∷ xs) (suc n) h e = not_past xs n (omega arith) e
-
 -- what a look through all texts gives for a section's number
 pub found : (ps : List TextView) (n : ℕ) (r : Option Section) → AllNumbered 0 ps → section_in r ≡ section_from n 0 ps
     → n < length (sections_of ps)
     → (s : Section) × (r ≡ Some s) × (slice_get (sections_of ps) n ≡ Some (section_shown s))
-found ps n None h e k = absurd (not_past (sections_of ps) n k (e ∙ section_of_number ps n h))
+found ps n None h e k = absurd (is_there (sections_of ps) n k (sym (e ∙ section_of_number ps n h)))
 found ps n (Some s) h e k = (s, refl, sym (e ∙ section_of_number ps n h))
 
 -- the texts from the thread on have what is sought in all

@@ -7,10 +7,12 @@ use Rattle.sect_front.specs.declared.tree.Procedure.{Procedure}
 use Rattle.sect_types.specs.{Sight.{place, same_name}, Sums.{number_of, names_of_procedures}}
 use Rattle.sect_types.proofs.shared.SoundLemmas.{same_names}
 
-lifts : (m n k : ℕ) → k ≡ suc n → nat_lt (1 + m) k ≡ nat_lt m n
+-- a number is below another where it is so with one more each
+pub lifts : (m n k : ℕ) → k ≡ suc n → nat_lt (1 + m) k ≡ nat_lt m n
 lifts m n k e = grind (arith, nat_tests)
 
-starts : (n k : ℕ) → k ≡ suc n → nat_lt 0 k ≡ true
+-- zero is below a number that is one more than another
+pub starts : (n k : ℕ) → k ≡ suc n → nat_lt 0 k ≡ true
 starts n k e = grind (arith, nat_tests)
 
 one_up : (b : Bool) (n : ℕ) → cond b (Some (1 + n)) None ≡ option_map suc (cond b (Some n) None)

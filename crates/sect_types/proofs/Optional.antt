@@ -50,12 +50,6 @@ three_parts f (Some a) (Some b) None x e = absurd (none_or_some x e)
 three_parts f (Some a) None c x e = absurd (none_or_some x e)
 three_parts f None b c x e = absurd (none_or_some x e)
 
--- and of one
-pub map_part : {A B : Type 0} → (f : A → B) (a : Option A) (x : B) → option_map f a ≡ Some x
-    → (y : A) × (a ≡ Some y) × (f y ≡ x)
-map_part f (Some a) x e = (a, refl, some_injective (f a) x e)
-map_part f None x e = absurd (none_or_some x e)
-
 -- where the parts are there, it is there
 pub both_there : {A B C : Type 0} → (f : A → B → C) (a : Option A) (b : Option B) → IsSome a → IsSome b
     → IsSome (of_both f a b)

@@ -20,7 +20,7 @@ pub record IsPassed (d : Declared) (ls : List Declaration) (at : Place) (block a
       → judge d old (block_items ls at block w) ≡ judge d now (block_items ls at rest w)
 
 -- the statement at an index comes first of those that are left
-next_of : (ss : List Statement) (i : ℕ) (x : Statement) → i < length ss → x ≡ get_or ss i x
+pub next_of : (ss : List Statement) (i : ℕ) (x : Statement) → i < length ss → x ≡ get_or ss i x
     → block_of (drop i ss) ≡ Then (statement_of x) (block_of (drop (i + 1) ss))
 next_of ss i x h e = ap block_of (drop_next ss i x h e)
 

@@ -1,7 +1,7 @@
 -- What a place says of what is counted there.
-use Rattle.std.proofs.Common.{◌≡◌, ℕ, zero, suc, [], ◌∷◌, Bool, refl, ap, subst, ◌∙◌, arith, Some, List, map, ◌≤◌, true}
-use Rattle.std.proofs.{Common.{false, ◌&&◌}, lemmas.Bool.Decides.{nat_tests}}
-use Rattle.std.specs.Prelude.{slice_index_or, nat_lt}
+use Rattle.std.proofs.Common.{◌≡◌, ℕ, zero, suc, [], ◌∷◌, Bool, refl, ap, subst, ◌∙◌, arith, Some, List, map, true}
+use Rattle.std.proofs.Common.{false, ◌&&◌}
+use Rattle.std.specs.Prelude.{slice_index_or}
 use Rattle.sect_front.specs.declared.tree.Procedure.{Procedure}
 use Rattle.sect_types.specs.declared.rules.place.Place.{Place}
 use Rattle.sect_types.specs.declared.rules.place.Place.TheVariants.{InThread, InProcedure}
@@ -29,9 +29,6 @@ small s = record {
   fresh = omega arith;
   deep = omega arith;
 }
-
-at_most : (m n : ℕ) → nat_lt m n ≡ false → n ≤ m
-at_most m n e = grind (arith, nat_tests)
 
 -- the table of a thread
 pub thread_table : (ps : List Procedure) (at : Place) (i : Bool) (d : ℕ) (table : List Sums) (returning : List Bool)

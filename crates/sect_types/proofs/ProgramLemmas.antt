@@ -3,8 +3,8 @@ use Rattle.std.specs.Prelude.{All, unwrap_or}
 use Rattle.std.proofs.Common.{◌≡◌, ℕ, zero, suc, ◌+◌, ◌≤◌, ◌<◌, true, false, ◌&&◌, nat_le, List, [], ◌∷◌, ◌++◌, map}
 use Rattle.std.proofs.Common.{length, length-append, refl, sym, ap, ◌∙◌, subst, arith, Option, Some, None, is_some}
 use Rattle.std.proofs.{Common.{true≢false, slice_get}, lemmas.List.{length-map, map-append}}
-use Rattle.std.proofs.{lemmas.List.Elements.{All-nil, All-cons, All-append}, lemmas.Bool.Decides.{nat_tests}}
-use Rattle.std.proofs.lemmas.Bool.{and_parts}
+use Rattle.std.proofs.lemmas.List.Elements.{All-nil, All-cons, All-append}
+use Rattle.std.proofs.lemmas.Bool.{and_parts, leb-true}
 use Rattle.sect_front.specs.{declared.tree.Kind.{Kind}, declared.tree.Record.{Record}}
 use Rattle.sect_front.specs.{declared.tree.GlobalObject.{GlobalObject}, declared.tree.Declaration.{Declaration}}
 use Rattle.sect_front.specs.{declared.tree.Procedure.{Procedure}, declared.tree.Thread.{Thread}}
@@ -36,15 +36,12 @@ use Rattle.sect_types.proofs.WithinLimits.{AreFewTypes, typed_few_types, typed_w
 use Rattle.sect_types.proofs.Shallow.{typed_shallow}
 use Rattle.sect_front.specs.declared.tree.Kind.TheVariants as kind
 
-at_most : (m n : ℕ) → nat_le m n ≡ true → m ≤ n
-at_most m n h = grind (arith, nat_tests)
-
 few_types : (records : List (List ℕ)) (ds : List Declaration) (n : ℕ)
     → (all_known records ds && nat_le (length ds) n) ≡ true → length (types_of records ds) ≤ n
 few_types records ds n h =
     omega (
       arith,
-      at_most (length ds) n (and_parts (all_known records ds) (nat_le (length ds) n) h).1,
+      leb-true (length ds) n (and_parts (all_known records ds) (nat_le (length ds) n) h).1,
       length-map ds (λ (d : Declaration). type_of records d.kind),
     )
 

@@ -1,11 +1,11 @@
 -- A procedure that is reached is reached by no more calls than there are procedures.
 use Rattle.std.specs.{Prelude.{◌||◌, ◌-◌, ◌<◌, Bool, true, false, nat_eq, eqb}, List.{list_any, IsDistinct}}
 use Rattle.std.proofs.Common.{◌≡◌, inl, inr, ℕ, zero, suc, List, [], ◌∷◌, refl, sym, arith, subst, length, slice_get}
-use Rattle.std.proofs.{lemmas.Bool.{eqb-true, or_cases, cases_Bool}, lemmas.Map.Steps.{length-le_from_distinct_below}}
+use Rattle.std.proofs.lemmas.Map.Steps.{length-le_from_distinct_below}
+use Rattle.std.proofs.lemmas.Bool.{or_left, or_right, eqb-true, or_cases, cases_Bool}
 use Rattle.sect_front.specs.declared.tree.Procedure.{Procedure}
 use Rattle.sect_types.specs.Sums.{calls_in}
 use Rattle.sect_types.proofs.EnoughLaws.{witness, none_equal, Calls, same, reaches_step, reaches_up, calls_there, there}
-use Rattle.sect_lemmas.proofs.Booleans.{or_left, or_right}
 use Rattle.sect_types.specs.steps.Search.{reaches, returns}
 
 -- the procedures between q and p on a way of calls

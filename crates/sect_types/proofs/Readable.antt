@@ -1,8 +1,9 @@
 -- A typed text has a text by numbers.
 use Rattle.std.specs.{Prelude.{Bool, true, false, ◌||◌, IsSome, is_some}, List.{list_any}}
 use Rattle.std.proofs.Common.{◌≡◌, ℕ, zero, suc, ◌+◌, List, [], ◌∷◌, Option, Some, None, refl, sym, ap, ◌∙◌, inl, inr}
-use Rattle.std.proofs.{Common.{arith, subst, length, slice_get, true≢false}, lemmas.Bool.{and_parts, cases_Bool}}
+use Rattle.std.proofs.Common.{arith, subst, length, slice_get, true≢false}
 use Rattle.std.proofs.lemmas.List.{length-map}
+use Rattle.std.proofs.lemmas.Bool.{not-false, or_parts, and_parts, cases_Bool}
 use Rattle.sect_front.specs.{declared.tree.Declaration.{Declaration}, declared.tree.Operand.{Operand}}
 use Rattle.sect_front.specs.{declared.tree.Procedure.{Procedure}, declared.tree.Thread.{Thread}, TreeView.{TreeView}}
 use Rattle.sect_front.specs.Syntax.{StatementView, Primitive, If, IfElse, While, Atomic, Call, BlockView, End, Then}
@@ -17,9 +18,9 @@ use Rattle.sect_types.specs.Expanded.{condition_at, expanded_statement, expanded
 use Rattle.sect_types.specs.Expanded.{call_of, procedure_numbered, expand_within, expanded_thread, expanded_threads}
 use Rattle.sect_types.specs.Expanded.{texts_of}
 use Rattle.sect_types.specs.steps.Clean.{IsClean, IsCleanStatement, IsCleanBlock, AreCleanThreads}
-use Rattle.sect_lemmas.proofs.{Booleans.{neither}, Places.{at_of}}
+use Rattle.sect_lemmas.proofs.Places.{at_of}
 use Rattle.sect_types.proofs.{Optional.{both_there, all_there, map_there}, SoundLemmas.{place_within}}
-use Rattle.sect_types.proofs.{Resolved.{not_false, action_there, condition_there}, FuelLaws.{chain}}
+use Rattle.sect_types.proofs.{Resolved.{action_there, condition_there}, FuelLaws.{chain}}
 use Rattle.sect_types.proofs.{EnoughLaws.{IsAcyclic, ends, no_way}, Walked.{text_clean}}
 use Rattle.sect_types.proofs.{SiteLaws.{AreClean, typed_clean, view}, TypeLaws.{taken}, CycleLaws.{typed_acyclic}}
 
@@ -53,14 +54,14 @@ call_there : (d : Declared) (test : ℕ → Bool) (f : Expander) → CanCall d t
     → list_any test (prepend o w) ≡ false → IsSome (f o (view d ls n) a vs) × (list_any test w ≡ false)
 call_there d test f h ls at n a x vs w c None e g =
     let known = and_parts (is_some (number_of d.procedures x)) (knows_operands (seen d ls) vs)
-    (not_false _ c.known) in
+    (not-false _ c.known) in
     absurd (true≢false (sym known.0 ∙ ap is_some e))
 call_there d test f h ls at n a x vs w c (Some q) e g =
     let known = and_parts (is_some (number_of d.procedures x)) (knows_operands (seen d ls) vs)
-    (not_false _ c.known) in
+    (not-false _ c.known) in
     let p = procedure_there d.procedures x q e in
     let fits = taken d ls at x vs c p.0 (ap (procedure_numbered d.procedures) e ∙ p.1) in
-    let left = neither (test q) (list_any test w) g in
+    let left = or_parts (test q) (list_any test w) g in
     (h q p.0 p.1 left.0 ls n a vs fits.0 known.1, left.1)
 
 -- a clean statement is there by numbers, where the calls in it can be called

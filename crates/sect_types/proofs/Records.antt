@@ -1,7 +1,7 @@
 -- One record more.
 use Rattle.std.proofs.Common.{◌≡◌, ℕ, ◌+◌, ◌<◌, ◌≤◌, List, [], ◌∷◌, ◌++◌, drop, get_or, length, Err, refl, ap, ◌∙◌}
 use Rattle.std.proofs.{Common.{length-append, arith, true, ◌&&◌, nat_le, subst}, lemmas.List.{drop_all}}
-use Rattle.std.proofs.{lemmas.Bool.Decides.{nat_tests}, lemmas.Bool.{and_from}}
+use Rattle.std.proofs.lemmas.Bool.{and_from, le-leb}
 use Rattle.sect_lemmas.proofs.Elements.{drop_next}
 use Rattle.sect_types.proofs.PassedElements.{judged_on, joined_on, tested_on}
 use Rattle.sect_front.specs.declared.tree.Record.{Record}
@@ -11,9 +11,6 @@ use Rattle.sect_types.specs.{Items.{Item, ARecord, field_items, record_items}, R
 use Rattle.sect_types.specs.Limits.{most_fields, most_records}
 use Rattle.sect_types.specs.steps.{Walks.{Walks}, Listing.{AreRecords, all_known, fields_fine}, Judging.{judge}}
 use Rattle.sect_types.specs.declared.rules.rule.WalkFault.TheVariants as fault
-
-pub at_most : (m n : ℕ) → m ≤ n → nat_le m n ≡ true
-at_most m n h = grind (arith, nat_tests)
 
 pub go_on : (d : Declared) (all rs : List Record) (i : ℕ) (r : Record) (names new : List (List ℕ))
     (fields more : List (List (List ℕ))) (old now then : Counts)
@@ -41,7 +38,7 @@ go_on d all rs i r names new fields more old now then h e so_far step named with
           tested_on (fields_fine (names_of_records d.records)) r rest (drop i rs) all
           (all_known (names_of_records d.records) r.fields && nat_le (length r.fields) most_fields) refl
           (and_from (all_known (names_of_records d.records) r.fields) (nat_le (length r.fields) most_fields) known
-          (at_most (length r.fields) most_fields few_fields)) at so_far.fine;
+          (le-leb (length r.fields) most_fields few_fields)) at so_far.fine;
     }
   where
     rest : List Record

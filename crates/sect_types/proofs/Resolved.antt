@@ -1,6 +1,7 @@
 -- Clean statements by numbers.
 use Rattle.std.specs.Prelude.{Bool, true, false, not, ◌&&◌, is_some, IsSome}
 use Rattle.std.proofs.Common.{◌≡◌, ℕ, List, Some, None, Result, IfOk, refl, sym, ap, subst, ◌∙◌, length}
+use Rattle.std.proofs.lemmas.Bool.{not-false}
 use Rattle.sect_front.specs.{declared.tree.Test.{Test}, declared.tree.Declaration.{Declaration}}
 use Rattle.sect_types.specs.{declared.rules.rule.Rule.{Rule}, declared.expansion.action.Action.{Action}, Sight.{Sight}}
 use Rattle.sect_types.specs.Rules.{knows_primitive, primitive_agrees, knows_test, test_agrees, shares, Declared, seen}
@@ -14,10 +15,6 @@ use Rattle.sect_types.proofs.Agreeing.{linked, test_linked}
 use Rattle.sect_types.specs.steps.{Written.{action_in, condition_in}, Walks.{rule_in, of_types}, Clean.{IsClean}}
 use Rattle.sect_front.specs.declared.tree.Primitive as leaf
 use Rattle.sect_types.specs.declared.expansion.action.Action.TheVariants as action
-
-pub not_false : (b : Bool) → not b ≡ false → b ≡ true
-not_false true h = refl
-not_false false h = sym h
 
 pub and_not : (a b : Bool) → a ≡ true → (a && not b) ≡ false → b ≡ true
 and_not true true h g = refl
@@ -53,7 +50,7 @@ resolved_to s site p e =
 clean_rule : (d : Declared) (ls : List Declaration) (at : Place) (site : ℕ) (p : leaf.Primitive)
     → IsClean d (AStatement (PrimitiveHead p) ls at) → rule_in (primitive_of (seen d ls) site p) ≡ None
 clean_rule d ls at site p h =
-    let k = not_false (knows_primitive (seen d ls) p) h.known in
+    let k = not-false (knows_primitive (seen d ls) p) h.known in
     let a = and_not (knows_primitive (seen d ls) p) (primitive_agrees (seen d ls) p) k h.right in
     no_rule_of (seen d ls) site p k a
 
@@ -74,7 +71,7 @@ clean_test : (d : Declared) (ls : List Declaration) (at : Place) (t : Test) → 
     → rule_in (test_of (seen d ls) t) ≡ None
 clean_test d ls at t h =
     let s = seen d ls in
-    let k = not_false (knows_test s t) h.known in
+    let k = not-false (knows_test s t) h.known in
     no_rule (test_of s t) _ _ (test_law s t) k (and_not (knows_test s t) (test_agrees s t) k h.right)
 
 pub resolved_test : (d : Declared) (ls : List Declaration) (at : Place) (t : Test)

@@ -1,7 +1,7 @@
 -- The callers of each procedure, as they are gathered.
 use Rattle.std.proofs.Common.{◌≡◌, ◌≢◌, ◌⊎◌, inl, inr, ℕ, zero, suc, ◌+◌, ◌<◌, ◌≤◌, true, false, List, [], ◌∷◌, ◌++◌}
 use Rattle.std.proofs.Common.{Option, Some, None, length, take, get_or, append-nil, refl, sym, ap, subst, ◌∙◌, arith}
-use Rattle.std.proofs.{Common.{slice_get}, lemmas.Bool.{eqb-true, or_cases}}
+use Rattle.std.proofs.{Common.{slice_get}, lemmas.Bool.{eqb-true, or_cases, cases_eq}}
 use Rattle.std.proofs.{lemmas.List.{take_more, take_all, length-map}, lemmas.Option.{slice_get-get_or}}
 use Rattle.std.specs.{Prelude.{eqb, slice_index_or}, List.{list_any}}
 use Rattle.sect_front.specs.declared.tree.Procedure.{Procedure}
@@ -9,7 +9,7 @@ use Rattle.sect_front.specs.Syntax.{StatementView, Primitive, If, IfElse, While,
 use Rattle.sect_lemmas.specs.Lists.{put_at}
 use Rattle.sect_types.specs.Sums.{number_of, names_of_procedures, calls_in, prepend, statement_calls, block_calls}
 use Rattle.sect_types.specs.steps.Called.{IsAmong, Calls, callers_of, AreCallersBefore}
-use Rattle.sect_lemmas.proofs.Replaced.{this_or_other, length-put_at}
+use Rattle.sect_lemmas.proofs.Replaced.{length-put_at}
 use Rattle.sect_types.proofs.SoundLemmas.{place_within}
 use Rattle.sect_types.proofs.Marking.{among_last, among_first, among_new, among_at, read_at}
 
@@ -75,7 +75,7 @@ pub one_reversed : (n : ℕ) (ps : List Procedure) (callers : List (List ℕ)) (
 one_reversed n ps callers all i q row lt at calls there is so_far = record {
   before = record {
     as_many = length-put_at q row callers ∙ so_far.before.as_many;
-    each = λ r c h. elim (this_or_other q r) [
+    each = λ r c h. elim (cases_eq q r) [
       | inl e ↦ elim (among_last (callers_of callers q) n c (subst (λ x. IsAmong x c) (here ∙ is)
           (subst (λ x. IsAmong (callers_of (put_at q row callers) x) c) (sym e) h))) [
             | inl a ↦ subst (Calls ps c) e (so_far.before.each q c a)
@@ -96,7 +96,7 @@ one_reversed n ps callers all i q row lt at calls there is so_far = record {
     here = row_here callers q row (omega (arith, so_far.before.as_many, there))
 
     grown : (r c : ℕ) → IsAmong (callers_of callers r) c → IsAmong (callers_of (put_at q row callers) r) c
-    grown r c h = elim (this_or_other q r) [
+    grown r c h = elim (cases_eq q r) [
       | inl e ↦ subst (λ x. IsAmong (callers_of (put_at q row callers) x) c) e
           (subst (λ x. IsAmong x c) (sym (here ∙ is))
           (among_first (callers_of callers q) n c (subst (λ x. IsAmong (callers_of callers x) c) (sym e) h)))
@@ -112,7 +112,7 @@ pub all_reversed : (n : ℕ) (ps : List Procedure) (callers : List (List ℕ)) (
 all_reversed n ps callers all i le e so_far = record {
   as_many = so_far.before.as_many;
   each = so_far.before.each;
-  all = λ q c lt h. elim (this_or_other n c) [
+  all = λ q c lt h. elim (cases_eq n c) [
     | inl here ↦ subst (IsAmong (callers_of callers q)) here (so_far.own q (subst (λ x. IsAmong x q)
         (sym (take_all i all le ∙ e)) (subst (λ x. Calls ps x q) (sym here) h)))
     | inr other ↦ so_far.before.all q c (omega (arith, lt, apart c other)) h
@@ -151,12 +151,6 @@ pub read_call : (ps : List Procedure) (n : ℕ) (all : List ℕ) (i : ℕ) → i
     → all ≡ calls_in ps (slice_get ps n) → Calls ps n (slice_index_or all i 0)
 read_call ps n all i lt e =
     subst (λ x. IsAmong x (slice_index_or all i 0)) e (among_at all i (slice_index_or all i 0) (read_at all i lt))
-
-pub read_row : (callers : List (List ℕ)) (q : ℕ) (row : List ℕ) → q < length callers → row ≡ get_or callers q row
-    → row ≡ callers_of callers q
-read_row [] q row lt at = absurd (omega (arith, lt))
-read_row (c ∷ callers) zero row lt at = at
-read_row (c ∷ callers) (suc q) row lt at = read_row callers q row (omega (arith, lt)) at
 
 -- one empty row more
 pub empty_row : (callers : List (List ℕ)) → ((q : ℕ) → callers_of callers q ≡ []) → (q : ℕ)

@@ -22,6 +22,7 @@ inside_deeper : (at : Place) → is_inside at ≡ true → is_inside (deeper at)
 inside_deeper (InThread inside depth) h = h
 inside_deeper (InProcedure p) h = refl
 
+-- what stands in a section stands inside
 pub inside_section : (at : Place) → is_inside (in_section at) ≡ true
 inside_section (InThread inside depth) = refl
 inside_section (InProcedure p) = refl

@@ -2,6 +2,7 @@
 use Rattle.std.specs.Prelude.{Bool, true, false, ◌&&◌, ◌||◌, nat_lt, is_some, max, All}
 use Rattle.std.proofs.{Common.{◌≡◌, ℕ, ◌+◌, ◌≤◌, List, [], ◌∷◌, ◌++◌, arith, ap}, Math.Nat.{le-max_left, le-max_right}}
 use Rattle.std.proofs.lemmas.List.Elements.{All-nil, All-cons}
+use Rattle.std.proofs.lemmas.Bool.{ltb-false, not-false, or_parts}
 use Rattle.sect_front.specs.{Depth.{statement_depth, block_depth, threads_depth}, Limits.{most_depth}}
 use Rattle.sect_front.specs.{declared.tree.Operand.{Operand}, declared.tree.Declaration.{Declaration}}
 use Rattle.sect_front.specs.{declared.tree.Thread.{Thread}, TreeView.{TreeView}}
@@ -15,12 +16,10 @@ use Rattle.sect_types.specs.Rules.{Declared, Counts, seen, after, passes_by, sum
 use Rattle.sect_types.specs.{Rules.{knows_operands, declared_in}, First.{none_yet, IsTyped}}
 use Rattle.sect_types.specs.Expanded.{NextNumbers, past_thread}
 use Rattle.sect_types.specs.steps.Written.{written_thread, written_threads, written_texts}
-use Rattle.sect_lemmas.proofs.Booleans.{neither}
-use Rattle.sect_types.proofs.Resolved.{not_false}
 use Rattle.sect_types.proofs.Walked.{NoneBroken, first_clean, first_few, next_none, statement_after, block_after}
 use Rattle.sect_types.proofs.Walked.{statement_walked, block_walked, declared_after, locals_walked, thread_after}
 use Rattle.sect_types.proofs.Walked.{records_after, records_walked, globals_walked, procedures_walked}
-use Rattle.sect_types.proofs.{Walked.{before_procedures, before_threads}, WithinLimits.{at_most, last_false}}
+use Rattle.sect_types.proofs.{Walked.{before_procedures, before_threads}, WithinLimits.{last_false}}
 use Rattle.sect_types.proofs.{CountLaws.{primitive_comes}, DepthLaws.{thread_deep}}
 
 both_below : (n a b m : ℕ) → n + a ≤ m → n + b ≤ m → n + max a b ≤ m
@@ -33,9 +32,9 @@ passes_shallow c depth s h =
     let sites = nat_lt most_sites (c.sites + s.sites) in
     let calls = nat_lt most_calls (c.calls + s.calls) in
     let deep = nat_lt most_depth (depth + s.deep) in
-    let g = neither statements (sites || (calls || deep)) h in
-    let i = neither sites (calls || deep) g.1 in
-    at_most most_depth (depth + s.deep) (neither calls deep i.1).1
+    let g = or_parts statements (sites || (calls || deep)) h in
+    let i = or_parts sites (calls || deep) g.1 in
+    ltb-false most_depth (depth + s.deep) (or_parts calls deep i.1).1
 
 call_shallow : (d : Declared) (ls : List Declaration) (inside : Bool) (depth : ℕ) (c : Counts) (x : List ℕ)
     (vs : List Operand) (w : List Item)
@@ -44,11 +43,11 @@ call_shallow : (d : Declared) (ls : List Declaration) (inside : Bool) (depth : �
 call_shallow d ls inside depth c x vs w h =
     let item = AStatement (CallHead x vs) ls (InThread inside depth) in
     let clean = first_clean d c item w h in
-    let known = not_false (is_some (number_of d.procedures x) && knows_operands (seen d ls) vs) clean.known in
+    let known = not-false (is_some (number_of d.procedures x) && knows_operands (seen d ls) vs) clean.known in
     passes_shallow c depth (sums_of_call d x)
     (last_false _ inside (as_many (procedure_of d.procedures x) vs) (passes_by c depth (sums_of_call d x)) known
-    (not_false inside clean.stands)
-    (not_false (as_many (procedure_of d.procedures x) vs) clean.counted) (first_few d c item w h))
+    (not-false inside clean.stands)
+    (not-false (as_many (procedure_of d.procedures x) vs) clean.counted) (first_few d c item w h))
 
 -- where a body isn't deeper than the limit and breaks no rule, its expansion isn't either
 mutual

@@ -1,11 +1,12 @@
 -- What is typed is sound by number.
-use Rattle.std.proofs.Common.{◌≡◌, ℕ, nat_eq, Bool, true, false, not, ◌&&◌, List, map, Option, Some, None, IfOk, IfSome}
+use Rattle.std.proofs.Common.{◌≡◌, ℕ, nat_eq, Bool, true, false, not, ◌&&◌, List, Option, Some, None, IfOk, IfSome}
 use Rattle.std.proofs.Common.{slice_get, refl, sym, ap, ◌∙◌, true≢false, arith, ◌<◌, cond, nat_lt, length, ◌⊎◌, inl}
 use Rattle.std.proofs.{Common.{inr}, lemmas.List.{length-map}}
-use Rattle.std.specs.{Bool.{⊤}, Cmp.Lexicographic.{pointwise}, Option.{option_map}, List.{prefix_len}}
+use Rattle.std.proofs.lemmas.Bool.{and_parts}
+use Rattle.std.specs.{Bool.{⊤}, Cmp.Lexicographic.{pointwise}, List.{prefix_len}}
 use borrow.Author.Tests.{ltb-true}
 use Rattle.std.specs.Prelude.{unwrap_or}
-use Rattle.std.proofs.{lemmas.Option.{slice_get-map}, lemmas.Bool.{and_parts}}
+use Rattle.sect_lemmas.proofs.Replaced.{at_map}
 use Rattle.sect_front.specs.{declared.tree.Kind.{Kind}, declared.tree.Operand.{Operand}}
 use Rattle.sect_front.specs.{declared.tree.Operator.{Operator}, declared.tree.Comparison.{Comparison}}
 use Rattle.sect_front.specs.{declared.tree.Test.{Test}, declared.tree.GlobalObject.{GlobalObject}}
@@ -24,7 +25,7 @@ use Rattle.sect_types.specs.{Numbered.{base_by, value_at, value_by}, Items.{Prim
 use Rattle.sect_types.specs.Environments.{Environment, environment, record_number, type_of, types_of}
 use Rattle.sect_types.specs.Sound.{reference_to, type_at, type_in, field_type, HasType, IsSoundAction, AreAlike}
 use Rattle.sect_types.specs.Sound.{AreComparable, IsSoundCondition, is_shared, IsSound}
-use Rattle.sect_types.specs.Statements.{TextView, Stop, Do, Choose, Loop, Section, joined}
+use Rattle.sect_types.specs.Statements.{Stop, Do}
 use Rattle.sect_types.proofs.Typing.{well_typed, well_typed_test, assign_of, compute_of, new_of, load_at, load_of}
 use Rattle.sect_types.proofs.Typing.{store_at, store_of, print_of, compared_of, primitive_of, test_of}
 use Rattle.sect_types.proofs.shared.SoundLemmas.{same_names}
@@ -35,10 +36,6 @@ use Rattle.sect_front.specs.declared.tree.Primitive.TheVariants as primitive
 use Rattle.sect_types.specs.declared.rules.resolve.Denoted.TheVariants as denoted
 use Rattle.sect_types.specs.declared.rules.resolve.Given.TheVariants as given
 use Rattle.sect_types.specs.declared.expansion.action.Action.TheVariants as action
-
-at_map : {A B : Type 0} (f : A → B) (xs : List A) (i : ℕ) (x : A) → slice_get xs i ≡ Some x
-    → slice_get (map f xs) i ≡ Some (f x)
-at_map f xs i x e = slice_get-map f xs i ∙ ap (option_map f) e
 
 -- two types that are the same as written are the same by number
 same_types : (rs : List (List ℕ)) (k l : Kind) → same_kind k l ≡ true → type_of rs k ≡ type_of rs l
@@ -361,13 +358,3 @@ stands : (e : Environment) (b inside : Bool) (a : Action) → Fits e b a → ((b
 stands e b true a (sound, same) h = (sound, tt, tt)
 stands e b false a (sound, same) (inr h) = (sound, same ∙ h, tt)
 stands e b false a (sound, same) (inl (h, g)) = absurd (true≢false (sym g))
-
--- statements that are sound, one after another, are sound
-pub joined_sound : (e : Environment) (inside : Bool) (a b : TextView) → IsSound e inside a → IsSound e inside b
-    → IsSound e inside (joined a b)
-joined_sound e inside Stop b h g = g
-joined_sound e inside (Do a r) b (h, here, k) g = (h, here, joined_sound e inside r b k g)
-joined_sound e inside (Choose c p q r) b (h, p_sound, q_sound, k) g =
-    (h, p_sound, q_sound, joined_sound e inside r b k g)
-joined_sound e inside (Loop c p r) b (h, body, k) g = (h, body, joined_sound e inside r b k g)
-joined_sound e inside (Section i p r) b (h, body, k) g = (h, body, joined_sound e inside r b k g)

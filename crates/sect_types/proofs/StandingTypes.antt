@@ -1,6 +1,7 @@
 -- Where the types of some variables stand among those of all locals.
-use Rattle.std.proofs.Common.{◌≡◌, ℕ, zero, suc, ◌+◌, List, [], ◌∷◌, ◌++◌, map, Some, refl, ◌∙◌, ap, arith, subst}
+use Rattle.std.proofs.Common.{◌≡◌, ℕ, suc, ◌+◌, List, [], ◌∷◌, ◌++◌, map, Some, refl, ◌∙◌, ap, arith, subst}
 use Rattle.std.proofs.{Common.{length, slice_get}, lemmas.List.{map-append, length-map}}
+use Rattle.sect_lemmas.proofs.Elements.{slice_get-left}
 use Rattle.sect_front.specs.declared.tree.Declaration.{Declaration}
 use Rattle.sect_types.specs.{declared.declarations.types.ValueType.{ValueType}, Sight.{names_of_records}}
 use Rattle.sect_types.specs.{Environments.{type_of, types_of}, Rules.{Declared}}
@@ -15,12 +16,6 @@ pub stand_next : (n : ℕ) (ty : ValueType) (few all : List ValueType) → Stand
     → StandFrom (n + 1) few all
 stand_next n ty few all h i u e = subst (λ m. slice_get all m ≡ Some u) (omega arith) (h (suc i) u e)
 
-at_left : (xs ys : List ValueType) (i : ℕ) (ty : ValueType) → slice_get xs i ≡ Some ty
-    → slice_get (xs ++ ys) i ≡ Some ty
-at_left [] ys i ty e = absurd (cc)
-at_left (x ∷ xs) ys zero ty e = e
-at_left (x ∷ xs) ys (suc i) ty e = at_left xs ys i ty e
-
 at_right : (xs ys : List ValueType) (i : ℕ) → slice_get (xs ++ ys) (length xs + i) ≡ slice_get ys i
 at_right [] ys i = ap (slice_get ys) (omega arith)
 at_right (x ∷ xs) ys i =
@@ -29,7 +24,7 @@ at_right (x ∷ xs) ys i =
 
 -- those of the first list, and those of the second
 pub stand_left : (n : ℕ) (xs ys all : List ValueType) → StandFrom n (xs ++ ys) all → StandFrom n xs all
-stand_left n xs ys all h i ty e = h i ty (at_left xs ys i ty e)
+stand_left n xs ys all h i ty e = h i ty (slice_get-left xs ys i ty e)
 
 pub stand_right : (n m : ℕ) (xs ys all : List ValueType) → length xs ≡ m → StandFrom n (xs ++ ys) all
     → StandFrom (n + m) ys all
@@ -38,7 +33,7 @@ stand_right n m xs ys all long h i ty e =
 
 -- the first of two lists stands from 0 on, the second behind it
 pub stand_whole : (xs ys : List ValueType) → StandFrom 0 xs (xs ++ ys)
-stand_whole xs ys i ty e = subst (λ j. slice_get (xs ++ ys) j ≡ Some ty) (omega arith) (at_left xs ys i ty e)
+stand_whole xs ys i ty e = subst (λ j. slice_get (xs ++ ys) j ≡ Some ty) (omega arith) (slice_get-left xs ys i ty e)
 
 pub stand_behind : (n : ℕ) (xs ys : List ValueType) → length xs ≡ n → StandFrom n ys (xs ++ ys)
 stand_behind n xs ys long i ty e =

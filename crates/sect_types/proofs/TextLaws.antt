@@ -1,7 +1,7 @@
 -- The same of the expansion itself: more fuel than there are procedures changes no text.
 use Rattle.std.specs.{Prelude.{Bool, true, false, is_some, option_map}, List.{list_any}}
 use Rattle.std.proofs.Common.{◌≡◌, ℕ, zero, suc, ◌+◌, List, [], Option, Some, None, refl, ◌∙◌, ap, arith, inl, inr}
-use Rattle.std.proofs.{Common.{length}, lemmas.Bool.{cases_Bool}}
+use Rattle.std.proofs.{Common.{length}, lemmas.Bool.{cases_Bool, or_parts}}
 use Rattle.sect_front.specs.{declared.tree.Operand.{Operand}, declared.tree.Record.{Record}}
 use Rattle.sect_front.specs.declared.tree.GlobalObject.{GlobalObject}
 use Rattle.sect_front.specs.Syntax.{StatementView, Primitive, If, IfElse, While, Atomic, Call, BlockView, End, Then}
@@ -16,7 +16,6 @@ use Rattle.sect_types.specs.Expanded.{expanded_block, expand_within, call_of, pr
 use Rattle.sect_types.specs.Expanded.{set_parameters, clear_locals}
 use Rattle.sect_types.proofs.FuelLaws.{Agree, same_statement, same_block, chain, one_more}
 use Rattle.sect_types.proofs.EnoughLaws.{IsAcyclic, ends, no_way}
-use Rattle.sect_lemmas.proofs.Booleans.{neither}
 
 abbrev pub SameAt : Expander → Expander → Option ℕ → Type 0
 SameAt f g q = (v : Scene) (a : NextNumbers) (vs : List Operand) → f q v a vs ≡ g q v a vs
@@ -29,7 +28,7 @@ pub record AreSame (test : ℕ → Bool) (f g : Expander) : Type 0 where
 call_text : (test : ℕ → Bool) (f g : Expander) → AreSame test f g → (q : Option ℕ) (w : List ℕ)
     → list_any test (prepend q w) ≡ false → SameAt f g q
 call_text test f g h None w e = h.none
-call_text test f g h (Some r) w e = h.some r (neither (test r) (list_any test w) e).0
+call_text test f g h (Some r) w e = h.some r (or_parts (test r) (list_any test w) e).0
 
 mutual
   pub statement_text : (test : ℕ → Bool) (ps : List Procedure) (t u : List Sums) (f g : Expander) → Agree test t u

@@ -1,8 +1,8 @@
 -- One procedure or thread more.
 use Rattle.std.proofs.Common.{◌≡◌, ℕ, zero, suc, ◌+◌, ◌<◌, ◌≤◌, false, List, [], ◌∷◌, ◌++◌, drop, get_or, map, length}
 use Rattle.std.proofs.Common.{Result, Ok, Err, sym, ap, subst, ◌∙◌, append_assoc, length-append, arith, true, ◌&&◌}
-use Rattle.std.proofs.{Common.{nat_le}, lemmas.Bool.Decides.{nat_tests}, lemmas.List.{drop_all}}
-use Rattle.std.proofs.lemmas.Bool.{and_parts, and_from}
+use Rattle.std.proofs.{Common.{nat_le}, lemmas.List.{drop_all}}
+use Rattle.std.proofs.lemmas.Bool.{and_parts, and_from, leb-true, le-leb}
 use Rattle.std.specs.Result.{IsErrAnd}
 use Rattle.sect_lemmas.proofs.Elements.{drop_next}
 use Rattle.sect_front.specs.{Syntax.{BlockView}, Depth.{block_depth, procedures_depth, threads_depth}}
@@ -19,7 +19,6 @@ use Rattle.sect_types.specs.steps.{Walks.{Walks}, Standing.{declared_by}}
 use Rattle.sect_types.specs.steps.Threads.{VariablesView, variables_shown, variables_fine, local_names, AreProcedures}
 use Rattle.sect_types.specs.steps.{Threads.{AreThreads}, Listing.{all_known, locals_fine}, Capped.{HaveFewVariables}}
 use Rattle.sect_types.specs.steps.Judging.{judge}
-use Rattle.sect_types.proofs.Records.{at_most}
 use Rattle.sect_types.specs.declared.rules.rule.WalkFault.TheVariants as fault
 
 -- what comes first, and then a walk
@@ -102,7 +101,7 @@ procedure_more d all ps i p names new scopes more old now then h e so_far step n
           ∙ ap (λ b. b && variables_fine (names_of_records d.records) rest)
           (and_from (all_known (names_of_records d.records) (variables p))
           (nat_le (length (variables p)) most_locals) known
-          (at_most (length (variables p)) most_locals few_own)));
+          (le-leb (length (variables p)) most_locals few_own)));
     }
   where
     rest : List Procedure
@@ -152,7 +151,7 @@ thread_more d all ts i t names new locals more old now then h e so_far step name
           ∙ (ap (locals_fine (names_of_records d.records)) at
           ∙ ap (λ b. b && locals_fine (names_of_records d.records) rest)
           (and_from (all_known (names_of_records d.records) t.locals) (nat_le (length t.locals) most_locals) known
-          (at_most (length t.locals) most_locals few_own)));
+          (le-leb (length t.locals) most_locals few_own)));
     }
   where
     rest : List Thread
@@ -190,9 +189,6 @@ thread_depth [] i t h = absurd (omega arith)
 thread_depth (u ∷ ts) zero t h = omega arith
 thread_depth (u ∷ ts) (suc i) t h = omega (arith, thread_depth ts i t (omega arith))
 
-is_at_most : (m n : ℕ) → nat_le m n ≡ true → m ≤ n
-is_at_most m n h = grind (arith, nat_tests)
-
 -- few variables are few parameters and few locals
 pub few_variables : (records : List (List ℕ)) (ps : List Procedure) → variables_fine records ps ≡ true
     → HaveFewVariables ps
@@ -201,7 +197,7 @@ few_variables records (p ∷ ps) h =
     let few = nat_le (length (variables p)) most_locals in
     let parts = and_parts (all_known records (variables p) && few) (variables_fine records ps) h in
     let own = and_parts (all_known records (variables p)) few parts.0 in (
-      omega (arith, is_at_most (length (variables p)) most_locals own.1, length-append p.parameters p.locals),
+      omega (arith, leb-true (length (variables p)) most_locals own.1, length-append p.parameters p.locals),
       few_variables records ps parts.1,
     )
 

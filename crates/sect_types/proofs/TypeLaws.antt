@@ -1,7 +1,7 @@
 -- The expanded text of a typed text is sound where its fresh locals have the types of their declarations.
 use Rattle.std.specs.Prelude.{Bool, true, false, not, ◌&&◌, ◌||◌, is_some, nat_eq}
 use Rattle.std.proofs.Common.{◌≡◌, ℕ, zero, suc, ◌+◌, List, [], ◌∷◌, ◌++◌, map, Option, Some, None, IfSome, refl, sym}
-use Rattle.std.proofs.{Common.{◌∙◌, arith, subst, length, length-append}, lemmas.Bool.{eqb-true, and_parts}}
+use Rattle.std.proofs.{Common.{◌∙◌, arith, subst, length, length-append}, lemmas.Bool.{eqb-true, and_parts, not-false}}
 use Rattle.sect_front.specs.{declared.tree.Operand.{Operand}, declared.tree.Kind.{Kind}}
 use Rattle.sect_front.specs.declared.tree.Declaration.{Declaration}
 use Rattle.sect_front.specs.Syntax.{StatementView, Primitive, If, IfElse, While, Atomic, Call, BlockView, End, Then}
@@ -26,14 +26,14 @@ use Rattle.sect_types.specs.steps.Written.{Writer, written_statement, written_bl
 use Rattle.sect_types.specs.steps.Written.{write_locals, written_call, written_within, written_thread, written_threads}
 use Rattle.sect_types.specs.steps.Written.{written_texts}
 use Rattle.sect_types.specs.steps.Clean.{IsClean, IsCleanStatement, IsCleanBlock, AreCleanThreads}
-use Rattle.sect_types.proofs.SoundLemmas.{IsGiven, accepts_has, operand_there, joined_sound}
+use Rattle.sect_types.proofs.SoundLemmas.{IsGiven, accepts_has, operand_there}
 use Rattle.sect_types.proofs.CountLaws.{CountsFresh, statement_freshens, block_freshens, call_freshens, of_call_long}
 use Rattle.sect_types.proofs.{MovedLaws.{StandFrom, moved_type, moved_sound, moved_holds}, Walked.{text_clean}}
-use Rattle.sect_types.proofs.Resolved.{not_false, and_not, resolved, resolved_test, moved_shared}
+use Rattle.sect_types.proofs.Resolved.{and_not, resolved, resolved_test, moved_shared}
 use Rattle.sect_types.proofs.SiteLaws.{AreClean, called_clean, typed_clean, view}
 use Rattle.sect_types.proofs.StandingTypes.{stand_first, stand_next, stand_left, stand_right, stand_whole, stand_behind}
 use Rattle.sect_types.proofs.StandingTypes.{types_in, fresh_types, fresh_left, fresh_right, call_types, types_both}
-use Rattle.sect_types.proofs.StandingTypes.{types_long}
+use Rattle.sect_types.proofs.{StandingTypes.{types_long}, SectionLaws.{inside_section}, shared.Joining.{sound_joined}}
 use Rattle.sect_front.specs.declared.tree.Kind.TheVariants as kind
 
 -- what statements see where these are the types of all locals
@@ -123,9 +123,9 @@ pub taken : (d : Declared) (ls : List Declaration) (at : Place) (f : List ℕ) (
     → IsClean d (AStatement (CallHead f vs) ls at) → IsTaken d ls (number_of d.procedures f) vs
 taken d ls at f vs h p e =
     let o = procedure_of d.procedures f in
-    let known = not_false (is_some (number_of d.procedures f) && knows_operands (seen d ls) vs) h.known in
+    let known = not-false (is_some (number_of d.procedures f) && knows_operands (seen d ls) vs) h.known in
     taken_by d ls o vs p (same_procedure d.procedures (number_of d.procedures f)
-    ∙ e) (not_false (as_many o vs) h.counted)
+    ∙ e) (not-false (as_many o vs) h.counted)
     (and_not _ (call_agrees (seen d ls) o vs) known h.right)
 
 stands_right : (inside b : Bool) (a : Action) → is_shared a ≡ b → (b && not inside) ≡ false → StandsRight inside a
@@ -137,10 +137,6 @@ stands_right false false a e h = e
 pub inside_deeper : (at : Place) → is_inside (deeper at) ≡ is_inside at
 inside_deeper (InThread inside depth) = refl
 inside_deeper (InProcedure p) = refl
-
-pub inside_section : (at : Place) → is_inside (in_section at) ≡ true
-inside_section (InThread inside depth) = refl
-inside_section (InProcedure p) = refl
 
 -- the expansion of a call that takes its arguments is sound where its fresh locals stand from the next one on
 abbrev pub SoundCalls : Declared → List ValueType → Writer → Freshens → Type 0
@@ -200,7 +196,7 @@ mutual
       )
   statement_sound d all table call fresh m i ls at n a c (Call x vs) k stand h f g =
       let q = number_of d.procedures x in
-      let inside = not_false (is_inside at) h.stands in
+      let inside = not-false (is_inside at) h.stands in
       subst (λ z. IsSound (whole d all) z (call q (view d ls n) a vs k)) (sym inside)
       (m q ls n a c vs k (taken d ls at x vs h) stand f (subst (λ z. IsSound (whole d all) z k) inside g))
 
@@ -261,7 +257,7 @@ call_sound d all clean table call fresh m i (Some p) q e ls n a c vs k t stand f
     at.variables_stand x.1 at.block_stands in
     set_sound d ls n all stand a.fresh p.parameters vs _ at.parameters_stand (t p e).0 (t p e).1
     (clear_sound d all (a.fresh + length p.parameters) p.locals (joined text k) at.locals_stand
-    (joined_sound (whole d all) true text k sound g))
+    (sound_joined (whole d all) true text k sound g))
 
 -- the expansion of a call is sound
 pub calls_sound : (n : ℕ) (d : Declared) (all : List ValueType) → AreClean d d.procedures

@@ -1,6 +1,7 @@
 -- What breaks no rule is clean, item by item.
-use Rattle.std.specs.Prelude.{Bool, true, false}
-use Rattle.std.proofs.Common.{◌≡◌, ℕ, suc, ◌+◌, List, [], ◌∷◌, ◌++◌, refl}
+use Rattle.std.specs.Prelude.{false}
+use Rattle.std.proofs.Common.{◌≡◌, ℕ, suc, ◌+◌, List, [], ◌∷◌, ◌++◌}
+use Rattle.std.proofs.lemmas.Bool.{false_from_ne_true}
 use Rattle.sect_front.specs.{declared.tree.Declaration.{Declaration}, declared.tree.Record.{Record}}
 use Rattle.sect_front.specs.declared.tree.GlobalObject.{GlobalObject}
 use Rattle.sect_front.specs.Syntax.{StatementView, Primitive, If, IfElse, While, Atomic, Call, BlockView, End, Then}
@@ -22,26 +23,22 @@ use Rattle.sect_types.proofs.Ways.{breaks_rule}
 abbrev pub NoneBroken : Declared → Counts → List Item → Type 0
 NoneBroken d c list = (i : ℕ) (r : Rule) → BreaksFrom d c list i r → ⊥
 
-not_true : (b : Bool) → (b ≡ true → ⊥) → b ≡ false
-not_true true h = absurd (h refl)
-not_true false h = refl
-
 -- the first of them is clean
 pub first_clean : (d : Declared) (c : Counts) (item : Item) (w : List Item) → NoneBroken d c (item ∷ w) → IsClean d item
 first_clean d c item w h = record {
-  known = not_true (breaks d c item Unknown) (h 0 Unknown);
-  once = not_true (breaks d c item Twice) (h 0 Twice);
-  right = not_true (breaks d c item WrongType) (h 0 WrongType);
-  stands = not_true (breaks d c item SharedOutside) (h 0 SharedOutside);
-  flat = not_true (breaks d c item Nested) (h 0 Nested);
-  ends = not_true (breaks d c item Recursion) (λ e. h 0 Recursion (breaks_rule d c item Recursion e));
-  counted = not_true (breaks d c item Arguments) (h 0 Arguments);
+  known = false_from_ne_true (breaks d c item Unknown) (h 0 Unknown);
+  once = false_from_ne_true (breaks d c item Twice) (h 0 Twice);
+  right = false_from_ne_true (breaks d c item WrongType) (h 0 WrongType);
+  stands = false_from_ne_true (breaks d c item SharedOutside) (h 0 SharedOutside);
+  flat = false_from_ne_true (breaks d c item Nested) (h 0 Nested);
+  ends = false_from_ne_true (breaks d c item Recursion) (λ e. h 0 Recursion (breaks_rule d c item Recursion e));
+  counted = false_from_ne_true (breaks d c item Arguments) (h 0 Arguments);
 }
 
 -- it is not too many
 pub first_few : (d : Declared) (c : Counts) (item : Item) (w : List Item) → NoneBroken d c (item ∷ w)
     → breaks d c item TooMany ≡ false
-first_few d c item w h = not_true (breaks d c item TooMany) (h 0 TooMany)
+first_few d c item w h = false_from_ne_true (breaks d c item TooMany) (h 0 TooMany)
 
 -- and those that follow it break none
 pub next_none : (d : Declared) (c : Counts) (item : Item) (w : List Item) → NoneBroken d c (item ∷ w)

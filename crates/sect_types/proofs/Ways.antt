@@ -1,7 +1,7 @@
 -- The search for ways of calls finds each, and nothing else.
 use Rattle.std.specs.{Prelude.{◌||◌, true, false, nat_eq, eqb}, List.{list_any}}
 use Rattle.std.proofs.Common.{◌≡◌, inl, inr, ℕ, zero, suc, List, [], ◌∷◌, Option, Some, None, sym, subst, length}
-use Rattle.std.proofs.{Common.{slice_get}, lemmas.Bool.{eqb-true, or_cases}}
+use Rattle.std.proofs.{Common.{slice_get}, lemmas.Bool.{eqb-true, or_cases, or_left, or_right}}
 use Rattle.sect_front.specs.declared.tree.Procedure.{Procedure}
 use Rattle.sect_types.specs.declared.rules.place.Place.{Place}
 use Rattle.sect_types.specs.declared.rules.place.Place.TheVariants.{InThread, InProcedure}
@@ -14,7 +14,6 @@ use Rattle.sect_types.specs.Sums.{calls_in, number_of, IsWay, Returns}
 use Rattle.sect_types.specs.Rules.{Declared, Counts, ReturnsTo, IsRecursive, BreaksRule}
 use Rattle.sect_lemmas.specs.Lists.{Has}
 use Rattle.sect_types.specs.steps.{Search.{reaches, returns, returns_to, recursive}, Judging.{breaks}}
-use Rattle.sect_lemmas.proofs.Booleans.{or_left, or_right}
 use Rattle.sect_types.proofs.{EnoughLaws.{witness, same}, ReachLaws.{returns_caller}}
 
 has_any : (xs : List ℕ) (r : ℕ) → list_any (eqb r) xs ≡ true → Has xs r

@@ -1,8 +1,8 @@
 -- A text that breaks no rule stays within the limits.
-use Rattle.std.specs.Prelude.{Bool, true, false, ◌&&◌, ◌||◌, nat_le, nat_lt, is_some, ⊤}
-use Rattle.std.proofs.Common.{◌≡◌, ℕ, zero, suc, ◌+◌, ◌<◌, ◌≤◌, List, [], ◌∷◌, ◌++◌, map, Option, Some, None, refl, sym}
+use Rattle.std.specs.Prelude.{Bool, true, false, ◌&&◌, ◌||◌, nat_le, is_some, ⊤}
+use Rattle.std.proofs.Common.{◌≡◌, ℕ, zero, suc, ◌+◌, ◌≤◌, List, [], ◌∷◌, ◌++◌, map, Option, Some, None, refl, sym}
 use Rattle.std.proofs.{Common.{◌∙◌, arith, subst, length, length-append, ap}, lemmas.List.{length-map}}
-use Rattle.std.proofs.lemmas.Bool.Decides.{nat_tests}
+use Rattle.std.proofs.lemmas.Bool.{ltb-false, leb-false, not-false, or_parts}
 use Rattle.sect_front.specs.{declared.tree.Operand.{Operand}, declared.tree.Declaration.{Declaration}}
 use Rattle.sect_front.specs.declared.tree.GlobalObject.{GlobalObject}
 use Rattle.sect_front.specs.Syntax.{StatementView, Primitive, If, IfElse, While, Atomic, Call, BlockView, End, Then}
@@ -23,13 +23,11 @@ use Rattle.sect_types.specs.Expanded.{procedure_numbered, fresh_in, local_types_
 use Rattle.sect_types.specs.Limits.{most_all_locals, most_calls, most_globals, most_locals, most_sections, most_sites}
 use Rattle.sect_types.specs.Limits.{most_statements}
 use Rattle.sect_types.specs.steps.{Clean.{IsClean}, Written.{written_texts}}
-use Rattle.sect_types.proofs.Resolved.{not_false}
 use Rattle.sect_types.proofs.Walked.{NoneBroken, first_clean, first_few, next_none, statement_after, block_after}
 use Rattle.sect_types.proofs.Walked.{statement_walked, block_walked, declared_after, locals_walked, thread_after}
 use Rattle.sect_types.proofs.Walked.{threads_after, records_after, records_walked, globals_walked, procedures_walked}
 use Rattle.sect_types.proofs.{Walked.{before_procedures, before_threads}, CountLaws.{looked, thread_freshens}}
 use Rattle.sect_types.proofs.EndCounts.{end_of, before_add, typed_counts, thread_sums, threads_add}
-use Rattle.sect_lemmas.proofs.Booleans.{neither}
 use Rattle.sect_front.specs.declared.tree.Primitive as leaf
 use Rattle.sect_front.specs.declared.tree.Primitive.TheVariants as primitive
 
@@ -40,16 +38,10 @@ pub record IsFew (c : Counts) : Type 0 where
   pub few_sections : c.sections ≤ most_sections
   pub few_calls : c.calls ≤ most_calls
 
-under : (m n : ℕ) → nat_le m n ≡ false → n < m
-under m n h = grind (arith, nat_tests)
-
-pub at_most : (m n : ℕ) → nat_lt m n ≡ false → n ≤ m
-at_most m n h = grind (arith, nat_tests)
-
 one_statement : (c : Counts) → nat_le most_statements c.statements ≡ false → IsFew c
     → IsFew (record c { items = c.items + 1; statements = c.statements + 1 })
 one_statement c h f = record {
-  few_statements = omega (arith, under most_statements c.statements h);
+  few_statements = omega (arith, leb-false most_statements c.statements h);
   few_sites = f.few_sites;
   few_sections = f.few_sections;
   few_calls = f.few_calls;
@@ -61,10 +53,10 @@ primitive_few : (d : Declared) (ls : List Declaration) (inside : Bool) (depth : 
 primitive_few d ls inside depth c (primitive.Assign x v) h f = one_statement c h f
 primitive_few d ls inside depth c (primitive.Compute x v o w) h f = one_statement c h f
 primitive_few d ls inside depth c (primitive.New x r) h f =
-    let g = neither (nat_le most_statements c.statements) (nat_le most_sites c.sites) h in
+    let g = or_parts (nat_le most_statements c.statements) (nat_le most_sites c.sites) h in
     record {
-      few_statements = omega (arith, under most_statements c.statements g.0);
-      few_sites = omega (arith, under most_sites c.sites g.1);
+      few_statements = omega (arith, leb-false most_statements c.statements g.0);
+      few_sites = omega (arith, leb-false most_sites c.sites g.1);
       few_sections = f.few_sections;
       few_calls = f.few_calls;
     }
@@ -75,11 +67,11 @@ primitive_few d ls inside depth c (primitive.Print v) h f = one_statement c h f
 section_few : (c : Counts) → (nat_le most_statements c.statements || nat_le most_sections c.sections) ≡ false → IsFew c
     → IsFew (record c { items = c.items + 1; statements = c.statements + 1; sections = c.sections + 1 })
 section_few c h f =
-    let g = neither (nat_le most_statements c.statements) (nat_le most_sections c.sections) h in
+    let g = or_parts (nat_le most_statements c.statements) (nat_le most_sections c.sections) h in
     record {
-      few_statements = omega (arith, under most_statements c.statements g.0);
+      few_statements = omega (arith, leb-false most_statements c.statements g.0);
       few_sites = f.few_sites;
-      few_sections = omega (arith, under most_sections c.sections g.1);
+      few_sections = omega (arith, leb-false most_sections c.sections g.1);
       few_calls = f.few_calls;
     }
 
@@ -99,14 +91,14 @@ passes_few : (c : Counts) (depth : ℕ) (s : Sums) → passes_by c depth s ≡ f
       calls = c.calls + s.calls;
     })
 passes_few c depth s h f =
-    let g = neither _ _ h in
-    let i = neither _ _ g.1 in
-    let j = neither _ _ i.1 in
+    let g = or_parts _ _ h in
+    let i = or_parts _ _ g.1 in
+    let j = or_parts _ _ i.1 in
     record {
-      few_statements = at_most most_statements (c.statements + s.statements) g.0;
-      few_sites = at_most most_sites (c.sites + s.sites) i.0;
+      few_statements = ltb-false most_statements (c.statements + s.statements) g.0;
+      few_sites = ltb-false most_sites (c.sites + s.sites) i.0;
       few_sections = f.few_sections;
-      few_calls = at_most most_calls (c.calls + s.calls) j.0;
+      few_calls = ltb-false most_calls (c.calls + s.calls) j.0;
     }
 
 call_few : (d : Declared) (ls : List Declaration) (inside : Bool) (depth : ℕ) (c : Counts) (x : List ℕ)
@@ -115,12 +107,12 @@ call_few : (d : Declared) (ls : List Declaration) (inside : Bool) (depth : ℕ) 
     → too_many d c (AStatement (CallHead x vs) ls (InThread inside depth)) ≡ false → IsFew c
     → IsFew (after d c (AStatement (CallHead x vs) ls (InThread inside depth)))
 call_few d ls inside depth c x vs clean h f =
-    let known = not_false (is_some (number_of d.procedures x) && knows_operands (seen d ls) vs) clean.known in
+    let known = not-false (is_some (number_of d.procedures x) && knows_operands (seen d ls) vs) clean.known in
     let of_call = sums_of_call d x in
     passes_few c depth of_call
     (last_false _ inside (as_many (procedure_of d.procedures x) vs) (passes_by c depth of_call) known
-    (not_false inside clean.stands)
-    (not_false (as_many (procedure_of d.procedures x) vs) clean.counted) h) f
+    (not-false inside clean.stands)
+    (not-false (as_many (procedure_of d.procedures x) vs) clean.counted) h) f
 
 -- a body of a thread stays within the limits
 mutual
@@ -186,7 +178,7 @@ named_few most item name items d step bound c before (x ∷ xs) w h f =
     let rest = items (before ++ name x ∷ []) xs w in
     let none : NoneBroken d c (first ∷ rest) = subst (NoneBroken d c) (step before x xs w) h in
     let one = length-append before (name x ∷ []) in
-    let here = under most (length before) (sym (bound c before x) ∙ first_few d c first rest none) in
+    let here = leb-false most (length before) (sym (bound c before x) ∙ first_few d c first rest none) in
     let more = named_few most item name items d step bound (after d c first) (before ++ name x ∷ []) xs w
     (next_none d c first rest none) (omega (arith, one, here)) in
     omega (arith, one, more)

@@ -22,26 +22,15 @@ use Rattle.sect_types.specs.steps.Written.{write_parameters, write_locals, writt
 use Rattle.sect_types.specs.steps.Expansion.{Appends, IsPast, table_by, calls_by, view_of, statement_by, block_by}
 use Rattle.sect_types.specs.steps.Expansion.{argument_at, HasRoom, IsExpanding, total_size}
 use Rattle.sect_lemmas.proofs.Elements.{drop_next}
-use Rattle.sect_types.proofs.shared.Joining.{joined_stop, joined_again}
+use Rattle.sect_types.proofs.{shared.Joining.{joined_stop, joined_again}, Passing.{next_of}, Filling.{joined_step}}
 use Rattle.sect_types.proofs.CountLaws.{looked}
 use Rattle.sect_types.specs.declared.expansion.action.Value.TheVariants as value
 use Rattle.sect_types.specs.declared.expansion.action.Action.TheVariants as action
 use Rattle.sect_front.specs.declared.tree.Primitive as leaf
 use Rattle.sect_types.specs.declared.expansion.text.Step.TheVariants as step
 
--- one step more
-pub onto : (t : TextView) (s : Step) (k : TextView) → joined (joined t (step_then s Stop)) k ≡ joined t (step_then s k)
-onto Stop (step.Do a) k = refl
-onto Stop (step.If t p q) k = refl
-onto Stop (step.While t p) k = refl
-onto Stop (step.Section i p) k = refl
-onto (Do a r) s k = ap (Do a) (onto r s k)
-onto (Choose t p q r) s k = ap (Choose t p q) (onto r s k)
-onto (Loop t p r) s k = ap (Loop t p) (onto r s k)
-onto (Section i p r) s k = ap (Section i p) (onto r s k)
-
 pub pushed : (old new : TextView) (s : Step) → new ≡ joined old (step_then s Stop) → Appends old new (step_then s)
-pushed old new s e k = ap (λ t. joined t k) e ∙ onto old s k
+pushed old new s e k = ap (λ t. joined t k) e ∙ joined_step old s k
 
 -- a text of its own
 pub alone : (new e : TextView) → Appends Stop new (joined e) → new ≡ e
@@ -185,10 +174,6 @@ starts t n s first block all at text e room = record {
   past = λ x h. subst (λ b. IsPast at x (block_sums t.procedures (table_by t n) b) (block_sections b)) e h;
   room = subst (λ b. HasRoom at (block_sums t.procedures (table_by t n) b) (block_sections b)) (sym e) room;
 }
-
-next_of : (ss : List Statement) (i : ℕ) (x : Statement) → i < length ss → x ≡ get_or ss i x
-    → block_of (drop i ss) ≡ Then (statement_of x) (block_of (drop (i + 1) ss))
-next_of ss i x h e = ap block_of (drop_next ss i x h e)
 
 goes_on : (t : TreeView) (n : ℕ) (s : Sight) (first : ℕ) (block all : BlockView) (f : StatementView) (rest : BlockView)
     (old now next : NextNumbers) (before text new : TextView)

@@ -7,6 +7,7 @@ use Rattle.sect_graph.specs.{declared.flow.Node.{Node}, Layout.{flow_nodes}}
 use Rattle.sect_places.specs.{Declarations.{record_of}, declared.name_use.NameSpan.{NameSpan}}
 use Rattle.sect_names.specs.{declared.lock.Lock.{Lock}, declared.refusal.SourceRefusal.{SourceRefusal}}
 use Rattle.sect_names.specs.{Printing.{global_name}, Schemes.{SchemeView, guard_of}, Sources.{IsDue}}
+use Rattle.sect_lint.specs.Naming.{found}
 use Rattle.sect_emit.specs.{Compiled.{CompiledView, IsCompiledFrom}, Explaining.{section_at}}
 use Rattle.sect_warnings.specs.Outcomes.{IsOutcome}
 use Rattle.sect_types.specs.declared.expansion.action.Action.TheVariants as action
@@ -39,12 +40,8 @@ abbrev pub declared_by : List NameSpan → Option Record → Option ℕ
 declared_by names None = None
 declared_by names (Some r) = record_of names r.name
 
-abbrev pub name_of_record : List NameSpan → Option ℕ → Option NameSpan
-name_of_record names None = None
-name_of_record names (Some k) = slice_get names k
-
 abbrev pub record_name : List NameSpan → TreeView → ℕ → Option NameSpan
-record_name names t r = name_of_record names (declared_by names (slice_get t.records r))
+record_name names t r = found names (declared_by names (slice_get t.records r))
 
 -- the text with a hint behind the name of a record
 abbrev pub hinted : List ℕ → NameSpan → List ℕ → List ℕ

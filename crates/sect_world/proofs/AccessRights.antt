@@ -1,10 +1,11 @@
 -- What a thread may read and write before and after a step.
 use Rattle.std.proofs.Common.{true≢false, ◌≡◌, ℕ, ◌<◌, List, [], ◌∷◌, ◌++◌, length, Option, Some, None, Bool, true}
 use Rattle.std.proofs.Common.{false, ◌||◌, refl, sym, ap, ◌∙◌, append-nil, if◌then◌else◌, slice_get}
+use Rattle.std.proofs.lemmas.Bool.{or_right}
 use Rattle.sect_modes.specs.declared.mode.Mode.{Mode}
 use Rattle.sect_modes.specs.declared.mode.Mode.TheVariants.{IntentionShared, IntentionExclusive, Shared}
 use Rattle.sect_modes.specs.declared.mode.Mode.TheVariants.{SharedIntentionExclusive, Exclusive}
-use Rattle.sect_modes.specs.{declared.key.Key.{Key}, Key.{is_same_key}, Mode.{is_reading}}
+use Rattle.sect_modes.specs.{Key.{is_same_key}, Mode.{is_reading}}
 use Rattle.sect_types.specs.declared.meaning.store.ObjectName.{ObjectName}
 use Rattle.sect_types.specs.declared.meaning.store.ObjectName.TheVariants.{Global, Made}
 use Rattle.sect_types.specs.Store.{ObjectView, StoreView, same_name, count, object_at}
@@ -14,12 +15,13 @@ use Rattle.sect_emit.specs.ModeTests.{passes, is_reading_object, is_writing}
 use Rattle.sect_world.specs.Events.{guard_at, fresh_grip, grips_of}
 use Rattle.sect_world.specs.Held.{holds_all, class_mode_in, mode_of_class, is_held_at, is_held, guard_or}
 use Rattle.sect_world.specs.Held.{locked_object_at, locked_object, may_read, may_write, may_make_by}
-use Rattle.sect_lemmas.proofs.{Booleans.{or_right}, Options.{mapped}}
-use Rattle.sect_emit.proofs.shared.{Keys.{same_key}, PlanModes.{key_of-injective}, Grips.{held_more, held_one}}
-use Rattle.sect_world.proofs.AllowedChanges.{IsAllowed, sites_stay}
+use Rattle.sect_lemmas.proofs.Options.{mapped}
+use Rattle.sect_emit.proofs.shared.{PlanModes.{key_of-injective}, Grips.{held_more, held_one}}
+use Rattle.sect_world.proofs.{AllowedChanges.{IsAllowed, sites_stay}, Claims.{held-push_other}}
 use Rattle.sect_world.proofs.StepChanges.{is_new, touches, object_at-after, site_stays, global_is_old}
 use Rattle.sect_world.proofs.Holding.{holds_same, holds_append, holding_grows}
 use Rattle.sect_types.proofs.shared.Stores.{same_name-true, same_name-eq}
+use Rattle.sect_modes.proofs.shared.Keys.{same_key}
 use Rattle.sect_modes.specs.declared.key.Key.TheVariants as key
 
 -- the site of an object, if it is there
@@ -114,12 +116,6 @@ other_key t n o e = by (is_same_key (key_of o) (key.Made t n)) refl where
       ∙ e))
   by false is = refl
 
--- a key more doesn't change the modes of others
-held_mode-more : (k : Key) (held : List Grip) (g : Grip) → is_same_key k g.key ≡ false
-    → held_mode k (held ++ g ∷ []) ≡ held_mode k held
-held_mode-more k [] g e = ap (λ b. if b then Some g.mode else None) e
-held_mode-more k (h ∷ held) g e = ap (λ m. if is_same_key k h.key then Some h.mode else m) (held_mode-more k held g e)
-
 -- ---- a change by thread t, which made n objects before
 
 -- the key of a new object is no key of another
@@ -142,9 +138,9 @@ alike_after c t n (Written z f d) held o e =
 alike_after c t n (Added x) held o e = by (guard_at c x.site) where
   by : (g : Option ℕ) → AlikeAt c held (held ++ fresh_grip g t n) o
   by None = record {
-    all = held_mode-more key.All held (grip (key.Made t n) Exclusive) refl;
-    object = held_mode-more (key_of o) held (grip (key.Made t n) Exclusive) (other_key t n o e);
-    classes = λ m. held_mode-more (key.Class m) held (grip (key.Made t n) Exclusive) refl;
+    all = held-push_other key.All (grip (key.Made t n) Exclusive) held refl;
+    object = held-push_other (key_of o) (grip (key.Made t n) Exclusive) held (other_key t n o e);
+    classes = λ m. held-push_other (key.Class m) (grip (key.Made t n) Exclusive) held refl;
   }
   by (Some g) = record {
     all = ap (held_mode key.All) (append-nil held);

@@ -1,11 +1,11 @@
 -- What a table that fits says of the state, and what its calls keep.
 use Rattle.std.proofs.Common.{◌≡◌, ◌≢◌, inl, inr, ℕ, zero, suc, ◌<◌, List, [], ◌∷◌, ◌++◌, length, map, true, false, not}
 use Rattle.std.proofs.Common.{Some, None, refl, sym, ◌∙◌, ap, subst, arith, append_assoc}
-use Rattle.std.proofs.{lemmas.Bool.{eqb-true, eq-eqb, and_parts, cases_Bool}, lemmas.List.{append-nil}}
-use Rattle.std.specs.{Prelude.{ℤ, slice_get, slice_index_or, slice_set, is_some, ◌==◌, ◌||◌}, List.{list_any}}
+use Rattle.std.proofs.{lemmas.Bool.{eqb-true, eq-eqb, and_parts, cases_Bool, ne_eqb}, lemmas.List.{append-nil}}
+use Rattle.std.specs.{Prelude.{ℤ, slice_index_or, slice_set, is_some, ◌==◌, ◌||◌}, List.{list_any}}
 use Rattle.sect_lemmas.specs.Lists.{Has, put_at}
 use Rattle.sect_lemmas.proofs.{Membership.{Has-cases, Has-right}, Options.{some_injective, none_or_some}}
-use Rattle.sect_lemmas.proofs.Replaced.{at-put_at}
+use Rattle.sect_lemmas.proofs.{Replaced.{at-put_at}, Places.{at_of}}
 use Rattle.sect_modes.specs.{declared.mode.Mode.{Mode}, declared.key.Key.{Key}, Key.{is_same_key}}
 use Rattle.sect_table.specs.{declared.claims.Claim.{Claim}, declared.claims.Hold.{Hold}, declared.claims.Grant.{Grant}}
 use Rattle.sect_table.specs.declared.claims.Answer.TheVariants.{Granted, Queued}
@@ -14,12 +14,13 @@ use Rattle.sect_table.specs.Contents.{is_waiting, may_join, held_by, first_of, w
 use Rattle.sect_table.specs.Contents.{let_through, without_holder, grant_of, give, give_all, release_key, release_each}
 use Rattle.sect_table.specs.{Contents.{released, AreApart}, Answers.{IsAnswered}}
 use Rattle.sect_table.specs.Sound.{waits_of, AreEntriesApart, IsKept, IsFirstBlocked}
-use Rattle.sect_table.proofs.shared.Shown.{same_key, key_itself, entry_of-here, entry_of-later}
+use Rattle.sect_table.proofs.shared.Shown.{entry_of-here, entry_of-later}
 use Rattle.sect_table.proofs.shared.Entries.{entry_key, entry-new, entry_of-put, entry_of-put_other}
 use Rattle.sect_table.proofs.shared.Claiming.{apart_left, mode_for-here, mode_for-later, mode_for-missing}
 use Rattle.sect_table.proofs.shared.Claiming.{mode_for-stay_other, missing_stay, missing-claims_by}
 use Rattle.sect_table.proofs.shared.Sounding.{waits_at-le, waits_for_none}
 use Rattle.sect_types.specs.Store.{StoreView}
+use Rattle.sect_modes.proofs.shared.Keys.{same_key, key_itself}
 use Rattle.sect_emit.specs.{Plan.{held_mode}, Compiled.{CompiledView}, State.{Entered, ThreadState, State, IsThread}}
 use Rattle.sect_world.specs.{Events.{Happens}, Runs.{RunsTo}, Blocked.{WantsFirst, IsBlocked}}
 use Rattle.sect_world.specs.Waiting.{grips, Asks, AllWaitersAsk}
@@ -27,9 +28,6 @@ use Rattle.sect_world.specs.steps.Fits.{Fits, FitsBut, granted, all_granted, tak
 use Rattle.sect_world.specs.steps.Fits.{grants_of, entries_left, takes_first}
 use Rattle.sect_world.proofs.Claims.{held-grips, in_the_way, not_claiming, get-changed_other}
 use Rattle.sect_world.proofs.Letting.{take_happens, keys_let_in}
-
-off_of : (a b : ℕ) → a ≢ b → (a == b) ≡ false
-off_of a b ne = elim (cases_Bool (a == b)) [ inl e ↦ absurd (ne (eqb-true a b e)) | inr e ↦ e ]
 
 -- who is among claims has one of them
 among_has : (t : ℕ) (cs : List Claim) → is_among t cs ≡ true → (c : Claim) × Has cs c × (c.thread ≡ t)
@@ -81,7 +79,7 @@ mode_of_claim (d ∷ ds) c a (inl same) =
     mode_for-here c.thread d ds (eq-eqb d.thread c.thread (ap (λ (z : Claim). z.thread) same))
     ∙ ap (λ (z : Claim). Some z.mode) same
 mode_of_claim (d ∷ ds) c a (inr h) =
-    mode_for-later c.thread d ds (off_of d.thread c.thread (λ e. not_claiming d.thread ds a.0 c h (sym e)))
+    mode_for-later c.thread d ds (ne_eqb d.thread c.thread (λ e. not_claiming d.thread ds a.0 c h (sym e)))
     ∙ mode_of_claim ds c a.1 h
 
 -- who holds a key is a thread
@@ -90,11 +88,6 @@ holder_there : (held : List (List Hold)) (u : ℕ) (k : Key) (m : Mode) → mode
 holder_there [] u k m e = absurd (none_or_some m e)
 holder_there (x ∷ xs) zero k m e = omega arith
 holder_there (x ∷ xs) (suc u) k m e = let r = holder_there xs u k m e in omega arith
-
-thread_there : (xs : List ThreadState) (u : ℕ) → u < length xs → (x : ThreadState) × (slice_get xs u ≡ Some x)
-thread_there [] u lt = absurd (omega arith)
-thread_there (x ∷ xs) zero lt = (x, refl)
-thread_there (x ∷ xs) (suc u) lt = thread_there xs u (omega arith)
 
 -- the mode in which the machine has a thread's key is the table's
 pub table_tells : (c : Contents) (s : State) → IsKept c → Fits c s → (u : ℕ) (th : ThreadState) → IsThread s u th
@@ -115,7 +108,7 @@ holder_of c s kept f k h there =
     (apart_left (entry_of k c.entries).holders (entry_of k c.entries).waiters (kept.sound.apart k)) there in
     let within : h.thread < length c.held =
     holder_there c.held h.thread k h.mode (kept.sound.agree h.thread k ∙ mode) in
-    let x = thread_there s.threads h.thread (subst (λ n. h.thread < n) f.as_many within) in
+    let x = at_of s.threads h.thread (subst (λ n. h.thread < n) f.as_many within) in
     record { thread = x.0; at = x.1; mode = table_tells c s kept f h.thread x.0 x.1 k ∙ mode }
 
 -- who waits in the table asks in the machine
@@ -271,7 +264,7 @@ out_fits c s t th store output kept f idle empty = record {
         ∙ sym (ap (λ z. mode_for z (stay t (entry_of k c.entries).holders)) (sym same.0)
         ∙ mode_for-missing t (stay t (entry_of k c.entries).holders) (missing_stay t (entry_of k c.entries).holders)))
     | inr other ↦ table_tells c s kept f u x other.1 k
-        ∙ sym (mode_for-stay_other u t (entry_of k c.entries).holders (off_of u t (λ e. other.0 (sym e))))
+        ∙ sym (mode_for-stay_other u t (entry_of k c.entries).holders (ne_eqb u t (λ e. other.0 (sym e))))
   ];
   waits = others_ask t c.entries s (record { store = store; output = output; threads = put_at t th s.threads })
       (waits_for_none t c.entries idle) (put_keeps s t th store output) f.waits;

@@ -1,30 +1,22 @@
 -- Small facts on holds, claims and threads.
-use Rattle.std.proofs.Common.{◌≡◌, ◌≢◌, ◌⊎◌, inl, inr, ℕ, zero, suc, List, [], ◌∷◌, ◌++◌, Bool, true, false, not}
+use Rattle.std.proofs.Common.{◌≡◌, ◌≢◌, ◌⊎◌, inl, inr, ℕ, zero, suc, List, [], ◌∷◌, ◌++◌, Bool, true, false}
 use Rattle.std.proofs.Common.{Option, Some, None, refl, sym, ◌∙◌, ap, subst, arith}
-use Rattle.std.proofs.lemmas.Bool.{eqb-true, eq-eqb, and_parts, cases_Bool}
-use Rattle.std.specs.{Prelude.{slice_get, ◌==◌, ◌||◌, ◌&&◌, if◌then◌else◌}, List.{list_all}}
+use Rattle.std.proofs.lemmas.Bool.{eqb-true, eq-eqb, and_parts, cases_Bool, or_parts}
+use Rattle.std.specs.Prelude.{slice_get, ◌==◌, ◌||◌, ◌&&◌, if◌then◌else◌}
 use Rattle.sect_lemmas.specs.{Lists.{Has, changed_at}, Numbers.{same_number}}
 use Rattle.sect_modes.specs.{declared.mode.Mode.{Mode}, declared.key.Key.{Key}, Key.{is_same_key}}
 use Rattle.sect_modes.specs.Mode.{are_compatible}
 use Rattle.sect_table.specs.{declared.claims.Claim.{Claim}, declared.claims.Hold.{Hold}}
-use Rattle.sect_table.specs.Contents.{mode_in, mode_for, may_join, is_among, stay}
-use Rattle.sect_table.proofs.shared.Shown.{key_itself, same_key as key_of_test}
+use Rattle.sect_table.specs.Contents.{mode_in, mode_for, may_join, is_among}
 use Rattle.sect_table.proofs.shared.Claiming.{true_or_false, mode_in-here, mode_in-later, mode_for-here, mode_for-later}
 use Rattle.sect_emit.specs.{declared.plan.Grip.{Grip}, Plan.{grip, held_mode}}
 use Rattle.sect_world.specs.{Events.{all_but, lets}, Waiting.{grips}}
-use Rattle.sect_lemmas.proofs.Options.{some_injective, none_or_some, mapped}
-use Rattle.sect_lemmas.proofs.{Replaced.{get-changed_at, same_number-true, same_number-refl}, Booleans.{neither}}
-
--- keys, the other way
-pub other_key : (a b : Key) → is_same_key a b ≡ false → is_same_key b a ≡ false
-other_key a b e = elim (cases_Bool (is_same_key b a)) [
-  | inl same ↦ absurd (true_or_false (is_same_key a b)
-      (subst (λ z. is_same_key a z ≡ true) (sym (key_of_test b a same)) (key_itself a)) e)
-  | inr other ↦ other
-]
+use Rattle.sect_lemmas.proofs.{Options.{some_injective, none_or_some, mapped}, Places.{all_pass}}
+use Rattle.sect_lemmas.proofs.Replaced.{get-changed_at, same_number-true, same_number-refl}
+use Rattle.sect_modes.proofs.shared.Keys.{key_itself, other_key, same_key}
 
 pub this_key : (a b : Key) → is_same_key a b ≡ true → is_same_key b a ≡ true
-this_key a b e = subst (λ z. is_same_key z a ≡ true) (key_of_test a b e) (key_itself a)
+this_key a b e = subst (λ z. is_same_key z a ≡ true) (same_key a b e) (key_itself a)
 
 -- the mode of a key among grips
 pub held-here : (k : Key) (g : Grip) (gs : List Grip) → is_same_key k g.key ≡ true → held_mode k (g ∷ gs) ≡ Some g.mode
@@ -42,6 +34,7 @@ held-grips k (h ∷ hs) = elim (cases_Bool (is_same_key k h.key)) [
       ∙ (held-grips k hs ∙ sym (mode_in-later k h hs (other_key k h.key later)))
 ]
 
+-- one more grip doesn't change the modes of other keys
 pub held-push_other : (k : Key) (g : Grip) (gs : List Grip) → is_same_key k g.key ≡ false
     → held_mode k (gs ++ g ∷ []) ≡ held_mode k gs
 held-push_other k g [] e = held-later k g [] e
@@ -94,7 +87,7 @@ pub in_the_way : (hs : List Claim) (t : ℕ) (m : Mode) → may_join hs t m ≡ 
 in_the_way [] t m e = absurd (let off : true ≡ false = e in cc)
 in_the_way (h ∷ hs) t m e = elim (and_false ((h.thread == t) || are_compatible h.mode m) (may_join hs t m) e) [
   | inl off ↦
-      let both = neither (h.thread == t) (are_compatible h.mode m) off in
+      let both = or_parts (h.thread == t) (are_compatible h.mode m) off in
       record {
         who = h;
         there = inl refl;
@@ -108,19 +101,13 @@ in_the_way (h ∷ hs) t m e = elim (and_false ((h.thread == t) || are_compatible
 ]
 
 -- the test of all other threads
-list_all_of : {X : Type 0} (test : X → Bool) (xs : List X) → ((u : ℕ) (x : X) → slice_get xs u ≡ Some x → test x ≡ true)
-    → list_all test xs ≡ true
-list_all_of test [] f = refl
-list_all_of test (x ∷ xs) f = ap (λ b. b && list_all test xs) (f 0 x refl)
-    ∙ list_all_of test xs (λ u y e. f (suc u) y e)
-
 suc_apart : (u n : ℕ) → u ≢ n → suc u ≢ suc n
 suc_apart u n ne e = ne (omega (arith, e))
 
 pub all_but_of : {X : Type 0} (n : ℕ) (test : X → Bool) (xs : List X)
     → ((u : ℕ) (x : X) → slice_get xs u ≡ Some x → u ≢ n → test x ≡ true) → all_but n test xs ≡ true
 all_but_of n test [] f = refl
-all_but_of zero test (x ∷ xs) f = list_all_of test xs (λ u y e. f (suc u) y e (λ z. omega (arith, z)))
+all_but_of zero test (x ∷ xs) f = all_pass test xs (λ u y e. f (suc u) y e (λ z. omega (arith, z)))
 all_but_of (suc n) test (x ∷ xs) f = ap (λ b. b && all_but n test xs) (f 0 x refl (λ z. omega (arith, z)))
     ∙ all_but_of n test xs (λ u y e ne. f (suc u) y e (suc_apart u n ne))
 
@@ -153,12 +140,6 @@ changed-put (suc n) g (y ∷ ys) x e = ap (λ zs. y ∷ zs) (changed-put n g ys 
 pub not_claiming : (t : ℕ) (cs : List Claim) → is_among t cs ≡ false → (c : Claim) → Has cs c → c.thread ≢ t
 not_claiming t (d ∷ ds) e c (inl same) =
     λ own. true_or_false (d.thread == t) (eq-eqb d.thread t (ap (λ (z : Claim). z.thread) same ∙ own))
-    (neither (d.thread == t) (is_among t ds) e).0
-not_claiming t (d ∷ ds) e c (inr h) = not_claiming t ds (neither (d.thread == t) (is_among t ds) e).1 c h
+    (or_parts (d.thread == t) (is_among t ds) e).0
+not_claiming t (d ∷ ds) e c (inr h) = not_claiming t ds (or_parts (d.thread == t) (is_among t ds) e).1 c h
 not_claiming t [] e c h = absurd h
-
-pub stay-missing : (t : ℕ) (cs : List Claim) → is_among t cs ≡ false → stay t cs ≡ cs
-stay-missing t [] e = refl
-stay-missing t (c ∷ cs) e =
-    let both = neither (c.thread == t) (is_among t cs) e in
-    ap (λ b. if not b then c ∷ stay t cs else stay t cs) both.0 ∙ ap (λ z. c ∷ z) (stay-missing t cs both.1)

@@ -15,7 +15,7 @@ use Rattle.sect_world.specs.declared.event.Event.{Event}
 use Rattle.sect_world.specs.Events.{all_but, lets_in, IsOver, entering, taking, beginning, giving_back, with_frame}
 use Rattle.sect_world.specs.{Events.{after_act, after_leave, step_in, MayDo, Happens}, Runs.{RunsTo}}
 use Rattle.sect_lemmas.proofs.Options.{some_injective, none_or_some}
-use Rattle.sect_emit.proofs.shared.Keys.{same_key, key_itself}
+use Rattle.sect_modes.proofs.shared.Keys.{same_key, key_itself}
 use Rattle.sect_modes.specs.declared.mode.Mode.TheVariants as mode
 
 abbrev same_mode : Mode → Mode → Bool

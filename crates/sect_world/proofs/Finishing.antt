@@ -1,10 +1,10 @@
 -- How the threads of a world have ended.
-use Rattle.std.proofs.Common.{◌≡◌, ℕ, zero, suc, List, [], ◌∷◌, length, map, true, Option, Some, None, refl, sym, ◌∙◌}
-use Rattle.std.proofs.{Common.{ap, subst, arith, false, Bool}, lemmas.Bool.{and_parts, and_from}}
+use Rattle.std.proofs.Common.{◌≡◌, ℕ, suc, List, [], ◌∷◌, length, map, true, Option, Some, None, refl, sym, ◌∙◌}
+use Rattle.std.proofs.Common.{ap, subst, arith, false}
 use Rattle.std.specs.{Prelude.{slice_get}, List.{list_all}}
 use Rattle.sect_types.specs.{declared.meaning.store.End.{End}, Statements.{TextView}}
 use Rattle.sect_types.specs.Whole.{SerialEndView, RunsWhole, has_ended}
-use Rattle.sect_lemmas.proofs.Options.{some_injective, none_or_some}
+use Rattle.sect_lemmas.proofs.Places.{each_passes, all_pass}
 use Rattle.sect_table.specs.declared.claims.Hold.{Hold}
 use Rattle.sect_emit.specs.{Compiled.{CompiledView, IsCompiled, program_of}, State.{ThreadState, State}}
 use Rattle.sect_world.specs.{declared.event.Event.{Event}, declared.runner.Runner.{Runner}}
@@ -22,21 +22,6 @@ runners_end c (text ∷ texts) (r ∷ rs) [] m n = absurd (omega (arith, n))
 runners_end c (text ∷ texts) (r ∷ rs) (hs ∷ held) m n =
     ap (λ es. r.ended ∷ es) (runners_end c texts rs held (omega (arith, m)) (omega (arith, n)))
 
--- what all of a list pass, each of it passes
-pub passes : {X : Type 0} (test : X → Bool) (xs : List X) → list_all test xs ≡ true → (t : ℕ) (x : X)
-    → slice_get xs t ≡ Some x → test x ≡ true
-passes test [] all t x at = absurd (none_or_some x at)
-passes test (y ∷ ys) all zero x at =
-    subst (λ z. test z ≡ true) (some_injective y x at) (and_parts (test y) (list_all test ys) all).0
-passes test (y ∷ ys) all (suc t) x at = passes test ys (and_parts (test y) (list_all test ys) all).1 t x at
-
--- and the other way round
-pub all_pass : {X : Type 0} (test : X → Bool) (xs : List X)
-    → ((t : ℕ) (x : X) → slice_get xs t ≡ Some x → test x ≡ true) → list_all test xs ≡ true
-all_pass test [] each = refl
-all_pass test (y ∷ ys) each = and_from (test y) (list_all test ys) (each 0 y refl)
-    (all_pass test ys (λ t. each (suc t)))
-
 -- all threads have ended where all runners have
 pub threads_ended : (c : CompiledView) (texts : List TextView) (rs : List Runner) (held : List (List Hold))
     → list_all (λ (r : Runner). has_ended r.ended) rs ≡ true
@@ -44,7 +29,7 @@ pub threads_ended : (c : CompiledView) (texts : List TextView) (rs : List Runner
 threads_ended c texts rs held all t th at =
     let s = seen c texts rs held t th at in
     ap (λ (z : ThreadState). has_ended z.frame.ended) s.is
-    ∙ passes (λ (r : Runner). has_ended r.ended) rs all t s.runner s.runner_at
+    ∙ each_passes (λ (r : Runner). has_ended r.ended) rs all t s.runner s.runner_at
 
 pub runners_ended : (c : CompiledView) (texts : List TextView) (rs : List Runner) (held : List (List Hold))
     → length rs ≡ length texts → length held ≡ length texts

@@ -1,6 +1,6 @@
 -- What a thread has secured of a text allows the access of its first statement.
 use Rattle.std.proofs.Common.{◌≡◌, inl, inr, ℕ, zero, suc, List, true, Option, Some, None, refl, sym, ap, ◌∙◌, subst}
-use Rattle.std.proofs.lemmas.Bool.{or_cases}
+use Rattle.std.proofs.lemmas.Bool.{or_cases, or_left, or_right}
 use Rattle.sect_types.specs.{declared.expansion.action.Base.{Base}, declared.expansion.action.Action.{Action}}
 use Rattle.sect_types.specs.Statements.{TextView, Stop, Do, Choose, Loop, Section}
 use Rattle.sect_types.specs.{declared.meaning.store.ObjectName.{ObjectName}, declared.meaning.store.Datum.{Datum}}
@@ -19,7 +19,6 @@ use Rattle.sect_modes.specs.{declared.mode.Mode.TheVariants.{IntentionExclusive}
 use Rattle.sect_world.specs.Held.{holds_all, mode_of_class, class_mode_in, is_held, locked_object, guard_or, may_write}
 use Rattle.sect_world.specs.Held.{may_make, may_make_by, Access, Loading, Storing, Making, may, load_of, store_of}
 use Rattle.sect_world.specs.{Held.{access_of, if_paid, access_in}, Secured.{may_by, Secured, AllSecured}}
-use Rattle.sect_lemmas.proofs.Booleans.{or_left, or_right}
 use Rattle.sect_world.proofs.{Holding.{locked_is}, MetPlans.{guard_of_site, guard_is_there, guard_or_itself}}
 use Rattle.sect_types.specs.declared.expansion.action.Base.TheVariants as base
 use Rattle.sect_types.specs.declared.expansion.action.Action.TheVariants as action

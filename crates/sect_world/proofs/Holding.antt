@@ -1,6 +1,6 @@
 -- Who holds enough for an access: what it is, and that it only grows.
 use Rattle.std.proofs.Common.{◌≡◌, ◌⊎◌, inl, inr, ℕ, List, ◌++◌, Bool, true, ◌||◌, Option, Some, None, refl, sym, ap}
-use Rattle.std.proofs.{Common.{◌∙◌, subst}, lemmas.Bool.{or_cases, false≢true}}
+use Rattle.std.proofs.{Common.{◌∙◌, subst}, lemmas.Bool.{or_cases, false≢true, or_left, or_right}}
 use Rattle.std.specs.Prelude.{slice_get}
 use Rattle.sect_names.specs.declared.lock.Effect.{Effect}
 use Rattle.sect_modes.specs.{declared.mode.Mode.{Mode}, declared.key.Key.{Key}, Mode.{is_reading}}
@@ -10,7 +10,6 @@ use Rattle.sect_emit.specs.{ModeTests.{passes, is_reading_object, is_writing}, P
 use Rattle.sect_world.specs.Events.{guard_at}
 use Rattle.sect_world.specs.Held.{holds_all, class_mode_in, mode_of_class, is_held_at, is_held, guard_or}
 use Rattle.sect_world.specs.{Held.{locked_object_at, locked_object}, Secured.{may_by}}
-use Rattle.sect_lemmas.proofs.Booleans.{or_left, or_right}
 use Rattle.sect_emit.proofs.shared.{Modes.{met_mode}, Grips.{held_append}}
 use Rattle.sect_names.specs.declared.lock.Effect.TheVariants as effect
 use Rattle.sect_modes.specs.declared.key.Key.TheVariants as key

@@ -2,7 +2,8 @@
 use Rattle.std.proofs.Common.{◌≡◌, ◌≢◌, ℕ, zero, suc, ◌<◌, Bool, true, false, refl, sym, ap, ◌∙◌, subst, ◌⊎◌, inl, inr}
 use Rattle.std.proofs.Common.{⊎_elim, List, [], ◌∷◌, ◌++◌, length, Option, Some, None, true≢false, arith, append_assoc}
 use Rattle.std.proofs.{Common.{append-nil}, lemmas.Option.{slice_get_within, slice_get-get_or}, lemmas.Bool.{and_parts}}
-use Rattle.std.specs.{Prelude.{slice_get, slice_index_or, map, ⊤, ℤ, if◌then◌else◌}, List.{list_all}}
+use Rattle.std.proofs.lemmas.List.{length-map}
+use Rattle.std.specs.Prelude.{slice_get, slice_index_or, ⊤, ℤ, if◌then◌else◌}
 use Rattle.sect_lemmas.specs.Lists.{Has, put_at}
 use Rattle.sect_types.specs.Statements.{TextView, Stop, Do, Choose, Loop, Section}
 use Rattle.sect_types.specs.{Sections.{SectionView, sections_of}, Programs.{environment_at, sites_of}}
@@ -12,7 +13,7 @@ use Rattle.sect_types.specs.declared.meaning.store.Datum.{Datum}
 use Rattle.sect_types.specs.declared.meaning.store.Datum.TheVariants.{Number, Null, Refers}
 use Rattle.sect_types.specs.{declared.meaning.store.Fault.{Fault}, Store.{ObjectView, StoreView, object_at, count}}
 use Rattle.sect_types.specs.Meaning.{WorkView, Change, Unchanged, Written, Added, after_change, Next, On, Off, next}
-use Rattle.sect_types.specs.Whole.{FrameView, settled, failed, frame_after, local_step, first_store, first_work}
+use Rattle.sect_types.specs.Whole.{settled, failed, frame_after, local_step, first_store, first_work}
 use Rattle.sect_types.specs.Whole.{first_frames}
 use Rattle.sect_points.specs.{Paths.{PathView, var, dot, PathHas}, Sets.{InSets}}
 use Rattle.sect_names.specs.{declared.lock.Lock.{Lock}, declared.lock.Effect.{Effect}}
@@ -34,9 +35,9 @@ use Rattle.sect_world.specs.{Events.{IsOver, MayDo}, Runs.{RunsTo, IsRun}}
 use Rattle.sect_world.specs.Kept.{IsPlaced, AsksInOrder, IsTextOf, IsObject, IsStoreKept, IsWorkKept, AreGripsKept}
 use Rattle.sect_world.specs.Kept.{AreApart, HaveTheirClass, IsAt, IsThreadKept, AreCompatible, IsWellKept, HoldsClassOf}
 use Rattle.sect_world.specs.Held.{class_mode_in, mode_of_class}
-use Rattle.sect_lemmas.proofs.Options.{some_injective, none_or_some}
+use Rattle.sect_lemmas.proofs.{Options.{some_injective, none_or_some}, Places.{each_passes}}
 use Rattle.sect_lemmas.proofs.Replaced.{at-put_at, length-changed_at, slice_get-map}
-use Rattle.sect_emit.proofs.shared.{Keys.{same_key, key_itself, not_below_itself}, Modes.{sharing_turned}}
+use Rattle.sect_emit.proofs.shared.{Keys.{not_below_itself}, Modes.{sharing_turned}}
 use Rattle.sect_emit.proofs.shared.Grips.{held_split}
 use Rattle.sect_emit.proofs.shared.Plans.{mode_is_there, ascending_mode, ascends_left, ascends_right}
 use Rattle.sect_emit.proofs.shared.PlanModes.{plan_object, plan_object_mode, plan_holds_the_classes, key_of-injective}
@@ -50,6 +51,7 @@ use Rattle.sect_types.proofs.shared.Starts.{first_frame, first_frames-length, se
 use Rattle.sect_types.proofs.shared.TypedPrograms.{program_sound, program_numbered}
 use Rattle.sect_names.proofs.shared.Sounding.{path_there}
 use Rattle.sect_points.proofs.shared.ClassLaws.{path_classes}
+use Rattle.sect_modes.proofs.shared.Keys.{same_key, key_itself}
 use Rattle.sect_points.specs.declared.holders.Variable.TheVariants as variable
 use Rattle.sect_points.specs.declared.holders.Holder.TheVariants as holder
 use Rattle.sect_names.specs.declared.lock.Lock.TheVariants as lock
@@ -213,17 +215,11 @@ failed_stands : (why : Fault) (k : TextView) (w : WorkView) → (failed why k w)
     → (failed why k w).text ≢ Stop
 failed_stands why k w e = absurd (none_or_some _ (sym e))
 
-all_pass : {X : Type 0} (u : ℕ) (test : X → Bool) (xs : List X) (x : X) → list_all test xs ≡ true
-    → slice_get xs u ≡ Some x → test x ≡ true
-all_pass u test [] x e at = absurd (none_or_some x at)
-all_pass zero test (y ∷ xs) x e at = ap test (sym (some_injective y x at)) ∙ (and_parts (test y) (list_all test xs) e).0
-all_pass (suc u) test (y ∷ xs) x e at = all_pass u test xs x (and_parts (test y) (list_all test xs) e).1 at
-
 all_others : {X : Type 0} (t u : ℕ) (test : X → Bool) (xs : List X) (x : X) → all_but t test xs ≡ true → t ≢ u
     → slice_get xs u ≡ Some x → test x ≡ true
 all_others t u test [] x e apart at = absurd (none_or_some x at)
 all_others zero zero test (y ∷ xs) x e apart at = absurd (apart refl)
-all_others zero (suc u) test (y ∷ xs) x e apart at = all_pass u test xs x e at
+all_others zero (suc u) test (y ∷ xs) x e apart at = each_passes test xs e u x at
 all_others (suc t) zero test (y ∷ xs) x e apart at = ap test (sym (some_injective y x at))
     ∙ (and_parts (test y) (all_but t test xs) e).0
 all_others (suc t) (suc u) test (y ∷ xs) x e apart at =
@@ -679,16 +675,12 @@ module _ (c : CompiledView) (is : IsCompiled c) where
 
   start_kept : (fuel : ℕ) → IsWellKept c (start c fuel)
   start_kept fuel = record {
-    as_many = many (first_frames fuel (program_of c).texts (program_of c).locals)
+    as_many = length-map (first_frames fuel (program_of c).texts (program_of c).locals) outside
         ∙ first_frames-length fuel (program_of c).texts (program_of c).locals;
     store = first_store_kept c;
     threads = threads;
     compatible = compatible;
   } where
-    many : (fs : List FrameView) → length (map outside fs) ≡ length fs
-    many [] = refl
-    many (f ∷ fs) = ap suc (many fs)
-
     threads : (t : ℕ) (th : ThreadState) → IsThread (start c fuel) t th
         → IsThreadKept c (first_store (program_of c)) t th
     threads t th at =

@@ -10,7 +10,7 @@ use Rattle.sect_lemmas.proofs.Replaced.{length-changed_at, length-put_at, put_ot
 use Rattle.sect_table.specs.{declared.claims.Hold.{Hold}, declared.claims.Grant.{Grant}}
 use Rattle.sect_table.specs.Contents.{Contents, give, hold_of, held_by, is_waiting, released}
 use Rattle.sect_table.specs.Sound.{IsKept as IsTableKept}
-use Rattle.sect_emit.specs.{Plan.{grip}, Compiled.{CompiledView, program_of}}
+use Rattle.sect_emit.specs.{Plan.{grip}, Compiled.{CompiledView, program_of}, Graphed.{text_at}}
 use Rattle.sect_emit.specs.State.{Entered, Outside, Position, ThreadState, State, IsThread, start, with_thread}
 use Rattle.sect_world.specs.{declared.event.Deed.{Deed}, declared.event.Deed.TheVariants.{Again, Leave}}
 use Rattle.sect_world.specs.{declared.event.Event.{Event}, declared.runner.Runner.{Runner}}
@@ -19,14 +19,15 @@ use Rattle.sect_world.specs.{Runs.{RunsTo, order_of, leaver}, Kept.{IsPlaced}}
 use Rattle.sect_world.specs.declared.turned.Turned.TheVariants.{Moved}
 use Rattle.sect_world.specs.Worlds.{AreTakesOfOthers, MayFollow, kind_of, threads_of as threads_in}
 use Rattle.sect_world.specs.Waiting.{AllWaitersAsk}
-use Rattle.sect_world.specs.Viewing.{text_at, position_of, frame_of, thread_of, threads_of, state_of, IsSited, IsWorld}
+use Rattle.sect_world.specs.Viewing.{position_of, frame_of, thread_of, threads_of, state_of, IsSited, IsWorld}
 use Rattle.sect_world.specs.steps.Fits.{Fits, takes_first, all_granted, takes, given_to, grants_of}
 use Rattle.sect_world.specs.steps.Taking.{CanAdvance, advanced, advanced_at, all_advanced, takers}
 use Rattle.sect_world.proofs.Agreeing.{ReleaseLeads, no_waiter, out_fits, release_leads, released_as}
-use Rattle.sect_world.proofs.{Claims.{changed-put}, KeptStates.{runs_are_well_kept}, Letting.{taken, leads_append}}
+use Rattle.sect_world.proofs.{Claims.{changed-put}, KeptStates.{runs_are_well_kept}, Letting.{taken}}
 use Rattle.sect_world.proofs.LongerRuns.{order_of-append}
 use Rattle.sect_world.proofs.Viewing.{Seen, seen, state_granted, states_granted, replaced_threads, world_fits}
 use Rattle.sect_world.proofs.Viewing.{each_advanced, first_dropped, TurnsInto}
+use Rattle.sect_world.proofs.shared.LongerRuns.{leads_on}
 use Rattle.sect_world.specs.declared.runner.Phase.TheVariants as phase
 
 length-advanced : (gs : List Grant) (rs : List Runner) → length (all_advanced gs rs) ≡ length rs
@@ -136,7 +137,7 @@ gives_back c fuel trace order store output output' rs table w t d text th r text
       (λ e. not_entered (sym (ap (position_of c) out) ∙ e));
   world = λ table' held entries kept. record {
     compiled = w.compiled;
-    run = leads_append c (start c fuel) s (state_of c store output' (all_advanced gs (put_at t r rs)) table'.held) trace
+    run = leads_on c (start c fuel) s (state_of c store output' (all_advanced gs (put_at t r rs)) table'.held) trace
         (e ∷ takes gs) w.run (runs table' held);
     ordered = ap (λ z. z ++ leaver t d) w.ordered
         ∙ (ap (λ z. order_of trace ++ z)

@@ -1,29 +1,31 @@
 -- The grants of a release are `take` events that may happen one after another.
 use Rattle.std.proofs.Common.{◌≡◌, ◌≢◌, ◌⊎◌, inl, inr, ℕ, ◌+◌, ◌≤◌, List, [], ◌∷◌, ◌++◌, length, map, drop, true, false}
 use Rattle.std.proofs.Common.{Some, None, refl, sym, ◌∙◌, ap, subst, arith, append_assoc}
-use Rattle.std.proofs.{lemmas.Bool.{eqb-true, eq-eqb, cases_Bool}, lemmas.List.{append-nil, map-append}}
+use Rattle.std.proofs.lemmas.List.{append-nil, map-append}
+use Rattle.std.proofs.lemmas.Bool.{cases_eq, eqb-true, eq-eqb, cases_Bool, or_parts}
 use Rattle.std.specs.Prelude.{slice_get, ◌==◌}
 use Rattle.sect_lemmas.specs.Lists.{Has, changed_at}
 use Rattle.sect_modes.specs.{declared.mode.Mode.{Mode}, declared.key.Key.{Key}, Key.{is_same_key}}
 use Rattle.sect_table.specs.{declared.claims.Claim.{Claim}, declared.claims.Hold.{Hold}, declared.claims.Grant.{Grant}}
 use Rattle.sect_table.specs.Contents.{Entry, entry_of, put, mode_for, stay, is_among, may_join, let_in, let_through}
 use Rattle.sect_table.specs.{Contents.{without_holder, grant_of, AreApart}, Sound.{waits_of, claims_by}}
-use Rattle.sect_table.proofs.shared.Shown.{same_key, key_itself}
 use Rattle.sect_table.proofs.shared.Entries.{entry_key, entry_of-put, entry_of-put_other, put-put}
 use Rattle.sect_table.proofs.shared.Claiming.{true_or_false, among-append, among_append, among_one, apart_swap}
 use Rattle.sect_table.proofs.shared.Claiming.{apart_stay, mode_for-missing, mode_for-push, mode_for-push_other}
-use Rattle.sect_table.proofs.shared.Claiming.{missing_stay, missing-claims_by, claims_by-drop}
+use Rattle.sect_table.proofs.shared.Claiming.{missing_stay, missing-claims_by, claims_by-drop, stay-missing}
 use Rattle.sect_table.proofs.shared.Sounding.{put_all, waits_of-put, waits_at-le}
 use Rattle.sect_table.proofs.shared.Passing.{let_through-yes, let_through-no}
 use Rattle.sect_emit.specs.{declared.plan.Grip.{Grip}, Plan.{grip, held_mode}, Compiled.{CompiledView}}
 use Rattle.sect_emit.specs.State.{ThreadState, State, IsThread}
-use Rattle.sect_world.specs.{declared.event.Event.{Event}, Events.{taking, lets_in, all_but, Happens}, Runs.{RunsTo}}
+use Rattle.sect_world.specs.{Events.{taking, lets_in, all_but, Happens}, Runs.{RunsTo}}
 use Rattle.sect_world.specs.Waiting.{Asks}
-use Rattle.sect_lemmas.proofs.{Options.{some_injective}, Booleans.{neither}}
+use Rattle.sect_lemmas.proofs.Options.{some_injective}
+use Rattle.sect_modes.proofs.shared.Keys.{same_key, key_itself}
 use Rattle.sect_world.specs.steps.Fits.{FitsBut, takes_first, granted, all_granted, take_of, takes, grants_at}
 use Rattle.sect_world.specs.steps.Fits.{entries_after, grants_of, entries_left}
 use Rattle.sect_world.proofs.Claims.{held-push, held-push_other, joins, all_but_of, lets_of, get-changed_other}
-use Rattle.sect_world.proofs.Claims.{get-changed_here, changed-put, not_claiming, stay-missing}
+use Rattle.sect_world.proofs.Claims.{get-changed_here, changed-put, not_claiming}
+use Rattle.sect_world.proofs.shared.LongerRuns.{leads_on}
 
 abbrev entry : Key → List Claim → List Claim → Entry
 entry k hs ws = record { key = k; holders = hs; waiters = ws }
@@ -77,15 +79,9 @@ record Was (s : State) (g : Grant) (u : ℕ) (th : ThreadState) : Type 0 where
   at : IsThread s u old
   is : ((u ≡ g.thread) × (th.held ≡ old.held ++ grip g.key g.mode ∷ [])) ⊎ ((u ≢ g.thread) × (th.held ≡ old.held))
 
-number_cases : (u t : ℕ) → (u ≡ t) ⊎ (u ≢ t)
-number_cases u t = elim (cases_Bool (u == t)) [
-  | inl e ↦ inl (eqb-true u t e)
-  | inr e ↦ inr (λ same. true_or_false (u == t) (eq-eqb u t same) e)
-]
-
 was : (s : State) (g : Grant) (a : Asks s g.thread g.key g.mode) (u : ℕ) (th : ThreadState)
     → IsThread (granted g s) u th → Was s g u th
-was s g a u th at = elim (number_cases u g.thread) [
+was s g a u th at = elim (cases_eq u g.thread) [
   | inl same ↦
       let here : slice_get (changed_at g.thread (takes_first g.key g.mode) s.threads) u ≡ Some
       (takes_first g.key g.mode a.0) =
@@ -252,12 +248,6 @@ grant_fits t es s k hs w ws f out ne is = put_fits t k (entry k (hs ++ w ∷ [])
   o : FirstOut es k hs w ws
   o = first_out t es s k hs w ws f is
 
--- the events, one after another
-pub leads_append : (c : CompiledView) (s between after : State) (xs ys : List Event) → RunsTo c s xs between
-    → RunsTo c between ys after → RunsTo c s (xs ++ ys) after
-leads_append c s between after [] ys a b = subst (λ z. RunsTo c z ys after) (sym a) b
-leads_append c s between after (x ∷ xs) ys a b = (a.0, a.1, leads_append c a.0 between after xs ys a.2 b)
-
 pub granted-append : (xs ys : List Grant) (s : State) → all_granted (xs ++ ys) s ≡ all_granted ys (all_granted xs s)
 granted-append [] ys s = refl
 granted-append (x ∷ xs) ys s = granted-append xs ys (granted x s)
@@ -321,7 +311,7 @@ through c t k (w ∷ ws) hs es s f out away is =
     by (λ hs1 es1 s1 f1 out1 away1 is1. through c t k ws hs1 es1 s1 f1 out1 away1 is1)
     (cases_Bool (may_join hs w.thread w.mode)) where
       off : ((w.thread == t) ≡ false) × (is_among t ws ≡ false)
-      off = neither (w.thread == t) (is_among t ws) away
+      off = or_parts (w.thread == t) (is_among t ws) away
 
       other : w.thread ≢ t
       other e = true_or_false (w.thread == t) (eq-eqb w.thread t e) off.0
@@ -412,7 +402,7 @@ keys_let_in c t (h ∷ hs) es s f none =
     let same : all_granted (gs ++ more) s ≡ all_granted more s1 = granted-append gs more s in
     record {
       leads = subst (λ z. RunsTo c s z (all_granted (gs ++ more) s)) (sym (map-append take_of gs more))
-          (leads_append c s s1 (all_granted (gs ++ more) s) (takes gs) (takes more) one.leads
+          (leads_on c s s1 (all_granted (gs ++ more) s) (takes gs) (takes more) one.leads
           (subst (λ z. RunsTo c s1 (takes more) z) (sym same) rest.leads));
       fits = subst (λ z. FitsBut t (entries_left t (h ∷ hs) es) z) (sym same) rest.fits;
     }

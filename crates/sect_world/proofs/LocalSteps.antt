@@ -8,21 +8,9 @@ use Rattle.sect_types.specs.{declared.meaning.store.Datum.TheVariants.{Number}, 
 use Rattle.sect_types.specs.Meaning.{WorkView, value_datum, Unchanged, Came, Went, Fell, assigned, integer_of}
 use Rattle.sect_types.specs.Meaning.{result_of, fits, done, paid, one, found_at, Next, On, Off, going, taken, next}
 use Rattle.sect_types.specs.Meaning.{looks}
+use Rattle.sect_types.proofs.shared.BodySteps.{looks_nowhere}
 use Rattle.sect_types.specs.declared.expansion.action.Action.TheVariants as action
 use Rattle.sect_types.specs.declared.meaning.store.Fault.TheVariants as fault
-
--- outside sections no object is looked into
-looks_nowhere : (e : Environment) (k : TextView) (w : WorkView) → IsSound e false k → looks k w ≡ None
-looks_nowhere e Stop w sound = refl
-looks_nowhere e (Do (action.Assign x v) rest) w sound = refl
-looks_nowhere e (Do (action.Compute x v o u) rest) w sound = refl
-looks_nowhere e (Do (action.New x r site) rest) w sound = refl
-looks_nowhere e (Do (action.Load x b f) rest) w sound = absurd (true≢false sound.1)
-looks_nowhere e (Do (action.Store b f v) rest) w sound = absurd (true≢false sound.1)
-looks_nowhere e (Do (action.Print v) rest) w sound = refl
-looks_nowhere e (Choose d p q rest) w sound = refl
-looks_nowhere e (Loop d p rest) w sound = refl
-looks_nowhere e (Section i p rest) w sound = refl
 
 -- so it is the same step, whatever the store
 pub local_looks : (p : ProgramView) (e : Environment) (t : ℕ) (k : TextView) (w : WorkView) (s : StoreView)

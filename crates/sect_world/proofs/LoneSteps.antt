@@ -4,7 +4,7 @@ use Rattle.std.proofs.Common.{Bool, true, false, List, [], ◌∷◌, map, Optio
 use Rattle.std.proofs.{lemmas.Bool.{and_from}, lemmas.List.{append-nil, append_assoc}}
 use Rattle.std.specs.{Prelude.{ℤ, slice_get}, List.{list_all}}
 use Rattle.sect_lemmas.specs.Lists.{Has, put_at}
-use Rattle.sect_lemmas.proofs.{Options.{some_injective, none_or_some}, Replaced.{put_same}}
+use Rattle.sect_lemmas.proofs.{Options.{some_injective, none_or_some}, Replaced.{put_same, at_map, map_put}}
 use Rattle.sect_types.specs.{declared.meaning.store.End.{End}, declared.meaning.store.Fault.{Fault}}
 use Rattle.sect_types.specs.{Programs.{ProgramView}, Statements.{TextView, Stop, Do, Choose, Loop, Section, joined}}
 use Rattle.sect_types.specs.{Store.{ObjectView, StoreView}, declared.expansion.action.Condition.{Condition}}
@@ -38,20 +38,6 @@ pub put_back : {A : Type 0} (t : ℕ) (x : A) (xs : List A) → slice_get xs t �
 put_back t x [] at = refl
 put_back zero x (z ∷ xs) at = ap (λ y. y ∷ xs) (sym (some_injective z x at))
 put_back (suc t) x (z ∷ xs) at = ap (λ zs. z ∷ zs) (put_back t x xs at)
-
--- the image of an element stands at its place
-pub mapped_at : {A B : Type 0} (g : A → B) (xs : List A) (n : ℕ) (x : A) → slice_get xs n ≡ Some x
-    → slice_get (map g xs) n ≡ Some (g x)
-mapped_at g [] n x at = absurd (none_or_some x at)
-mapped_at g (y ∷ xs) zero x at = ap (λ z. Some (g z)) (some_injective y x at)
-mapped_at g (y ∷ xs) (suc n) x at = mapped_at g xs n x at
-
--- an element put in a list, and its image in the list of images
-pub map_put : {A B : Type 0} (f : A → B) (t : ℕ) (x : A) (xs : List A)
-    → map f (put_at t x xs) ≡ put_at t (f x) (map f xs)
-map_put f t x [] = refl
-map_put f zero x (z ∷ xs) = refl
-map_put f (suc t) x (z ∷ xs) = ap (λ zs. f z ∷ zs) (map_put f t x xs)
 
 -- threads outside hold no key
 all_let : (k : Key) (m : Mode) (fs : List FrameView) → list_all (lets_in k m) (map outside fs) ≡ true
@@ -191,7 +177,7 @@ module _ (c : CompiledView) (compiled : IsCompiled c) (fuel : ℕ) (order : List
   lone store output th = record { store = store; output = output; threads = put_at t th (map outside fs) }
 
   at_lone : (store : StoreView) (output : List ℤ) (th : ThreadState) → IsThread (lone store output th) t th
-  at_lone store output th = put_same t (outside f) th (map outside fs) (mapped_at outside fs t f there)
+  at_lone store output th = put_same t (outside f) th (map outside fs) (at_map outside fs t f there)
 
   -- it becomes another
   put_lone : (store : StoreView) (output : List ℤ) (th next : ThreadState)
@@ -467,6 +453,6 @@ whole_section c compiled fuel order t r after came is = by (slice_get r.frames t
       let g = ahead (program_of c) t f in
       let first = subst
       (λ ths. Reached c fuel order (record { store = r.store; output = r.output; threads = ths }))
-      (sym (put_back t (outside f) (map outside r.frames) (mapped_at outside r.frames t f at))) came in
+      (sym (put_back t (outside f) (map outside r.frames) (at_map outside r.frames t f at))) came in
       parts f at g.text g.work g.ended
       (local_on c compiled fuel order t r.frames f at (suc f.work.fuel) f r.store r.output first) is

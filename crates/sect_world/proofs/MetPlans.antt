@@ -1,6 +1,6 @@
 -- What is secured: what a covering lock or a plan that is met secures, and what that allows.
 use Rattle.std.proofs.Common.{◌≡◌, inl, inr, ℕ, List, Bool, true, ◌||◌, Option, Some, None, refl, sym, ap, ◌∙◌, subst}
-use Rattle.std.proofs.{lemmas.Option.{get_or_from_slice_get}, lemmas.Bool.{or_cases}}
+use Rattle.std.proofs.{lemmas.Option.{get_or_from_slice_get}, lemmas.Bool.{or_cases, or_left, or_right}}
 use Rattle.std.specs.Prelude.{slice_get}
 use Rattle.sect_lemmas.specs.Lists.{Has}
 use Rattle.sect_types.specs.{Programs.{sites_of, all_made}, Statements.{TextView}}
@@ -14,7 +14,7 @@ use Rattle.sect_names.specs.{Walks.{StandsInThread}, Needed.{end_of}, Along.{Nee
 use Rattle.sect_emit.specs.{Pointed.{IsPointedStore, IsPointed}, declared.plan.Grip.{Grip}}
 use Rattle.sect_emit.specs.Plan.{IsFixedPart, plan_of, path_datum, held_mode, is_met, meets, class_mode, object_mode}
 use Rattle.sect_emit.specs.{Compiled.{CompiledView, program_of}, ModeTests.{passes, is_reading_object, is_writing}}
-use Rattle.sect_lemmas.proofs.{Elements.{slice_get-left}, Booleans.{or_left, or_right}}
+use Rattle.sect_lemmas.proofs.Elements.{slice_get-left}
 use Rattle.sect_names.proofs.shared.{Walking.{reads_in}, Ends.{end_needable, end_reads}, Needing.{needed_needable}}
 use Rattle.sect_names.proofs.shared.Beginning.{begins_to, begins_own}
 use Rattle.sect_emit.proofs.shared.Pointing.{denoted}

@@ -11,14 +11,14 @@ use Rattle.sect_lemmas.specs.Lists.{put_at}
 use Rattle.sect_lemmas.proofs.{Options.{some_injective}, Places.{at_of}}
 use Rattle.sect_graph.specs.{declared.flow.Node.{Node}, Rests.{Begins, rest_at}}
 use Rattle.sect_table.specs.Contents.{Contents, held_by, entry_of}
-use Rattle.sect_emit.specs.{Plan.{meets, key_of}, Compiled.{CompiledView, IsCompiled, program_of}}
+use Rattle.sect_emit.specs.{Plan.{meets, key_of}, Compiled.{CompiledView, IsCompiled, program_of}, Graphed.{text_at}}
 use Rattle.sect_emit.specs.State.{Outside, Entered, Running, Faulted, ThreadState, State, IsThread, plan_at}
 use Rattle.sect_world.specs.{declared.event.Deed.TheVariants.{Local, Enter, Begin, Act}, declared.event.Event.{Event}}
 use Rattle.sect_world.specs.{declared.runner.Phase.{Phase}, declared.runner.Runner.{Runner}}
 use Rattle.sect_world.specs.declared.turned.Turned.TheVariants.{Moved}
 use Rattle.sect_world.specs.Events.{IsFree, IsReady, with_frame, entering, beginning, acting, step_in, changed_by}
 use Rattle.sect_world.specs.{Kept.{IsTextOf, IsThreadKept, IsAt}, Waiting.{grips}}
-use Rattle.sect_world.specs.Viewing.{text_at, body_at, body_in, position_of, frame_of, thread_of, threads_of, state_of}
+use Rattle.sect_world.specs.Viewing.{body_at, body_in, position_of, frame_of, thread_of, threads_of, state_of}
 use Rattle.sect_world.specs.Viewing.{shown, IsSited, IsWorld}
 use Rattle.sect_world.specs.steps.Moves.{HoldsMore, IsNext, grips_by}
 use Rattle.sect_world.proofs.{FreshKeys.{next_key_free}, FreshGrips.{looked_up}, KeptStates.{runs_are_well_kept}}

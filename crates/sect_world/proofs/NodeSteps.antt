@@ -1,44 +1,27 @@
 -- A step of a thread at a node of its text's graph is the next step of what is still to run there.
-use Rattle.std.proofs.Common.{rules, ◌≡◌, ◌<◌, ◌≤◌, ◌-◌, ◌∷◌, ◌++◌, [], ℕ, zero, suc, true, false, List, Some, None}
+use Rattle.std.proofs.Common.{rules, ◌≡◌, ◌<◌, ◌≤◌, ◌-◌, ◌∷◌, ◌++◌, [], ℕ, true, false, List, Some, None}
 use Rattle.std.proofs.Common.{Result, Ok, Err, IfOk, length, drop, refl, sym, ap, ◌∙◌, subst, arith, true≢false}
-use Rattle.std.proofs.{lemmas.Bool.{le-ltb}, lemmas.List.{get_or-set_same, map-append}}
+use Rattle.std.proofs.lemmas.List.{get_or-set_same, map-append}
 use Rattle.std.proofs.lemmas.Option.{get_or_from_slice_get}
-use Rattle.std.specs.Prelude.{slice_get, slice_index_or, nat_lt}
+use Rattle.std.specs.Prelude.{slice_get, slice_index_or}
 use Rattle.sect_types.specs.{declared.meaning.store.End.TheVariants.{Done}, declared.meaning.store.Fault.{Fault}}
 use Rattle.sect_types.specs.{Environments.{Environment}, Programs.{ProgramView}, Sections.{sections_of}}
 use Rattle.sect_types.specs.{Sound.{IsSound}, Statements.{TextView, Stop, Do, Choose, Loop, Section}, Store.{StoreView}}
 use Rattle.sect_types.specs.Meaning.{WorkView, Next, On, Off, next, looks, found_at, begins_step, after_change}
-use Rattle.sect_types.specs.{Traces.{node_count}, Whole.{settled, failed, frame_after}}
+use Rattle.sect_types.specs.Whole.{settled, failed, frame_after}
 use Rattle.sect_lemmas.proofs.Places.{at_of}
 use Rattle.sect_graph.specs.{declared.flow.Node.{Node}, declared.flow.Successors.{Successors}, Graphs.{IsGraphOf}}
-use Rattle.sect_graph.specs.Rests.{Begins, rest_before, rest_at}
+use Rattle.sect_graph.specs.Rests.{Begins, rest_at}
+use Rattle.sect_graph.proofs.shared.Rests.{past_end}
 use Rattle.sect_table.specs.{declared.claims.Hold.{Hold}, Contents.{Contents, held_by, hold_of}}
 use Rattle.sect_emit.specs.{declared.plan.Grip.{Grip}, Plan.{grip}, Compiled.{CompiledView, IsCompiled, program_of}}
-use Rattle.sect_emit.specs.State.{ThreadState, Running, Faulted}
+use Rattle.sect_emit.specs.{State.{ThreadState, Running, Faulted}, Graphed.{text_at}}
 use Rattle.sect_world.specs.{declared.runner.Phase.{Phase}, declared.runner.Runner.{Runner}}
 use Rattle.sect_world.specs.{Events.{acting, changed_by}, Kept.{IsTextOf}, Waiting.{grips}}
-use Rattle.sect_world.specs.Viewing.{body_in, body_at, text_at, thread_of}
+use Rattle.sect_world.specs.Viewing.{body_in, body_at, thread_of}
 use Rattle.sect_world.specs.steps.Moves.{Goes, IsStep, HoldsMore, StepsLocally, chosen, grips_by}
 use Rattle.sect_world.proofs.LocalSteps.{local_looks, local_quiet, IsQuiet}
 use Rattle.sect_world.specs.declared.runner.Phase.TheVariants as phase
-
--- past the end of a text nothing is left of it
-pub past_end : (text : TextView) (j : ℕ) (k : TextView) → node_count text ≤ j → rest_before text j k ≡ k
-past_end Stop j k le = refl
-past_end (Do a r) zero k le = absurd (omega arith)
-past_end (Do a r) (suc j) k le = past_end r j k (omega arith)
-past_end (Choose t p q r) zero k le = absurd (omega arith)
-past_end (Choose t p q r) (suc j) k le =
-    let first : nat_lt j (node_count p) ≡ false = le-ltb j (node_count p) (omega arith) in
-    let second : nat_lt (j - node_count p) (node_count q) ≡ false =
-    le-ltb (j - node_count p) (node_count q) (omega arith) in
-    rw (first, second) (past_end r (j - node_count p - node_count q) k (omega arith))
-past_end (Loop t p r) zero k le = absurd (omega arith)
-past_end (Loop t p r) (suc j) k le =
-    let first : nat_lt j (node_count p) ≡ false = le-ltb j (node_count p) (omega arith) in
-    rw first (past_end r (j - node_count p) k (omega arith))
-past_end (Section i p r) zero k le = absurd (omega arith)
-past_end (Section i p r) (suc j) k le = past_end r j k (omega arith)
 
 -- a node that begins a step isn't a section
 pub step_label : (rest : ℕ → TextView) (x : Node) (k : TextView) → begins_step k ≡ true → Begins rest x k

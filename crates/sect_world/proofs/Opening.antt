@@ -10,9 +10,9 @@ use Rattle.sect_lemmas.specs.Lists.{Has}
 use Rattle.sect_lemmas.proofs.Options.{some_injective, none_or_some}
 use Rattle.sect_graph.specs.{declared.flow.Node.{Node}, Rests.{rest_at}}
 use Rattle.sect_table.specs.{Contents.{Contents, IsEmptyFor, entry_of}, Sound.{IsKept as IsTableKept}}
-use Rattle.sect_emit.specs.{Compiled.{CompiledView, IsCompiled, program_of}, State.{outside, start}}
+use Rattle.sect_emit.specs.{Compiled.{CompiledView, IsCompiled, program_of}, State.{outside, start}, Graphed.{text_at}}
 use Rattle.sect_world.specs.{declared.runner.Runner.{Runner}, Events.{emptied}, Worlds.{first_world}}
-use Rattle.sect_world.specs.Viewing.{text_at, position_of, frame_of, BeginsSo, EndsSo, IsFirst, AreFirst, IsSited}
+use Rattle.sect_world.specs.Viewing.{position_of, frame_of, BeginsSo, EndsSo, IsFirst, AreFirst, IsSited}
 use Rattle.sect_world.specs.Viewing.{IsWorld, thread_of, threads_of, state_of, shown}
 use Rattle.sect_world.proofs.NodeSteps.{thread_graph, at_exit, before_exit, settled_at_exit}
 use Rattle.sect_world.specs.declared.runner.Phase.TheVariants as phase

@@ -13,12 +13,12 @@ use Rattle.sect_types.specs.Store.{ObjectView, StoreView, same_name, object_at, 
 use Rattle.sect_types.specs.Meaning.{WorkView, local_datum, datum_or_null, base_datum, value_datum, integer_of, fits}
 use Rattle.sect_types.specs.Meaning.{name_in, Change, Unchanged, Written, Added, after_change, Came, Went, Fell}
 use Rattle.sect_types.specs.Meaning.{result_of, assigned, stored, done, looked, paid, one, Next, On, Off, going, taken}
-use Rattle.sect_types.specs.{Meaning.{next, looks}, Whole.{frame_after, settled}}
+use Rattle.sect_types.specs.{Meaning.{next, looks}, Whole.{frame_after}}
 use Rattle.sect_lemmas.specs.Lists.{put_at}
 use Rattle.sect_world.specs.{Accesses.{change_in}, Held.{Loading, load_of, access_of, if_paid, next_access}}
 use Rattle.sect_lemmas.proofs.Options.{mapped, some_injective, none_or_some}
 use Rattle.sect_types.proofs.shared.Data.{refers_injective, null_refers, number_refers, fresh_refers}
-use Rattle.sect_types.proofs.shared.Stores.{object_at-write, object_at-add}
+use Rattle.sect_types.proofs.shared.{Stores.{object_at-write, object_at-add}, Starts.{settled_work}}
 use Rattle.sect_emit.proofs.shared.Pointing.{put_or_kept}
 use Rattle.sect_world.proofs.StepChanges.{touches}
 use Rattle.sect_types.specs.declared.expansion.action.Action.TheVariants as action
@@ -65,14 +65,6 @@ going_work rest (Fell why w) = refl
 going_change : (rest : TextView) (came : Came) → change_in (going rest came) ≡ change_come came
 going_change rest (Went w ch) = refl
 going_change rest (Fell why w) = refl
-
--- also outside sections
-settled_work : (text : TextView) (w : WorkView) → (settled text w).work ≡ w
-settled_work Stop w = refl
-settled_work (Do a rest) w = refl
-settled_work (Choose d p q rest) w = refl
-settled_work (Loop d p rest) w = refl
-settled_work (Section i p rest) w = refl
 
 pub frame_work : (text : TextView) (n : Next) → (frame_after text n).work ≡ work_after n
 frame_work text (On rest w ch) = settled_work rest w

@@ -1,6 +1,6 @@
 -- A step of one thread keeps what it and the others have secured.
 use Rattle.std.proofs.Common.{◌≡◌, ◌≢◌, ◌⊎◌, inl, inr, ℕ, ◌<◌, List, [], ◌∷◌, ◌++◌, true, Option, Some, None, length}
-use Rattle.std.proofs.{Common.{refl, sym, ap, ◌∙◌, subst}, lemmas.Bool.{or_cases}}
+use Rattle.std.proofs.{Common.{refl, sym, ap, ◌∙◌, subst}, lemmas.Bool.{or_cases, or_left, or_right}}
 use Rattle.sect_types.specs.{declared.expansion.action.Label.{Label}, Statements.{TextView}}
 use Rattle.sect_types.specs.declared.meaning.store.ObjectName.{ObjectName}
 use Rattle.sect_types.specs.declared.meaning.store.Datum.TheVariants.{Refers}
@@ -23,7 +23,6 @@ use Rattle.sect_modes.specs.Mode.{is_at_least, intention_of, is_making}
 use Rattle.sect_world.specs.Events.{guard_at, fresh_grip, grips_of}
 use Rattle.sect_world.specs.Held.{holds_all, mode_of_class, may_read, may_make_by}
 use Rattle.sect_world.specs.{Kept.{AreGripsKept, HoldsClassOf, HaveTheirClass}, Secured.{may_by, AllSecured, Good}}
-use Rattle.sect_lemmas.proofs.Booleans.{or_left, or_right}
 use Rattle.sect_world.proofs.KeptPointed.{pointed_thread, stands_inside}
 use Rattle.sect_world.proofs.Holding.{passes_in, holds_same, holds_append, all_more, mode_of_class_more, met_more}
 use Rattle.sect_world.proofs.{Holding.{may_grows}, Excluding.{readers_and_writers_exclude}}

@@ -1,6 +1,7 @@
 -- Every complete run is serial.
-use Rattle.std.proofs.Common.{◌≡◌, ℕ, zero, suc, ◌++◌, List, [], ◌∷◌, length, map, Option, Some, None, true, refl, sym}
+use Rattle.std.proofs.Common.{◌≡◌, ℕ, zero, suc, ◌++◌, List, [], ◌∷◌, map, Option, Some, None, true, refl, sym}
 use Rattle.std.proofs.Common.{ap, ◌∙◌, subst, arith, slice_get, if◌then◌else◌}
+use Rattle.std.proofs.lemmas.List.{length-map}
 use Rattle.sect_types.specs.{Programs.{ProgramView}, declared.meaning.store.End.{End}, Store.{StoreView}}
 use Rattle.sect_types.specs.Whole.{FrameView, ahead, all_ahead, is_standing, has_ended, begins_section, RunView}
 use Rattle.sect_types.specs.Whole.{run_section, option_then, in_order, first_store, first_frames, begun, SerialEndView}
@@ -117,14 +118,10 @@ starts : (c : CompiledView) (fuel : ℕ) → Serializes c (start c fuel) (begun 
 starts c fuel = record {
   output = refl;
   rows = refl;
-  threads = as_many (first_frames fuel (program_of c).texts (program_of c).locals);
+  threads = length-map (first_frames fuel (program_of c).texts (program_of c).locals) outside;
   each = each (first_frames fuel (program_of c).texts (program_of c).locals);
   store = λ o nobody. refl;
 } where
-  as_many : (fs : List FrameView) → length (map outside fs) ≡ length fs
-  as_many [] = refl
-  as_many (f ∷ fs) = ap suc (as_many fs)
-
   get : (fs : List FrameView) (t : ℕ) (th : ThreadState) → slice_get (map outside fs) t ≡ Some th
       → (f : FrameView) × (slice_get fs t ≡ Some f) × (th ≡ outside f)
   get [] t th e = absurd (subst IsThere (sym e) tt)

@@ -8,11 +8,11 @@ use Rattle.sect_lemmas.proofs.Places.{at_of}
 use Rattle.sect_graph.specs.Rests.{rest_at}
 use Rattle.sect_modes.specs.{declared.mode.Mode.{Mode}, declared.key.Key.{Key}}
 use Rattle.sect_table.specs.Contents.{Contents, held_by}
-use Rattle.sect_emit.specs.{Plan.{meets}, Compiled.{CompiledView}}
+use Rattle.sect_emit.specs.{Plan.{meets}, Compiled.{CompiledView}, Graphed.{text_at}}
 use Rattle.sect_emit.specs.State.{Outside, Entered, ThreadState, State, IsThread, plan_at, with_thread}
 use Rattle.sect_world.specs.{declared.event.Deed.TheVariants.{Again}, declared.event.Event.{Event}}
 use Rattle.sect_world.specs.{declared.runner.Runner.{Runner}, Events.{Happens, IsReady, giving_back}, Kept.{IsAt}}
-use Rattle.sect_world.specs.{Waiting.{grips, Asks}, Viewing.{text_at, state_of, IsWorld}}
+use Rattle.sect_world.specs.{Waiting.{grips, Asks}, Viewing.{state_of, IsWorld}}
 use Rattle.sect_world.proofs.{MoveTurns.{stands, kept, text_is, section_on}, Viewing.{drop_first}}
 
 -- a thread that has an end has ended

@@ -10,14 +10,14 @@ use Rattle.sect_table.specs.declared.claims.Hold.{Hold}
 use Rattle.sect_table.specs.Contents.{Entry, Contents, held_by, hold_of, entry_of, with_holder, claim_of}
 use Rattle.sect_table.specs.Sound.{waits_of, IsKept as IsTableKept}
 use Rattle.sect_table.proofs.shared.{Entries.{entry_key}, Sounding.{waits_for_none}}
-use Rattle.sect_emit.specs.{declared.plan.Grip.{Grip}, Compiled.{CompiledView, program_of}}
+use Rattle.sect_emit.specs.{declared.plan.Grip.{Grip}, Compiled.{CompiledView, program_of}, Graphed.{text_at}}
 use Rattle.sect_emit.specs.State.{Entered, ThreadState, State, IsThread}
 use Rattle.sect_modes.specs.{declared.mode.Mode.{Mode}, declared.key.Key.{Key}}
 use Rattle.sect_world.specs.{declared.event.Deed.{Deed}, declared.event.Event.{Event}, declared.runner.Runner.{Runner}}
 use Rattle.sect_world.specs.{declared.turned.Turned.TheVariants.{Moved}, Events.{MayDo, Happens}}
 use Rattle.sect_world.specs.{Runs.{order_of, leaver}, Blocked.{WantsFirst}, Worlds.{MayFollow, kind_of}}
 use Rattle.sect_world.specs.Waiting.{AllWaitersAsk}
-use Rattle.sect_world.specs.Viewing.{text_at, thread_of, threads_of, state_of, shown, IsSited, IsWorld}
+use Rattle.sect_world.specs.Viewing.{thread_of, threads_of, state_of, shown, IsSited, IsWorld}
 use Rattle.sect_world.specs.steps.Moves.{HoldsMore}
 use Rattle.sect_world.proofs.{Agreeing.{no_waiter, others_ask, put_asks, put_keeps}, LongerRuns.{run_on, order_of-more}}
 use Rattle.sect_world.proofs.Viewing.{seen, replaced_threads, world_fits, TurnsInto}

@@ -6,10 +6,10 @@ use Rattle.std.specs.Prelude.{ℤ, slice_get, slice_index_or, is_some}
 use Rattle.sect_types.specs.Store.{StoreView}
 use Rattle.sect_lemmas.proofs.{Membership.{Has-right}, Replaced.{length-changed_at}}
 use Rattle.sect_modes.specs.{declared.mode.Mode.{Mode}, declared.key.Key.{Key}, Key.{is_same_key, is_key_below}}
+use Rattle.sect_modes.proofs.shared.Keys.{same_key}
 use Rattle.sect_table.specs.{declared.claims.Answer.{Answer}, declared.claims.Answer.TheVariants.{Granted, Queued}}
 use Rattle.sect_table.specs.{Contents.{Contents, hold_of, held_by, holds, is_waiting}, Answers.{IsAnswered}}
 use Rattle.sect_table.specs.Sound.{IsKept as IsTableKept}
-use Rattle.sect_table.proofs.shared.Shown.{same_key}
 use Rattle.sect_emit.specs.{declared.plan.Grip.{Grip}, Plan.{grip, held_mode, Ascends}}
 use Rattle.sect_emit.specs.{Compiled.{CompiledView, program_of}, State.{Entered, ThreadState, State, IsThread}}
 use Rattle.sect_emit.proofs.shared.Keys.{not_below_itself}

@@ -3,12 +3,12 @@ use Rattle.std.proofs.Common.{◌≡◌, ◌+◌, ◌++◌, ◌∙◌, refl, sym
 use Rattle.std.proofs.{Common.{Some, None}, lemmas.List.{append-nil, append_assoc, length-append}}
 use Rattle.std.specs.Prelude.{ℤ, slice_get}
 use Rattle.sect_lemmas.specs.Lists.{put_at}
-use Rattle.sect_lemmas.proofs.Options.{some_injective, none_or_some}
+use Rattle.sect_lemmas.proofs.{Options.{some_injective, none_or_some}, Replaced.{at_map, map_put}}
 use Rattle.sect_types.specs.Store.{StoreView}
 use Rattle.sect_types.specs.Whole.{FrameView, RunView, ahead, all_ahead, begun, in_order, run_section, option_then}
 use Rattle.sect_emit.specs.{Compiled.{CompiledView, IsCompiled, program_of}, State.{ThreadState, outside}}
 use Rattle.sect_world.specs.Laws.{EveryOrderIsRun}
-use Rattle.sect_world.proofs.LoneSteps.{Reached, resting, whole_section, local_on, put_back, map_put, mapped_at}
+use Rattle.sect_world.proofs.LoneSteps.{Reached, resting, whole_section, local_on, put_back}
 
 -- whole sections one after another
 whole_sections : (c : CompiledView) → IsCompiled c → (fuel : ℕ) (ts before : List ℕ) (r after : RunView)
@@ -56,7 +56,7 @@ rests_ahead c compiled fuel order store output (f ∷ fs) first came =
     let all = first ++ f ∷ fs in
     let at : slice_get all t ≡ Some f = behind first f fs in
     let lone = subst (λ ths. Reached c fuel order (record { store = store; output = output; threads = ths }))
-    (sym (put_back t (outside f) (map outside all) (mapped_at outside all t f at))) came in
+    (sym (put_back t (outside f) (map outside all) (at_map outside all t f at))) came in
     let ran = local_on c compiled fuel order t all f at (suc f.work.fuel) f store output lone in
     let placed = subst (λ ths. Reached c fuel order (record { store = store; output = output; threads = ths }))
     (sym (map_put outside t (ahead p t f) all) ∙ ap (map outside) (put_behind first f (ahead p t f) fs

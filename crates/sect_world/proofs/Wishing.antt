@@ -6,10 +6,10 @@ use Rattle.sect_lemmas.proofs.Elements.{drop_next}
 use Rattle.sect_types.specs.{declared.meaning.store.Datum.{Datum}, Store.{StoreView}}
 use Rattle.sect_modes.specs.{declared.mode.Mode.{Mode}, Mode.{is_at_least, join_of}, Key.{is_same_key, is_key_below}}
 use Rattle.sect_names.specs.declared.lock.Lock.{Lock}
+use Rattle.sect_modes.proofs.shared.Keys.{same_key}
 use Rattle.sect_emit.specs.declared.plan.Grip.{Grip}
 use Rattle.sect_emit.specs.Plan.{grip, gathered, with_grip, held_mode, is_met, meets, plan_of, object_wish}
 use Rattle.sect_emit.specs.Plan.{object_wishes, object_mode, path_datum}
-use Rattle.sect_emit.proofs.shared.Keys.{same_key}
 use Rattle.sect_names.specs.declared.lock.Lock.TheVariants as lock
 
 -- the objects of a lock come before those of the others

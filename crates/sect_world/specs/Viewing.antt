@@ -21,10 +21,6 @@ body_in (Some s) = s.body
 abbrev pub body_at : CompiledView → ℕ → TextView
 body_at c i = body_in (slice_get (sections_of (program_of c).texts) i)
 
--- the text of a thread
-abbrev pub text_at : CompiledView → ℕ → TextView
-text_at c t = slice_index_or (program_of c).texts t Stop
-
 abbrev pub position_of : CompiledView → Phase → Position
 position_of c phase.Outside = Outside
 position_of c phase.Entered = Entered

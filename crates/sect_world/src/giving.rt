@@ -4,9 +4,9 @@ ghost use Rattle.std.specs.Prelude.{◌≡◌, ◌<◌, ◌≤◌, ◌+◌, ◌+
 ghost use Rattle.std.specs.Prelude.{OnErr};
 ghost use Rattle.sect_graph.specs.Rests.{rest_at};
 ghost use Rattle.sect_table.specs.{Contents.{is_waiting, released}, Sound.{IsKept as IsTableKept}};
-ghost use Rattle.sect_emit.specs.Compiled.{program_of};
+ghost use Rattle.sect_emit.specs.{Compiled.{program_of}, Graphed.{text_at}};
 ghost use Rattle.sect_world.specs.{declared.runner.Phase.TheVariants.{Outside}, Events.{frame_out}};
-ghost use Rattle.sect_world.specs.Viewing.{EndsSo, text_at, frame_of};
+ghost use Rattle.sect_world.specs.Viewing.{EndsSo, frame_of};
 ghost use Rattle.sect_world.specs.steps.{Fits.{takes}, Taking.{CanAdvance, all_advanced, takers}};
 
 use crate::asking::take;

@@ -3,9 +3,8 @@
 ghost use Rattle.std.specs.Prelude.{◌≢◌, ◌<◌, length};
 ghost use Rattle.sect_types.specs.Statements.{Stop};
 ghost use Rattle.sect_graph.specs.Rests.{rest_at};
-ghost use Rattle.sect_emit.specs.Compiled.{program_of};
+ghost use Rattle.sect_emit.specs.{Compiled.{program_of}, Graphed.{text_at}};
 ghost use Rattle.sect_world.specs.steps.Moves.{IsNext};
-ghost use Rattle.sect_world.specs.Viewing.{text_at};
 
 use sect_emit::Compiled;
 use sect_types::Label;

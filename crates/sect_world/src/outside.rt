@@ -6,9 +6,10 @@ ghost use Rattle.sect_types.specs.{Statements.{TextView, Section}, Programs.{env
 ghost use Rattle.sect_types.specs.{Sound.{IsSound}, Meaning.{begins_step}, Whole.{local_step}};
 ghost use Rattle.sect_graph.specs.{declared.flow.Node.{Node}, Rests.{rest_at}};
 ghost use Rattle.sect_table.specs.Contents.{held_by};
-ghost use Rattle.sect_emit.specs.{Plan.{meets as meets_by, object_wishes}, Compiled.{program_of}, State.{plan_at}};
+ghost use Rattle.sect_emit.specs.{Plan.{meets as meets_by, object_wishes}, Compiled.{program_of}, Graphed.{text_at}};
+ghost use Rattle.sect_emit.specs.State.{plan_at};
 ghost use Rattle.sect_world.specs.{declared.runner.Phase.TheVariants.{Entered, Running}, Waiting.{grips}};
-ghost use Rattle.sect_world.specs.Viewing.{text_at, frame_of};
+ghost use Rattle.sect_world.specs.Viewing.{frame_of};
 ghost use Rattle.sect_world.specs.steps.Moves.{StepsLocally};
 
 use crate::moving::{Step, chosen, run_node};

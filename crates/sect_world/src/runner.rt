@@ -3,9 +3,9 @@
 ghost use Rattle.std.specs.Prelude.{◌≡◌, ◌<◌, ◌≤◌, ◌+◌, ◌++◌, [], map, length, slice_index_or, IfOk, vec_len};
 ghost use Rattle.std.specs.{Prelude.{vec_capacity}, List.{list_all}};
 ghost use Rattle.sect_types.specs.Whole.{first_work as first_work_of, has_ended};
-ghost use Rattle.sect_emit.specs.Compiled.{program_of};
+ghost use Rattle.sect_emit.specs.{Compiled.{program_of}, Graphed.{text_at}};
 ghost use Rattle.sect_world.specs.declared.runner.Runner.{Runner as ARunner};
-ghost use Rattle.sect_world.specs.Viewing.{IsFirst, AreFirst, BeginsSo, text_at};
+ghost use Rattle.sect_world.specs.Viewing.{IsFirst, AreFirst, BeginsSo};
 
 use sect_emit::{Compiled, Grip};
 use sect_store::Work;

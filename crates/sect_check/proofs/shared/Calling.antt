@@ -1,8 +1,9 @@
 -- A variable, a field and a path of a program are what their names stand for.
 use Rattle.std.proofs.Common.{◌≡◌, ℕ, zero, suc, List, [], ◌∷◌, ◌++◌, map, Option, Some, None, sym, ap, ◌∙◌, subst}
 use Rattle.std.proofs.{Common.{append_assoc}, lemmas.List.{append-nil, map-append}}
-use Rattle.std.proofs.lemmas.Option.{slice_get-map, get_or_from_slice_get}
+use Rattle.std.proofs.lemmas.Option.{get_or_from_slice_get}
 use Rattle.std.specs.{Prelude.{slice_get, slice_index_or, option_and_then}, Option.{option_map}}
+use Rattle.sect_lemmas.proofs.Elements.{row_there}
 use Rattle.sect_front.specs.{declared.tree.Record.{Record}, declared.tree.GlobalObject.{GlobalObject}}
 use Rattle.sect_front.specs.declared.tree.Declaration.{Declaration}
 use Rattle.sect_types.specs.First.{IsTyped}
@@ -13,7 +14,7 @@ use Rattle.sect_types.specs.declared.declarations.types.ValueType.{ValueType}
 use Rattle.sect_types.specs.declared.declarations.types.ValueType.TheVariants.{Refers}
 use Rattle.sect_types.specs.declared.declarations.local_name.LocalName.{LocalName}
 use Rattle.sect_types.specs.LocalNames.{all_local_names, place_of_local}
-use Rattle.sect_lemmas.proofs.Replaced.{slice_get-map as mapped_at}
+use Rattle.sect_lemmas.proofs.Replaced.{slice_get-map as mapped_at, at_map}
 use Rattle.sect_types.proofs.shared.Repeating.{globals_apart, fields_apart, own_place}
 use Rattle.sect_points.specs.declared.holders.Variable.{Variable}
 use Rattle.sect_points.specs.declared.holders.Variable.TheVariants.{Global, Local}
@@ -22,7 +23,7 @@ use Rattle.sect_names.specs.{Locks.{IsOwn, VariableTo, FieldTo, PathTo}, Printin
 use Rattle.sect_check.specs.Names.{local_named, global_named, or_variable, variable_named, field_named, referred}
 use Rattle.sect_check.specs.Names.{record_of_variable, record_of_field, path_from, path_named, base_named}
 use Rattle.sect_check.specs.Names.{words_of_local, words_of_variable}
-use Rattle.sect_check.proofs.Rows.{row_there, row_of}
+use Rattle.sect_check.proofs.Rows.{row_of}
 use Rattle.sect_check.proofs.{LocalLaws.{local_has_name, own_place_of_local, no_local_of_global}, Standing.{numbered}}
 
 -- a type that stands in a row
@@ -31,11 +32,6 @@ typed_in_row : (rows : List (List ValueType)) (i n : ℕ) (v : ValueType) → ty
 typed_in_row [] i n v e = absurd cc
 typed_in_row (row ∷ rows) zero n v e = e
 typed_in_row (row ∷ rows) (suc i) n v e = typed_in_row rows i n v e
-
--- the name of what stands at a place
-name_at : {X : Type 0} (f : X → List ℕ) (xs : List X) (i : ℕ) (x : X) → slice_get xs i ≡ Some x
-    → slice_get (map f xs) i ≡ Some (f x)
-name_at f xs i x e = slice_get-map f xs i ∙ ap (option_map f) e
 
 module _ (p : ProgramView) (typed : IsTyped p.source) (tree : IsOfTree p) where
   -- a field that has a type is declared
@@ -83,7 +79,7 @@ module _ (p : ProgramView) (typed : IsTyped p.source) (tree : IsOfTree p) where
       p.source.globals g r (subst (λ (l : List ℕ). slice_get l g ≡ Some r) tree.globals_are to) in
       let name = found.0.name in
       let at : slice_get names g ≡ Some name =
-      name_at (λ (z : GlobalObject). z.name) p.source.globals g found.0 found.1 in
+      at_map (λ (z : GlobalObject). z.name) p.source.globals g found.0 found.1 in
       let called : global_name p.source g ≡ name = get_or_from_slice_get names g name [] at in
       ap (variable_named p.source t) called
       ∙ ap (λ o. or_variable o (global_named p.source name)) (no_local_called t g name at)
@@ -108,7 +104,7 @@ module _ (p : ProgramView) (typed : IsTyped p.source) (tree : IsOfTree p) where
       let rows : slice_index_or (all_fields p.source.records) f.of [] ≡ names =
       row_of (λ (z : Record). names_of_declared z.fields) p.source.records f.of shape found.1 in
       let at : slice_get names f.number ≡ Some d.name =
-      name_at (λ (z : Declaration). z.name) shape.fields f.number d found.2.1 in
+      at_map (λ (z : Declaration). z.name) shape.fields f.number d found.2.1 in
       let called : field_name p.source f ≡ d.name = ap (λ ns. slice_index_or ns f.number []) rows
       ∙ get_or_from_slice_get names f.number d.name [] at in
       ap (λ n. option_map (numbered f.of) (place n (slice_index_or (all_fields p.source.records) f.of []))) called

@@ -1,21 +1,14 @@
 -- Lists of which an element repeats the one before.
-use Rattle.std.proofs.Common.{◌≡◌, ℕ, zero, suc, ◌+◌, ◌-◌, ◌<◌, List, [], ◌∷◌, ◌++◌, Some, length, take, get_or, refl}
+use Rattle.std.proofs.Common.{◌≡◌, ℕ, ◌+◌, ◌-◌, ◌<◌, List, [], ◌∷◌, ◌++◌, Some, length, take, get_or}
 use Rattle.std.proofs.{Common.{sym, ◌∙◌, ap, subst, arith}, lemmas.List.{length-take-le}}
 use Rattle.std.proofs.{lemmas.Option.{get_or_from_slice_get, unwrap_or-slice_get}, lemmas.Slice.Zip.{AllZip-long}}
 use Rattle.std.specs.{Prelude.{slice_get}, Option.{unwrap_or}, List.{AllZip}}
-use Rattle.sect_lemmas.proofs.Places.{at_of, zip_more, zipped_at}
+use Rattle.sect_lemmas.proofs.{Places.{at_of, zip_more, zipped_at}, Elements.{taken}}
 
 -- what is equal at two places is so by either default
 pub same_at : {X : Type 0} (xs : List X) (i j : ℕ) (d : X) → slice_get xs i ≡ slice_get xs j
     → get_or xs i d ≡ get_or xs j d
 same_at xs i j d e = sym (unwrap_or-slice_get xs i d) ∙ ap (λ o. unwrap_or o d) e ∙ unwrap_or-slice_get xs j d
-
--- what stands at a place of the first so many
-pub taken : {X : Type 0} (xs : List X) (n i : ℕ) → i < n → slice_get (take n xs) i ≡ slice_get xs i
-taken xs zero i h = absurd (omega (arith, h))
-taken [] (suc n) i h = refl
-taken (x ∷ xs) (suc n) zero h = refl
-taken (x ∷ xs) (suc n) (suc i) h = taken xs n i (omega (arith, h))
 
 -- one pair more
 pub zip_one_more : {A B : Type 0} (R : A → B → Type 0) (xs : List A) (n : ℕ) (x : A) (ys zs : List B) (y : B)

@@ -1,7 +1,7 @@
 -- What holds of claims before they are judged, and of the graphs of sections.
-use Rattle.std.specs.Prelude.{◌≡◌, ◌≤◌, ◌<◌, ◌+◌, ℕ, List, [], Some, slice_get, slice_index_or, length}
+use Rattle.std.specs.Prelude.{◌≡◌, ◌<◌, ◌+◌, ℕ, List, [], Some, slice_get, slice_index_or, length}
 use Rattle.sect_lemmas.specs.Lists.{Has}
-use Rattle.sect_graph.specs.{declared.flow.Node.{Node}, Paths.{LeadsTo}}
+use Rattle.sect_graph.specs.declared.flow.Node.{Node}
 use Rattle.sect_names.specs.{declared.link.Link.{Link}, declared.lock.Lock.{Lock}, Schemes.{SchemeView}}
 use Rattle.sect_names.specs.Locks.{IsLockOf}
 use Rattle.sect_check.specs.{declared.claims.ChainClaim.{ChainClaim}, declared.claims.Claims.{Claims}}
@@ -23,10 +23,6 @@ HaveNumbersBelow chains n = (m : ℕ) → m < n → HasNumber chains m
 pub record HaveShape (g : List Node) (c : Claims) : Type 0 where
   pub count : length c.nodes ≡ length g + 1
   pub rise : DoRise c.chains
-
--- control goes on to nodes of the graph or to its exit
-abbrev pub StaysWithin : List Node → Type 0
-StaysWithin g = (i j : ℕ) (x : Node) → slice_get g i ≡ Some x → LeadsTo x j → j ≤ length g
 
 -- the locks of the lists are ones that sections of the thread may take
 abbrev pub AreLawfulLists : SchemeView → ℕ → Claims → Type 0

@@ -1,6 +1,6 @@
 -- Elements that are chosen from a list.
 use Rattle.std.proofs.Common.{◌≡◌, ℕ, ◌+◌, ◌<◌, List, [], ◌∷◌, ◌++◌, length, take, get_or, refl, sym, ap, ◌∙◌}
-use Rattle.std.proofs.{Common.{subst, inl, inr, arith}, lemmas.List.{append_assoc, append-nil, get_or_default}}
+use Rattle.std.proofs.{Common.{subst, inl, inr}, lemmas.List.{append_assoc, append-nil, get_or_default}}
 use Rattle.sect_lemmas.proofs.Making.{last_of}
 use Rattle.sect_lemmas.specs.Lists.{Has}
 use Rattle.sect_conflicts.specs.{Conflicts.{Selects}, Selecting.{Adds}}
@@ -65,11 +65,6 @@ more_at P xs i d within before here y h =
       | inl a ↦ before y a
       | inr e ↦ subst P (sym e) here
     ]
-
--- a list without elements is empty
-pub no_items : {X : Type 0} (xs : List X) → length xs ≡ 0 → xs ≡ []
-no_items [] e = refl
-no_items (x ∷ xs) e = absurd (omega (arith, e))
 
 -- and one that isn't has some
 pub some_item : {X : Type 0} (xs : List X) → (xs ≡ [] → ⊥) → (x : X) × Has xs x

@@ -9,10 +9,11 @@ use Rattle.sect_modes.specs.{declared.mode.Mode.{Mode}, declared.mode.Mode.TheVa
 use Rattle.sect_modes.specs.{declared.key.Key.{Key}, Mode.{is_at_least}, Key.{is_same_key}}
 use Rattle.sect_types.specs.{declared.meaning.store.ObjectName.{ObjectName}, declared.meaning.store.Datum.{Datum}}
 use Rattle.sect_types.specs.{declared.meaning.store.Datum.TheVariants.{Refers}, Store.{StoreView}}
+use Rattle.sect_modes.proofs.shared.Keys.{same_key, key_itself}
 use Rattle.sect_emit.specs.declared.plan.Grip.{Grip}
 use Rattle.sect_emit.specs.Plan.{grip, key_of, class_mode, object_mode, AreWishesFor, IsFixedPart, path_datum, plan_of}
 use Rattle.sect_emit.specs.Plan.{held_mode, is_met, meets}
-use Rattle.sect_emit.proofs.shared.{Keys.{same_key, key_itself}, Modes.{at_least_along}}
+use Rattle.sect_emit.proofs.shared.Modes.{at_least_along}
 use Rattle.sect_emit.proofs.shared.PlanModes.{met, plan_gives_object, plan_gives_fixed}
 use Rattle.sect_names.specs.declared.lock.Lock.TheVariants as lock
 use Rattle.sect_modes.specs.declared.key.Key.TheVariants as key

@@ -1,38 +1,9 @@
--- Keys are ordered, and tested for equality.
-use Rattle.std.proofs.Common.{◌≡◌, ℕ, ◌<◌, true, refl, ap, ◌∙◌, ◌⊎◌, inl, inr, arith, ltb-true, lt-ltb, eqb-true}
-use Rattle.std.proofs.{Common.{eq-eqb}, lemmas.Bool.{and_parts, and_from, or_cases, false≢true}}
+-- Keys are ordered.
+use Rattle.std.proofs.Common.{◌≡◌, ℕ, ◌<◌, true, refl, ◌∙◌, ◌⊎◌, inl, inr, arith, ltb-true, lt-ltb, eqb-true}
+use Rattle.std.proofs.{Common.{eq-eqb}, lemmas.Bool.{and_parts, and_from, or_cases, false≢true, or_left, or_right}}
 use Rattle.std.specs.Prelude.{◌&&◌, ◌==◌, nat_lt}
 use Rattle.sect_modes.specs.{declared.key.Key.{Key}, declared.key.Key.TheVariants.{All, Class, Global, Made}}
-use Rattle.sect_modes.specs.Key.{is_same_key, is_key_below}
-use Rattle.sect_lemmas.proofs.Booleans.{or_left, or_right}
-
--- the test of keys says that they are equal
-pub same_key : (a b : Key) → is_same_key a b ≡ true → a ≡ b
-same_key All All e = refl
-same_key All (Class b) e = absurd (false≢true e)
-same_key All (Global b) e = absurd (false≢true e)
-same_key All (Made t n) e = absurd (false≢true e)
-same_key (Class a) All e = absurd (false≢true e)
-same_key (Global a) All e = absurd (false≢true e)
-same_key (Made t n) All e = absurd (false≢true e)
-same_key (Class a) (Class b) e = ap Class (eqb-true a b e)
-same_key (Class a) (Global b) e = absurd (false≢true e)
-same_key (Class a) (Made t n) e = absurd (false≢true e)
-same_key (Global a) (Class b) e = absurd (false≢true e)
-same_key (Global a) (Global b) e = ap Global (eqb-true a b e)
-same_key (Global a) (Made t n) e = absurd (false≢true e)
-same_key (Made t n) (Class b) e = absurd (false≢true e)
-same_key (Made t n) (Global b) e = absurd (false≢true e)
-same_key (Made t n) (Made u m) e =
-    let h = and_parts (t == u) (n == m) e in
-    ap (λ x. Made x n) (eqb-true t u h.0) ∙ ap (Made u) (eqb-true n m h.1)
-
--- it holds of each key and itself
-pub key_itself : (a : Key) → is_same_key a a ≡ true
-key_itself All = refl
-key_itself (Class a) = eq-eqb a a refl
-key_itself (Global a) = eq-eqb a a refl
-key_itself (Made t n) = and_from (t == t) (n == n) (eq-eqb t t refl) (eq-eqb n n refl)
+use Rattle.sect_modes.specs.Key.{is_key_below}
 
 -- no key is below itself
 pub not_below_itself : (a : Key) → is_key_below a a ≡ true → ⊥

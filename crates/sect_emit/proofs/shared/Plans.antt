@@ -10,11 +10,12 @@ use Rattle.sect_modes.specs.{declared.mode.Mode.{Mode}, declared.key.Key.{Key}}
 use Rattle.sect_modes.specs.{Mode.{is_at_least, join_of, intention_of}, Key.{is_same_key, is_key_below}}
 use Rattle.sect_types.specs.{declared.meaning.store.ObjectName.{ObjectName}, declared.meaning.store.Datum.{Datum}}
 use Rattle.sect_types.specs.{declared.meaning.store.Datum.TheVariants.{Number, Null, Refers}, Store.{StoreView}}
+use Rattle.sect_modes.proofs.shared.Keys.{same_key, key_itself}
 use Rattle.sect_emit.specs.declared.plan.Grip.{Grip}
 use Rattle.sect_emit.specs.Plan.{grip, key_of, with_grip, gathered, class_mode, intended, object_mode, AreWishesFor}
 use Rattle.sect_emit.specs.Plan.{AreFixedWishes, IsFixedPart, path_datum, object_wish, object_wishes, plan_of}
 use Rattle.sect_emit.specs.Plan.{held_mode, Ascends}
-use Rattle.sect_emit.proofs.shared.Keys.{same_key, key_itself, not_below_itself, below_along}
+use Rattle.sect_emit.proofs.shared.Keys.{not_below_itself, below_along}
 use Rattle.sect_emit.proofs.shared.Modes.{at_least_itself, at_least_along, join_left, join_right}
 use Rattle.sect_emit.proofs.Keys.{other_above}
 use Rattle.sect_names.specs.declared.lock.Lock.TheVariants as lock

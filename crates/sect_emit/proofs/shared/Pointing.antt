@@ -28,7 +28,7 @@ use Rattle.sect_lemmas.proofs.Options.{mapped}
 use Rattle.sect_lemmas.proofs.Replaced.{get-changed_at, same_number-true, same_number-refl, length-changed_at}
 use Rattle.sect_lemmas.proofs.Elements.{is_past}
 use Rattle.sect_types.proofs.shared.Stores.{object_at-write, same_name-true, same_name-eq, object_at-add, count-add_own}
-use Rattle.sect_types.proofs.shared.{Stores.{count-write, rows-write}, Data.{fresh_refers}}
+use Rattle.sect_types.proofs.shared.{Stores.{count-write, rows-write}, Data.{fresh_refers, refers_injective}}
 use Rattle.sect_types.specs.declared.declarations.types.ValueType.TheVariants as type
 use Rattle.sect_types.specs.declared.expansion.action.Base.TheVariants as base
 use Rattle.sect_types.specs.declared.expansion.action.Value.TheVariants as value
@@ -47,10 +47,6 @@ IsReference (Refers o) = Unit {0}
 -- a reference is one
 pub is_reference : (d : Datum) (o : ObjectName) → d ≡ Refers o → IsReference d
 is_reference d o e = subst IsReference (sym e) tt
-
--- references to one object name it once
-pub same_object : (o q : ObjectName) → Refers o ≡ Refers q → o ≡ q
-same_object o q e = cc
 
 -- a datum that names an object refers to it
 pub name_refers : (d : Datum) (o : ObjectName) → name_in d ≡ Some o → d ≡ Refers o
@@ -240,7 +236,7 @@ module _ (s : SchemeView) (scheme : IsScheme s) (typed : IsTypedProgram s.progra
     pub placed_in : (q : PathView) (r : ℕ) (o : ObjectName) → PathTo s.program q r → IsOwn t q
         → path_datum store w.locals q ≡ Refers o → ExistsAt (PathHas Into q) store o
     placed_in (var (variable.Global g)) r o to own e =
-        subst (ExistsAt (λ site. site ≡ g) store) (same_object (object.Global g) o e)
+        subst (ExistsAt (λ site. site ≡ g) store) (refers_injective (object.Global g) o e)
         (pointed.objects.globals g (slice_get_within s.program.globals g r to))
     placed_in (var (variable.Local u x)) r o to own e =
         subst (λ k. ExistsAt (Into (Local k x)) store o) (sym own) (pointed.locals x o e)
@@ -277,7 +273,7 @@ module _ (s : SchemeView) (scheme : IsScheme s) (typed : IsTypedProgram s.progra
         → base_datum w.locals b ≡ Refers o → ExistsAt (BaseHas Into t b) store o
     base_in (base.Local x) r o ty e = pointed.locals x o e
     base_in (base.Global g) r o ty e =
-        subst (ExistsAt (λ site. site ≡ g) store) (same_object (object.Global g) o e)
+        subst (ExistsAt (λ site. site ≡ g) store) (refers_injective (object.Global g) o e)
         (pointed.objects.globals g (slice_get_within s.program.globals g r
         (reference_of (slice_get s.program.globals g) r ty)))
 
@@ -296,7 +292,7 @@ module _ (s : SchemeView) (scheme : IsScheme s) (typed : IsTypedProgram s.progra
     value_in value.Null ty o h e = absurd (is_reference Null o e)
     value_in (value.Local x) ty o h e = pointed.locals x o e
     value_in (value.Global g) ty o h e =
-        subst (ExistsAt (λ site. site ≡ g) store) (same_object (object.Global g) o e)
+        subst (ExistsAt (λ site. site ≡ g) store) (refers_injective (object.Global g) o e)
         (pointed.objects.globals g (global_there g ty h))
 
     -- locals after an assignment
@@ -377,7 +373,7 @@ module _ (s : SchemeView) (scheme : IsScheme s) (typed : IsTypedProgram s.progra
 
       -- the new object itself
       made_exists : (x : ℕ) → Into (Local t x) i → RefersTo (Into (Local t x)) more (Refers (object.Made t w.made))
-      made_exists x at o e = subst (ExistsAt (Into (Local t x)) more) (same_object (object.Made t w.made) o e)
+      made_exists x at o e = subst (ExistsAt (Into (Local t x)) more) (refers_injective (object.Made t w.made) o e)
           (subst (λ n. ExistsAt (Into (Local t x)) more (object.Made t n)) (sym pointed.made) (
             fresh i types,
             object_at-add store t (fresh i types) (object.Made t (count store t)) pointed.row

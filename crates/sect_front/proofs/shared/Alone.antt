@@ -1,7 +1,7 @@
 -- A text has one fault at most.
-use Rattle.std.proofs.Common.{◌≡◌, ◌≢◌, ℕ, zero, suc, ◌+◌, ◌-◌, ◌<◌, ◌≤◌, Bool, true, false, List, [], ◌∷◌, ◌++◌, Some}
+use Rattle.std.proofs.Common.{◌≡◌, ◌≢◌, ℕ, zero, suc, ◌+◌, ◌-◌, ◌<◌, ◌≤◌, Bool, true, false, List, ◌++◌, Some}
 use Rattle.std.proofs.Common.{Result, Ok, Err, length, take, drop, refl, sym, ◌∙◌, ap, subst, arith, append_assoc, ◌⊎◌}
-use Rattle.std.proofs.{Common.{inl, inr}, lemmas.List.{take-append-drop}}
+use Rattle.std.proofs.{Common.{inl, inr}, lemmas.List.{take-append-drop, take-take, length-take-le}}
 use Rattle.std.specs.Prelude.{unwrap_or, slice_get, option_map}
 use Rattle.sect_front.specs.{Limits.{most_bytes}, TreeView.{TreeView}, Words.{is_letter, is_digit, begins}}
 use Rattle.sect_front.specs.{Braces.{open_after, IsShallow}, Lexing.{Spells, IsBadAt}}
@@ -13,12 +13,6 @@ use Rattle.sect_front.proofs.shared.{Lexings.{one_lexing, one_bad, bad_or_lexed}
 use Rattle.sect_front.specs.declared.parsing.FrontFault.TheVariants as fault
 use Rattle.sect_front.proofs.TokenFaults as token_fault
 
-take_take : {A : Type 0} (i j : ℕ) (xs : List A) → i ≤ j → take i (take j xs) ≡ take i xs
-take_take zero j xs h = refl
-take_take (suc i) zero xs h = absurd (omega arith)
-take_take (suc i) (suc j) [] h = refl
-take_take (suc i) (suc j) (x ∷ xs) h = ap (λ w. x ∷ w) (take_take i j xs (omega arith))
-
 -- what begins a viable list is viable
 viable_front : (i : ℕ) (list : List Token) → IsViable list → IsViable (take i list)
 viable_front i list v = (
@@ -29,12 +23,7 @@ viable_front i list v = (
 )
 
 viable_take : (i j : ℕ) (list : List Token) → i ≤ j → IsViable (take j list) → IsViable (take i list)
-viable_take i j list h v = subst IsViable (take_take i j list h) (viable_front i (take j list) v)
-
-length_take : {A : Type 0} (j : ℕ) (xs : List A) → j ≤ length xs → length (take j xs) ≡ j
-length_take zero xs h = refl
-length_take (suc j) [] h = absurd (omega arith)
-length_take (suc j) (x ∷ xs) h = ap suc (length_take j xs (omega arith))
+viable_take i j list h v = subst IsViable (take-take i j list h) (viable_front i (take j list) v)
 
 -- no token of a shallow beginning opens the 33rd brace
 not_deep : (i j : ℕ) (list : List Token) → i < j → j ≤ length list → IsShallow (take j list)
@@ -42,8 +31,8 @@ not_deep : (i j : ℕ) (list : List Token) → i < j → j ≤ length list → I
 not_deep i j list h fits shallow deep =
     omega (
       arith,
-      shallow (i + 1) (omega (arith, length_take j list fits)),
-      ap (open_after 0) (take_take (i + 1) j list (omega arith)),
+      shallow (i + 1) (omega (arith, length-take-le j list fits)),
+      ap (open_after 0) (take-take (i + 1) j list (omega arith)),
       deep,
     )
 

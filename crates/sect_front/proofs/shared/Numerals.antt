@@ -1,10 +1,11 @@
 -- Numerals below a limit: the numbers that are read are those that are printed.
 use Rattle.std.proofs.Common.{◌≡◌, ◌≢◌, ℕ, zero, suc, ◌+◌, ◌-◌, ◌*◌, ◌/◌, ◌%◌, ◌<◌, ◌≤◌, Bool, true, false, ◌&&◌, cond}
 use Rattle.std.proofs.Common.{eqb, nat_lt, ◌==◌, if◌then◌else◌, List, [], ◌∷◌, ◌++◌, Option, Some, None, length, get_or}
-use Rattle.std.proofs.{Common.{refl, sym, ◌∙◌, ap, arith, rules}, lemmas.Bool.{eq-eqb, and_parts}}
+use Rattle.std.proofs.Common.{refl, sym, ◌∙◌, ap, arith, rules}
 use Rattle.std.proofs.lemmas.Bool.Decides.{nat_tests}
 use Rattle.std.proofs.lemmas.Fmt.{decimal_by_steps_wide, decimal-digits_value, digits_decimal, decimal_nonempty}
 use Rattle.std.proofs.lemmas.Str.Parse.{IsNumeralModel, IsDigitsTest, FoldsDigits, numerals_by_fold}
+use Rattle.std.proofs.lemmas.Bool.{ltb-true, eq-eqb, and_parts, lt-ltb, and_right}
 use Rattle.std.specs.{List.{list_all}, Fmt.{decimal}}
 use Rattle.sect_front.specs.Words.{is_digit}
 use Rattle.sect_front.proofs.Choices.{chosen, refused}
@@ -24,16 +25,13 @@ numeral limit (d ∷ ds) = if d == 48 && nat_lt 0 (length ds) then None else num
 digit_test : (n : ℕ) → n < 10 → is_digit (48 + n) ≡ true
 digit_test n h = grind (arith, nat_tests)
 
-below : (n k : ℕ) → n < k → nat_lt n k ≡ true
-below n k h = grind (arith, nat_tests)
-
 -- one more digit at the end
 last_digit : (limit k : ℕ) (ds : List ℕ) (m d : ℕ) → numeral_from limit k ds ≡ Some m → d < 10 → m * 10 + d < limit
     → numeral_from limit k (ds ++ (48 + d) ∷ []) ≡ Some (m * 10 + d)
 last_digit limit k [] m d h small fits =
     let e : k ≡ m = cc in
     let f : 48 + d - 48 ≡ d = omega arith in
-    rw (e, digit_test d small, f, below (m * 10 + d) limit fits) refl
+    rw (e, digit_test d small, f, lt-ltb (m * 10 + d) limit fits) refl
 last_digit limit k (c ∷ ds) m d h small fits =
     go (is_digit c && nat_lt (k * 10 + (c - 48)) limit) h
     (λ g. last_digit limit (k * 10 + (c - 48)) ds m d g small fits)
@@ -44,10 +42,6 @@ last_digit limit k (c ∷ ds) m d h small fits =
         cond b (numeral_from limit (k * 10 + (c - 48)) (ds ++ (48 + d) ∷ [])) None ≡ Some (m * 10 + d)
     go true g f = f g
     go false g f = cc
-
-and_false : (b : Bool) → (b && false) ≡ false
-and_false true = refl
-and_false false = refl
 
 -- what is printed of a number is read as it
 record Reads (limit n : ℕ) (ds : List ℕ) : Type 0 where
@@ -77,7 +71,7 @@ reads_more limit n (c ∷ ds) h r = record {
 
 no_lead : (limit n d : ℕ) (ds : List ℕ) → Reads limit n (d ∷ ds) → (eqb d 48 && nat_lt 0 (length ds)) ≡ false
 no_lead limit zero d ds r = let one : length (d ∷ ds) ≡ 1 = r.zero_alone refl in
-    let none : nat_lt 0 (length ds) ≡ false = grind (arith, nat_tests) in rw none (and_false (eqb d 48))
+    let none : nat_lt 0 (length ds) ≡ false = grind (arith, nat_tests) in rw none (and_right (eqb d 48) false refl)
 no_lead limit (suc n) d ds r = let ne : d ≢ 48 = r.lead (omega arith) in
     let no : eqb d 48 ≡ false = grind (arith, nat_tests) in rw no refl
 
@@ -120,10 +114,7 @@ decimal_read limit k (d ∷ ds) n h =
     let c = chosen (is_digit d && nat_lt more limit) (numeral_from limit more ds) n h in
     let e = and_parts (is_digit d) (nat_lt more limit) c.0 in
     let r = decimal_read limit (k * 10 + (d - 48)) ds n c.1 in
-    record { digits = rw e.0 r.digits; value = r.value; low = λ l. r.low (lt_from more limit e.1) }
-  where
-    lt_from : (a b : ℕ) → nat_lt a b ≡ true → a < b
-    lt_from a b e = grind (arith, nat_tests)
+    record { digits = rw e.0 r.digits; value = r.value; low = λ l. r.low (ltb-true more limit e.1) }
 
 -- digits that are read as a number are what is printed of it
 pub numeral_back : (limit : ℕ) (ds : List ℕ) (n : ℕ) → 0 < limit → limit ≤ 18446744073709551616

@@ -1,22 +1,10 @@
 -- Numberings that are extended.
-use Rattle.std.proofs.Common.{◌≡◌, ℕ, zero, suc, ◌<◌, List, [], ◌∷◌, ◌++◌, Some, length, sym, ap, ◌∙◌, subst}
+use Rattle.std.proofs.Common.{◌≡◌, ℕ, List, [], ◌++◌, Some, length, sym, ap, ◌∙◌, subst}
 use Rattle.std.proofs.{Common.{append_assoc, length-append, arith}, lemmas.List.{append-nil}}
 use Rattle.std.specs.Prelude.{slice_get}
+use Rattle.sect_lemmas.proofs.Elements.{slice_get-left, get_front}
 use Rattle.sect_names.specs.declared.lock.Lock.{Lock}
 use Rattle.sect_infer.specs.Numberings.{NumberingView, HasLock, AreNumbers, Extends}
-
--- what stands in the front of a list
-pub get_left : {X : Type 0} (xs ys : List X) (i : ℕ) (x : X) → slice_get xs i ≡ Some x → slice_get (xs ++ ys) i ≡ Some x
-get_left [] ys i x at = absurd cc
-get_left (z ∷ xs) ys zero x at = at
-get_left (z ∷ xs) ys (suc i) x at = get_left xs ys i x at
-
--- and that it stands there alone
-pub get_front : {X : Type 0} (xs ys : List X) (i : ℕ) (x : X) → i < length xs → slice_get (xs ++ ys) i ≡ Some x
-    → slice_get xs i ≡ Some x
-get_front [] ys i x within at = absurd (omega (arith, within))
-get_front (z ∷ xs) ys zero x within at = at
-get_front (z ∷ xs) ys (suc i) x within at = get_front xs ys i x (omega (arith, within)) at
 
 -- a numbering goes on from itself
 pub extends_none : (t : NumberingView) → Extends t t
@@ -29,7 +17,7 @@ extends_then a b c h k = (h.0 ++ k.0, k.1 ∙ ap (λ l. l ++ k.0) h.1 ∙ append
 -- a numbering that is extended keeps its locks and their numbers
 pub extends_at : (old new : NumberingView) → Extends old new → (n : ℕ) (l : Lock) → slice_get old.keys n ≡ Some l
     → slice_get new.keys n ≡ Some l
-extends_at old new e n l at = subst (λ ks. slice_get ks n ≡ Some l) (sym e.1) (get_left old.keys e.0 n l at)
+extends_at old new e n l at = subst (λ ks. slice_get ks n ≡ Some l) (sym e.1) (slice_get-left old.keys e.0 n l at)
 
 -- the numbers that there were keep their locks
 pub extends_back : (old new : NumberingView) → Extends old new → (ns : List ℕ) → AreNumbers old.keys ns → (l : Lock)

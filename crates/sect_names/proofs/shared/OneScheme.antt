@@ -1,6 +1,7 @@
 -- A program has one scheme.
-use Rattle.std.proofs.Common.{◌≡◌, inl, inr, ℕ, zero, suc, ◌<◌, ◌≤◌, List, [], ◌∷◌, length, Option, Some, None, refl}
-use Rattle.std.proofs.{Common.{sym, ap, ◌∙◌, subst, arith}, lemmas.Bool.{cases_lt}, lemmas.Option.{slice_get-get_or}}
+use Rattle.std.proofs.Common.{◌≡◌, inl, inr, ℕ, zero, suc, ◌<◌, ◌≤◌, List, [], length, Option, Some, None, refl}
+use Rattle.std.proofs.{Common.{sym, ◌∙◌, subst, arith}, lemmas.Bool.{cases_lt}, lemmas.Option.{slice_get-get_or}}
+use Rattle.std.proofs.lemmas.List.{ext_get_or}
 use Rattle.std.specs.Prelude.{slice_index, slice_index_or}
 use Rattle.sect_types.specs.{Statements.{TextView, Stop}, Programs.{ProgramView, sites_of}, Sections.{sections_of}}
 use Rattle.sect_graph.specs.Graphs.{GraphView, AreGraphs}
@@ -13,17 +14,6 @@ use Rattle.sect_points.proofs.shared.SolvingLaws.{moved_more}
 use Rattle.sect_hints.specs.Hints.{AreGuards}
 use Rattle.sect_names.specs.{Schemes.{SchemeView, IsScheme}, Laws.{AreOneScheme}}
 use Rattle.sect_names.proofs.Facts.{facts, facts_tell}
-
--- lists of one length that have the same at each place are one
-same_places : {A : Type 0} (d : A) (xs ys : List A) → length xs ≡ length ys
-    → ((i : ℕ) → i < length xs → slice_index_or xs i d ≡ slice_index_or ys i d) → xs ≡ ys
-same_places d [] [] e h = refl
-same_places d [] (y ∷ ys) e h = absurd (omega (arith, e))
-same_places d (x ∷ xs) [] e h = absurd (omega (arith, e))
-same_places d (x ∷ xs) (y ∷ ys) e h =
-    let first : x ≡ y = h 0 (omega arith) in
-    let rest = same_places d xs ys (omega (arith, e)) (λ i lt. h (suc i) (omega (arith, lt))) in
-    ap (λ z. z ∷ xs) first ∙ ap (λ l. y ∷ l) rest
 
 -- a family that lies within another one and has it within has the same moved
 closed_as : (F G : Family) (list : List ThreadAction) → Within G F → Within F G → IsClosed F list → IsClosed G list
@@ -84,7 +74,7 @@ same_below a b is_a is_b long to from (suc n) most j less =
 
 -- guards of one program are one list
 same_guards : (p : ProgramView) (xs ys : List (Option ℕ)) → AreGuards p xs → AreGuards p ys → xs ≡ ys
-same_guards p xs ys a b = same_places None xs ys (a.as_many ∙ sym b.as_many)
+same_guards p xs ys a b = ext_get_or None xs ys (a.as_many ∙ sym b.as_many)
     (λ r within. by r (slice_index_or xs r None) refl)
   where
     by : (r : ℕ) (o : Option ℕ) → slice_index_or xs r None ≡ o → slice_index_or xs r None ≡ slice_index_or ys r None
@@ -96,7 +86,7 @@ same_graphs : (texts : List TextView) (x y : GraphView) → AreGraphs texts x �
 same_graphs texts x y a b = λ i. record { threads = threads i; sections = sections i }
   where
     threads : x.threads ≡ y.threads
-    threads = same_places [] x.threads y.threads (a.thread_count ∙ sym b.thread_count) (λ t within.
+    threads = ext_get_or [] x.threads y.threads (a.thread_count ∙ sym b.thread_count) (λ t within.
         let text = slice_get-get_or texts t Stop (omega (arith, within, a.thread_count)) in
         let one = a.threads t _ _ text (slice_get-get_or x.threads t [] within) in
         let other = b.threads t _ _ text
@@ -104,7 +94,7 @@ same_graphs texts x y a b = λ i. record { threads = threads i; sections = secti
         one.nodes ∙ sym other.nodes)
 
     sections : x.sections ≡ y.sections
-    sections = same_places [] x.sections y.sections (a.section_count ∙ sym b.section_count) (λ t within.
+    sections = ext_get_or [] x.sections y.sections (a.section_count ∙ sym b.section_count) (λ t within.
         let section = slice_get-get_or (sections_of texts) t (record { thread = 0; body = Stop })
         (omega (arith, within, a.section_count)) in
         let one = a.sections t _ _ section (slice_get-get_or x.sections t [] within) in
@@ -125,7 +115,7 @@ one_scheme s r is_s is_r same =
     let long : length s.classes.numbers ≡ length r.classes.numbers = is_s.parted.sites ∙ is_s.sites ∙ sym sites
     ∙ sym is_r.parted.sites in
     record {
-      numbers = same_places 0 s.classes.numbers r.classes.numbers long
+      numbers = ext_get_or 0 s.classes.numbers r.classes.numbers long
           (same_below s.classes r.classes is_s.parted is_r.parted long to from (length s.classes.numbers)
           (omega arith));
       sets = λ h site. (to h site, from h site);

@@ -3,7 +3,7 @@ use Rattle.std.proofs.Common.{◌≡◌, ℕ, zero, suc, ◌+◌, List, [], ◌�
 use Rattle.std.proofs.Common.{◌∙◌, subst, inl, inr, arith, false}
 use Rattle.std.specs.Prelude.{⊤, slice_get}
 use Rattle.sect_lemmas.specs.Lists.{Has}
-use Rattle.sect_lemmas.proofs.{Membership.{Has-cases, Has-unmap}, Elements.{slice_get-left}}
+use Rattle.sect_lemmas.proofs.{Membership.{Has-cases, Has-unmap}, Elements.{slice_get-left, slice_get-right}}
 use Rattle.sect_types.specs.Environments.{Environment}
 use Rattle.sect_types.specs.Statements.{TextView, Stop, Do, Choose, Loop, Section, made_by, made_in}
 use Rattle.sect_types.specs.{Sections.{IsSite, AreSited, AllSited}, Programs.{ProgramView, environment_at, all_made}}
@@ -15,14 +15,6 @@ use Rattle.sect_names.specs.{Schemes.{SchemeView}, Laws.{IsProgramStep, IsSoundS
 use Rattle.sect_names.proofs.SectionSteps.{sound_action}
 use Rattle.sect_types.specs.declared.expansion.action.Action.TheVariants as action
 use Rattle.sect_types.specs.declared.expansion.action.Label.TheVariants as label
-
--- what stands in the second of two lists
-pub slice_get-right : {A : Type 0} (xs ys : List A) (j : ℕ) (x : A) → slice_get ys j ≡ Some x
-    → slice_get (xs ++ ys) (length xs + j) ≡ Some x
-slice_get-right [] ys j x e = let z : j ≡ 0 + j = omega arith in subst (λ k. slice_get ys k ≡ Some x) z e
-slice_get-right (y ∷ xs) ys j x e =
-    let z : suc (length xs + j) ≡ length (y ∷ xs) + j = omega arith in
-    subst (λ k. slice_get (y ∷ (xs ++ ys)) k ≡ Some x) z (slice_get-right xs ys j x e)
 
 -- a `new` has a site whose record is its own, where these are the records of the sites from n on
 abbrev SitedAt : ℕ → List ℕ → Action → Type 0

@@ -1,10 +1,12 @@
 -- A tree has one program.
-use Rattle.std.proofs.Common.{◌≡◌, List, sym, ap, ◌∙◌}
+use Rattle.std.proofs.Common.{◌≡◌, List, sym, ap, ◌∙◌, ℕ, Ok}
 use Rattle.sect_front.specs.TreeView.{TreeView}
 use Rattle.sect_types.specs.{Sight.{names_of_records}, Environments.{field_types, global_records}}
 use Rattle.sect_types.specs.{Statements.{TextView}, Expanded.{all_local_types, texts_of}, Lockings.{lockings_of}}
 use Rattle.sect_types.specs.Programs.{ProgramView, IsOfTree, numbered_by}
 use Rattle.sect_lemmas.proofs.Options.{some_injective}
+use Rattle.sect_front.proofs.shared.Only.{only}
+use Rattle.sect_names.specs.Sources.{IsTypedText}
 
 -- a program has the numbers of its tree
 abbrev numbered : TreeView → List TextView → ProgramView
@@ -27,3 +29,8 @@ pub one_program : (p q : ProgramView) → IsOfTree p → IsOfTree q → q.source
 one_program p q of_p of_q same =
     let texts = some_injective q.texts p.texts (sym of_q.texts_are ∙ ap texts_of same ∙ of_p.texts_are) in
     is_numbered q of_q ∙ (λ i. numbered (same i) (texts i)) ∙ sym (is_numbered p of_p)
+
+-- a text has one program
+pub one_text : (bytes : List ℕ) (p q : ProgramView) → IsTypedText bytes p → IsTypedText bytes q → q ≡ p
+one_text bytes p q of_p of_q =
+    one_program p q of_p.numbers of_q.numbers (only bytes p.source of_p.spelled (Ok q.source) of_q.spelled)

@@ -48,11 +48,12 @@ range_among total [] i d h lt = absurd (omega (arith, lt))
 range_among total (r ∷ rs) zero d h lt = (h.0, h.1)
 range_among total (r ∷ rs) (suc i) d h lt = range_among total rs i d h.2 (omega (arith, lt))
 
--- those of some of them, one after another, lie so too
-lower : (low from total : ℕ) (ss : List Span) → low ≤ from → AreInOrder from total ss → AreInOrder low total ss
+-- what stands in order from a place on stands in order from an earlier one on
+pub lower : (low from total : ℕ) (ss : List Span) → low ≤ from → AreInOrder from total ss → AreInOrder low total ss
 lower low from total [] le h = tt
 lower low from total (s ∷ ss) le h = (omega (arith, le, h.0), h.1, h.2, h.3)
 
+-- those of some of them, one after another, lie so too
 order_first : (from total n : ℕ) (ss : List Span) → AreInOrder from total ss → AreInOrder from total (take n ss)
 order_first from total zero ss h = tt
 order_first from total (suc n) [] h = tt

@@ -7,17 +7,19 @@ use Rattle.sect_types.specs.declared.expansion.action.Value.TheVariants as value
 use Rattle.sect_types.specs.declared.expansion.action.Base.TheVariants as base
 use Rattle.sect_types.specs.declared.expansion.action.Action.TheVariants as action
 
--- more there, more is moved
-value_more : (F G : Family) (t : ℕ) (v : Value) (s : ℕ) → Within F G → ValueHas F t v s → ValueHas G t v s
+-- a value has what it had where more is there
+pub value_more : (F G : Family) (t : ℕ) (v : Value) (s : ℕ) → Within F G → ValueHas F t v s → ValueHas G t v s
 value_more F G t (value.Local x) s sub h = sub _ s h
 value_more F G t (value.Global g) s sub h = h
 value_more F G t value.Null s sub h = h
 value_more F G t (value.Number n) s sub h = h
 
-base_more : (F G : Family) (t : ℕ) (b : Base) (s : ℕ) → Within F G → BaseHas F t b s → BaseHas G t b s
+-- and so has a base
+pub base_more : (F G : Family) (t : ℕ) (b : Base) (s : ℕ) → Within F G → BaseHas F t b s → BaseHas G t b s
 base_more F G t (base.Local x) s sub h = sub _ s h
 base_more F G t (base.Global g) s sub h = h
 
+-- and more is moved
 pub moved_more : (F G : Family) (t : ℕ) (a : Action) → Within F G → Within (Moved F t a) (Moved G t a)
 moved_more F G t (action.Assign x v) sub h s m = (m.0, value_more F G t v s sub m.1)
 moved_more F G t (action.Compute x v o w) sub h s m = m

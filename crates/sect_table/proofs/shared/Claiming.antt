@@ -1,11 +1,11 @@
 -- Lists of claims and of holds: who is among them, and in which mode.
 use Rattle.std.proofs.Common.{◌≡◌, inl, inr, ℕ, zero, suc, ◌≤◌, List, [], ◌∷◌, ◌++◌, drop, Bool, true, false, not}
-use Rattle.std.proofs.{Common.{Option, Some, None, refl, sym, ◌∙◌, ap, arith}, lemmas.Bool.{eqb-true, cases_Bool}}
+use Rattle.std.proofs.Common.{Option, Some, None, refl, sym, ◌∙◌, ap, arith}
+use Rattle.std.proofs.lemmas.Bool.{or_parts, eqb-true, cases_Bool}
 use Rattle.std.specs.{Prelude.{◌==◌, ◌||◌, if◌then◌else◌}, List.{find}, Option.{option_map}}
 use Rattle.sect_modes.specs.{declared.mode.Mode.{Mode}, declared.key.Key.{Key}, Key.{is_same_key}}
 use Rattle.sect_table.specs.{declared.claims.Claim.{Claim}, declared.claims.Hold.{Hold}}
 use Rattle.sect_table.specs.{Contents.{is_among, mode_in, mode_for, stay, AreApart}, Sound.{claims_by, one_if}}
-use Rattle.sect_lemmas.proofs.Booleans.{neither}
 
 pub true_or_false : (b : Bool) → b ≡ true → b ≡ false → ⊥
 true_or_false b t f = let off : true ≡ false = sym t ∙ f in cc
@@ -15,7 +15,7 @@ pub among-append : (t : ℕ) (xs ys : List Claim) → is_among t (xs ++ ys) ≡ 
     → (is_among t xs ≡ false) × (is_among t ys ≡ false)
 among-append t [] ys e = (refl, e)
 among-append t (x ∷ xs) ys e =
-    let both = neither (x.thread == t) (is_among t (xs ++ ys)) e in
+    let both = or_parts (x.thread == t) (is_among t (xs ++ ys)) e in
     let rest = among-append t xs ys both.1 in
     (ap (λ b. b || is_among t xs) both.0 ∙ rest.0, rest.1)
 
@@ -23,7 +23,7 @@ pub among_append : (t : ℕ) (xs ys : List Claim) → is_among t xs ≡ false �
     → is_among t (xs ++ ys) ≡ false
 among_append t [] ys e f = f
 among_append t (x ∷ xs) ys e f =
-    let both = neither (x.thread == t) (is_among t xs) e in
+    let both = or_parts (x.thread == t) (is_among t xs) e in
     ap (λ b. b || is_among t (xs ++ ys)) both.0 ∙ among_append t xs ys both.1 f
 
 pub among_one : (t : ℕ) (c : Claim) → (c.thread == t) ≡ false → is_among t (c ∷ []) ≡ false
@@ -32,7 +32,7 @@ among_one t c e = ap (λ b. b || false) e
 pub among_stay : (t u : ℕ) (xs : List Claim) → is_among t xs ≡ false → is_among t (stay u xs) ≡ false
 among_stay t u [] e = refl
 among_stay t u (x ∷ xs) e =
-    let both = neither (x.thread == t) (is_among t xs) e in
+    let both = or_parts (x.thread == t) (is_among t xs) e in
     let rest = among_stay t u xs both.1 in
     elim (not (x.thread == u)) as (λ b. is_among t (if b then x ∷ stay u xs else stay u xs) ≡ false) [
       | true ↦ ap (λ b. b || is_among t (stay u xs)) both.0 ∙ rest
@@ -46,7 +46,7 @@ apart_swap [] w ys a = (a.1, a.0)
 apart_swap (x ∷ xs) w ys a =
     let rest = apart_swap xs w ys a.1 in
     let off = among-append x.thread xs (w ∷ ys) a.0 in
-    let both = neither (w.thread == x.thread) (is_among x.thread ys) off.1 in
+    let both = or_parts (w.thread == x.thread) (is_among x.thread ys) off.1 in
     let other : (x.thread == w.thread) ≡ false = grind (arith, both.0) in
     ((among_append x.thread xs ys off.0 both.1, rest.0), ap (λ b. b || is_among w.thread (xs ++ ys)) other ∙ rest.1)
 
@@ -77,7 +77,7 @@ mode_for-later t c cs e = ap (λ b. mode_if b c (find (λ (z : Claim). z.thread 
 
 pub mode_for-missing : (t : ℕ) (cs : List Claim) → is_among t cs ≡ false → mode_for t cs ≡ None
 mode_for-missing t [] e = refl
-mode_for-missing t (c ∷ cs) e = let both = neither (c.thread == t) (is_among t cs) e in
+mode_for-missing t (c ∷ cs) e = let both = or_parts (c.thread == t) (is_among t cs) e in
     mode_for-later t c cs both.0 ∙ mode_for-missing t cs both.1
 
 pub mode_for-push_other : (t : ℕ) (cs : List Claim) (c : Claim) → (c.thread == t) ≡ false
@@ -92,7 +92,7 @@ mode_for-push_other t (d ∷ ds) c e = elim (cases_Bool (d.thread == t)) [
 pub mode_for-push : (t : ℕ) (cs : List Claim) (c : Claim) → is_among t cs ≡ false → (c.thread == t) ≡ true
     → mode_for t (cs ++ c ∷ []) ≡ Some c.mode
 mode_for-push t [] c none e = mode_for-here t c [] e
-mode_for-push t (d ∷ ds) c none e = let both = neither (d.thread == t) (is_among t ds) none in
+mode_for-push t (d ∷ ds) c none e = let both = or_parts (d.thread == t) (is_among t ds) none in
     mode_for-later t d (ds ++ c ∷ []) both.0 ∙ mode_for-push t ds c both.1 e
 
 pub mode_for-stay_other : (t u : ℕ) (cs : List Claim) → (t == u) ≡ false → mode_for t (stay u cs) ≡ mode_for t cs
@@ -143,3 +143,10 @@ pub claims_by-drop : (t n : ℕ) (xs : List Claim) → claims_by t (drop n xs) �
 claims_by-drop t zero xs = omega arith
 claims_by-drop t (suc n) [] = omega arith
 claims_by-drop t (suc n) (x ∷ xs) = let rest = claims_by-drop t n xs in omega arith
+
+-- the claims of a thread that has none there are all that there are
+pub stay-missing : (t : ℕ) (cs : List Claim) → is_among t cs ≡ false → stay t cs ≡ cs
+stay-missing t [] e = refl
+stay-missing t (c ∷ cs) e =
+    let both = or_parts (c.thread == t) (is_among t cs) e in
+    ap (λ b. if not b then c ∷ stay t cs else stay t cs) both.0 ∙ ap (λ z. c ∷ z) (stay-missing t cs both.1)

@@ -2,8 +2,9 @@
 use Rattle.std.proofs.Common.{◌≡◌, inl, inr, List, [], ◌∷◌, length, get_or, false, refl, sym, ◌∙◌, ap, arith}
 use Rattle.std.proofs.{lemmas.List.{get_or_past}, lemmas.Bool.{cases_Bool}}
 use Rattle.sect_modes.specs.{declared.key.Key.{Key}, Key.{is_same_key}}
+use Rattle.sect_modes.proofs.shared.Keys.{same_key, key_itself}
 use Rattle.sect_table.specs.Contents.{Entry, number_of, entry_of, no_entry, put}
-use Rattle.sect_table.proofs.shared.Shown.{same_key, key_itself, entry_of-here, entry_of-later}
+use Rattle.sect_table.proofs.shared.Shown.{entry_of-here, entry_of-later}
 use Rattle.sect_table.proofs.Shown.{put-here, put-later}
 
 pub entry_key : (k : Key) (es : List Entry) → (entry_of k es).key ≡ k

@@ -1,13 +1,13 @@
 -- Who waits, entry by entry.
 use Rattle.std.proofs.Common.{◌≡◌, inl, inr, ℕ, ◌+◌, ◌≤◌, List, [], ◌∷◌, false, refl, sym, ◌∙◌, ap, subst, arith}
-use Rattle.std.proofs.lemmas.Bool.{cases_Bool}
+use Rattle.std.proofs.lemmas.Bool.{cases_Bool, or_parts}
 use Rattle.std.specs.List.{list_any}
 use Rattle.sect_modes.specs.{declared.key.Key.{Key}, Key.{is_same_key}}
+use Rattle.sect_modes.proofs.shared.Keys.{same_key}
 use Rattle.sect_table.specs.{Contents.{Entry, entry_of, put, is_among}, Sound.{claims_by, waits_of}}
-use Rattle.sect_table.proofs.shared.Shown.{same_key, entry_of-here, entry_of-later}
+use Rattle.sect_table.proofs.shared.Shown.{entry_of-here, entry_of-later}
 use Rattle.sect_table.proofs.shared.Entries.{entry_of-put, entry_of-put_other}
 use Rattle.sect_table.proofs.{Shown.{put-here, put-later}, Claiming.{claims_by-missing}}
-use Rattle.sect_lemmas.proofs.Booleans.{neither}
 
 -- one entry is put
 pub put_all : (P : Entry → Type 0) (e : Entry) (es : List Entry) → P e
@@ -49,7 +49,7 @@ waits_at-le t k (f ∷ fs) = elim (cases_Bool (is_same_key k f.key)) [
 pub waits_for_none : (t : ℕ) (es : List Entry) → list_any (λ e. is_among t e.waiters) es ≡ false → waits_of t es ≡ 0
 waits_for_none t [] e = refl
 waits_for_none t (f ∷ fs) e =
-    let both = neither (is_among t f.waiters) (list_any (λ e. is_among t e.waiters) fs) e in
+    let both = or_parts (is_among t f.waiters) (list_any (λ e. is_among t e.waiters) fs) e in
     let here = claims_by-missing t f.waiters both.0 in
     let rest = waits_for_none t fs both.1 in
     omega arith

@@ -1,14 +1,15 @@
 -- What statements leave, step by step.
 use Rattle.std.proofs.Common.{◌≡◌, ℕ, ℤ, zero, suc, ◌<◌, ◌≤◌, Option, Some, None, Bool, true, false, refl, sym, ap, ◌∙◌}
-use Rattle.std.proofs.Common.{arith, if◌then◌else◌}
+use Rattle.std.proofs.Common.{arith, if◌then◌else◌, true≢false}
 use Rattle.sect_types.specs.{declared.expansion.action.Condition.{Condition}, declared.expansion.action.Action.{Action}}
 use Rattle.sect_types.specs.{Statements.{TextView, Stop, Do, Choose, Loop, Section, joined}, Programs.{ProgramView}}
-use Rattle.sect_types.specs.declared.meaning.store.ObjectName.{ObjectName}
+use Rattle.sect_types.specs.{declared.meaning.store.ObjectName.{ObjectName}, Sound.{IsSound}}
 use Rattle.sect_types.specs.{declared.meaning.store.Datum.TheVariants.{Number}, Store.{ObjectView, StoreView}}
 use Rattle.sect_types.specs.Meaning.{WorkView, Came, Went, Fell, Unchanged, after_change, assigned, name_in, base_datum}
 use Rattle.sect_types.specs.Meaning.{value_datum, integer_of, result_of, fits, computed, stored, done, paid, one}
 use Rattle.sect_types.specs.Meaning.{looked, looks, found_at, Next, On, Off, going, taken, next, is_true}
 use Rattle.sect_types.specs.Whole.{Left, Through, Broken, and_then, left_by, tested, turns, body_of}
+use Rattle.sect_types.specs.Environments.{Environment}
 use Rattle.sect_types.specs.declared.expansion.action.Action.TheVariants as action
 use Rattle.sect_types.specs.declared.meaning.store.Fault.TheVariants as fault
 
@@ -209,3 +210,16 @@ step_keeps p t (Do a r) w s = went_on p t r s (one p t a (found_at s (looked a w
 step_keeps p t (Choose c y z r) w s = choice_step p t c y z r w s w.fuel
 step_keeps p t (Loop c b r) w s = turns_step p t c b r w s w.fuel
 step_keeps p t (Section i b r) w s = refl
+
+-- outside sections a sound statement looks into no object
+pub looks_nowhere : (e : Environment) (k : TextView) (w : WorkView) → IsSound e false k → looks k w ≡ None
+looks_nowhere e Stop w h = refl
+looks_nowhere e (Do (action.Assign x v) k) w h = refl
+looks_nowhere e (Do (action.Compute x v o u) k) w h = refl
+looks_nowhere e (Do (action.New x r site) k) w h = refl
+looks_nowhere e (Do (action.Load x b f) k) w h = absurd (true≢false h.1)
+looks_nowhere e (Do (action.Store b f v) k) w h = absurd (true≢false h.1)
+looks_nowhere e (Do (action.Print v) k) w h = refl
+looks_nowhere e (Choose c p q k) w h = refl
+looks_nowhere e (Loop c p k) w h = refl
+looks_nowhere e (Section i p k) w h = refl

@@ -1,9 +1,10 @@
 -- The locals of a thread are called differently, and none that is of no call as a global.
-use Rattle.std.proofs.Common.{◌≡◌, ◌≤◌, ◌<◌, ◌⊎◌, inl, inr, ℕ, zero, suc, ◌+◌, List, [], ◌∷◌, ◌++◌, map, Option, Some}
+use Rattle.std.proofs.Common.{◌≡◌, ◌≤◌, ◌<◌, ◌⊎◌, inl, inr, ℕ, zero, suc, ◌+◌, List, [], ◌++◌, map, Option, Some}
 use Rattle.std.proofs.Common.{None, true, false, refl, sym, ap, ◌∙◌, subst, length, arith, take}
 use Rattle.std.proofs.{lemmas.Bool.{eqb-true, and_parts}, lemmas.List.{length-map}}
 use Rattle.std.proofs.lemmas.Option.{slice_get-map as map_at}
 use Rattle.std.specs.{Prelude.{nat_eq, slice_get, slice_index_or}, Cmp.Lexicographic.{pointwise}, Option.{option_map}}
+use Rattle.sect_lemmas.proofs.Elements.{row_there}
 use Rattle.sect_front.specs.{TreeView.{TreeView}, declared.tree.Thread.{Thread}, declared.tree.Procedure.{Procedure}}
 use Rattle.sect_front.specs.declared.tree.Declaration.{Declaration}
 use Rattle.sect_front.specs.Syntax.{StatementView, Primitive, If, IfElse, While, Atomic, Call, BlockView, End, Then}
@@ -180,14 +181,6 @@ local_of t h i k e = elim (which (map own_name h.locals) (map fresh_name (fresh_
     mapped_at fresh_name (fresh_in t h) fresh.0 k fresh.2,
   )
 ]
-
--- the row of a table and what stands there in it
-row_there : {X : Type 0} (rows : List (List X)) (i n : ℕ) (v : X)
-    → slice_get (slice_index_or rows i []) n ≡ Some v
-    → (row : List X) × (slice_get rows i ≡ Some row) × (slice_get row n ≡ Some v)
-row_there [] i n v e = absurd cc
-row_there (row ∷ rows) zero n v e = (row, refl, e)
-row_there (row ∷ rows) (suc i) n v e = row_there rows i n v e
 
 -- its thread
 local_there : (t : TreeView) (u i : ℕ) (k : LocalName) → slice_get (slice_index_or (all_local_names t) u []) i ≡ Some k

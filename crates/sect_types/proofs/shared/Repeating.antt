@@ -1,14 +1,13 @@
 -- In a typed tree no declaration repeats a name.
 use Rattle.std.proofs.Common.{◌≡◌, ℕ, zero, suc, ◌+◌, ◌≤◌, Bool, true, false, true≢false, List, [], ◌∷◌, ◌++◌, Some}
 use Rattle.std.proofs.Common.{take, length, get_or, refl, sym, ap, ◌∙◌, subst, append_assoc, arith, Option, None}
-use Rattle.std.proofs.{lemmas.Bool.Decides.{Decides-eqb}, lemmas.List.{append-nil}}
+use Rattle.std.proofs.{lemmas.Bool.Decides.{Decides-eqb}, lemmas.List.{append-nil}, lemmas.Bool.{or_parts}}
 use Rattle.std.proofs.{lemmas.Option.{slice_get_within, get_or_from_slice_get}, lemmas.Slice.Eq.{slice_eq-Decides}}
 use Rattle.std.specs.{Prelude.{◌||◌, nat_eq, slice_get, is_some}, Cmp.Lexicographic.{pointwise}}
 use Rattle.sect_front.specs.{declared.tree.Record.{Record}, declared.tree.GlobalObject.{GlobalObject}}
 use Rattle.sect_front.specs.{declared.tree.Declaration.{Declaration}, declared.tree.Thread.{Thread}}
 use Rattle.sect_front.specs.Syntax.{StatementView, Primitive, If, IfElse, While, Atomic, Call, BlockView, End, Then}
 use Rattle.sect_front.specs.{TreeView.{TreeView}, declared.tree.Procedure.{Procedure}}
-use Rattle.sect_lemmas.proofs.Booleans.{neither}
 use Rattle.sect_types.specs.declared.rules.rule.Rule.TheVariants.{Twice}
 use Rattle.sect_types.specs.Sight.{has_name, same_name, place, names_of_globals, names_of_declared}
 use Rattle.sect_types.specs.declared.rules.place.Place.{Place}
@@ -217,7 +216,7 @@ pub locals_apart : (t : TreeView) → IsTyped t → (u : ℕ) (th : Thread) → 
     → (has_name name (take i (names_of_declared th.locals)) ≡ false)
     × (has_name name (names_of_globals t.globals) ≡ false)
 locals_apart t typed u th there i name at =
-    neither (has_name name (take i (names_of_declared th.locals))) (has_name name (names_of_globals t.globals))
+    or_parts (has_name name (take i (names_of_declared th.locals))) (has_name name (names_of_globals t.globals))
     (fails t typed (has_name name (take i (names_of_declared th.locals)) || has_name name (names_of_globals t.globals))
     (λ h. past_records (declared_in t) [] t.records _ (past_globals (declared_in t) [] t.globals _
     (past_procedures (declared_in t) 0 [] t.procedures _
@@ -229,7 +228,7 @@ pub variables_apart : (t : TreeView) → IsTyped t → (q : ℕ) (p : Procedure)
     → (i : ℕ) (name : List ℕ) → slice_get (names_of_declared (variables p)) i ≡ Some name
     → has_name name (take i (names_of_declared (variables p))) ≡ false
 variables_apart t typed q p there i name at =
-    (neither (has_name name (take i (names_of_declared (variables p)))) (has_name name (names_of_globals t.globals))
+    (or_parts (has_name name (take i (names_of_declared (variables p)))) (has_name name (names_of_globals t.globals))
     (fails t typed
     (has_name name (take i (names_of_declared (variables p))) || has_name name (names_of_globals t.globals))
     (λ h. past_records (declared_in t) [] t.records _ (past_globals (declared_in t) [] t.globals _
@@ -241,9 +240,9 @@ none_before : (x : List ℕ) (names : List (List ℕ)) (i : ℕ) → i ≤ lengt
     → NoneBefore x names i
 none_before x [] i within h k lt = absurd (omega (arith, within, lt))
 none_before x (n ∷ names) zero within h k lt = absurd (omega (arith, lt))
-none_before x (n ∷ names) (suc i) within h zero lt = (neither (pointwise nat_eq x n) (has_name x (take i names)) h).0
+none_before x (n ∷ names) (suc i) within h zero lt = (or_parts (pointwise nat_eq x n) (has_name x (take i names)) h).0
 none_before x (n ∷ names) (suc i) within h (suc k) lt =
-    none_before x names i (omega (arith, within)) (neither (pointwise nat_eq x n) (has_name x (take i names)) h).1 k
+    none_before x names i (omega (arith, within)) (or_parts (pointwise nat_eq x n) (has_name x (take i names)) h).1 k
     (omega (arith, lt))
 
 -- a name is the same as itself
@@ -272,8 +271,8 @@ pub stands : (names : List (List ℕ)) (j : ℕ) (x : List ℕ) → slice_get na
 stands [] j x at h = absurd cc
 stands (y ∷ names) zero x at h =
     let same : y ≡ x = cc in
-    true≢false (sym (same_itself x) ∙ (ap (same_name x) (sym same) ∙ (neither (same_name x y) (has_name x names) h).0))
-stands (y ∷ names) (suc j) x at h = stands names j x at (neither (same_name x y) (has_name x names) h).1
+    true≢false (sym (same_itself x) ∙ (ap (same_name x) (sym same) ∙ (or_parts (same_name x y) (has_name x names) h).0))
+stands (y ∷ names) (suc j) x at h = stands names j x at (or_parts (same_name x y) (has_name x names) h).1
 
 -- a name that is none of some names isn't among them
 none_of : (names : List (List ℕ)) (y : List ℕ) → ((i : ℕ) (x : List ℕ) → slice_get names i ≡ Some x → y ≡ x → ⊥)

@@ -11,7 +11,7 @@ use Rattle.sect_types.specs.Store.{same_datum, same_name}
 use Rattle.sect_types.proofs.shared.Stores.{same_name-true, same_name-refl}
 
 -- the derived `==` of names tells equality
-name_tells : (m n : ObjectName) → Decides (the_name_eq.eq m n) (m ≡ n)
+pub name_tells : (m n : ObjectName) → Decides (the_name_eq.eq m n) (m ≡ n)
 name_tells (Global g) (Global h) = search rules
 name_tells (Global g) (Made t n) = search rules
 name_tells (Made t n) (Global g) = search rules

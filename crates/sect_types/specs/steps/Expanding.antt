@@ -1,21 +1,19 @@
 -- How far an expansion has come.
-use Rattle.std.specs.Prelude.{◌≡◌, ◌≤◌, ◌+◌, ◌*◌, ℕ, ⊤, List, [], ◌∷◌, ◌++◌, map, length, slice_get, Option, Some, None}
+use Rattle.std.specs.Prelude.{◌≡◌, ◌≤◌, ◌+◌, ◌*◌, ℕ, ⊤, List, [], ◌∷◌, ◌++◌, map, length, slice_get, Option, Some}
 use Rattle.std.specs.Prelude.{IsSome}
 use Rattle.sect_front.specs.{declared.tree.Thread.{Thread}, TreeView.{TreeView}, declared.tree.Record.{Record}}
 use Rattle.sect_front.specs.{declared.tree.GlobalObject.{GlobalObject}, declared.tree.Procedure.{Procedure}}
-use Rattle.sect_front.specs.{declared.tree.Operand.{Operand}, Syntax.{StatementView, BlockView}, Trees.{block_size}}
+use Rattle.sect_front.specs.{Syntax.{StatementView, BlockView}, Trees.{block_size}}
 use Rattle.sect_types.specs.Limits.{most_locals, most_all_locals, most_sites, most_sections, most_calls}
 use Rattle.sect_types.specs.{Rules.{sight}, declared.expansion.expand.Fresh.{Fresh}}
-use Rattle.sect_types.specs.declared.expansion.action.Value.{Value}
 use Rattle.sect_types.specs.Expanded.{block_sections, fresh_in, Scene, NextNumbers, past_statement, past_block}
 use Rattle.sect_types.specs.Expanded.{statement_fresh, block_fresh, fresh_within, expanded_statement, expanded_block}
-use Rattle.sect_types.specs.{Expanded.{expand_within, expanded_threads}, Sight.{operand_of}}
+use Rattle.sect_types.specs.Expanded.{expand_within, expanded_threads}
 use Rattle.sect_types.specs.{declared.declarations.shown.Shown.{Shown}, Statements.{TextView, joined}}
 use Rattle.sect_types.specs.Sums.{sums_within, statement_sums, block_sums}
-use Rattle.sect_types.specs.steps.Written.{written_threads, written_texts, argument_in, written_statement}
+use Rattle.sect_types.specs.steps.Written.{written_threads, written_texts, written_statement}
 use Rattle.sect_types.specs.steps.{Written.{written_block, written_within}, Shown.{Shows}}
 use Rattle.sect_types.specs.steps.Threads.{VariablesView, variables_shown}
-use Rattle.sect_types.specs.declared.expansion.action.Value.TheVariants as value
 
 -- what all threads see
 pub record SettingView : Type 0 where
@@ -121,11 +119,6 @@ tree_of w hs = record { records = w.records; globals = w.globals; procedures = w
 abbrev pub most_size : List Procedure → ℕ
 most_size [] = 3
 most_size (p ∷ ps) = most_size ps + 2 * block_size p.body
-
--- an argument, where there is one
-abbrev pub argument_of : Scene → Option Operand → Value
-argument_of v None = value.Null
-argument_of v (Some u) = argument_in v.first (operand_of v.sight u)
 
 -- the statements `rest` of `all` are left
 pub record IsFront (w : SettingView) (n : ℕ) (v : Scene) (block all rest : BlockView) (old now : FrontView)

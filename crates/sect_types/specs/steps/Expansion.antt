@@ -1,15 +1,15 @@
 -- What is written while a text is expanded.
-use Rattle.std.specs.Prelude.{◌≡◌, ◌≤◌, ℕ, Bool, true, ◌&&◌, ◌+◌, List, [], ◌∷◌, ◌++◌, ⊤, length, slice_get, Option}
+use Rattle.std.specs.Prelude.{◌≡◌, ◌≤◌, ℕ, true, ◌+◌, List, [], ◌∷◌, ◌++◌, ⊤, length, slice_get, Option}
 use Rattle.std.specs.Prelude.{Some, None}
 use Rattle.sect_front.specs.{declared.tree.Operand.{Operand}, declared.tree.Procedure.{Procedure}}
 use Rattle.sect_front.specs.{declared.tree.Thread.{Thread}, TreeView.{TreeView}, Syntax.{StatementView, BlockView}}
 use Rattle.sect_front.specs.Trees.{block_size}
 use Rattle.sect_types.specs.Limits.{most_calls, most_locals, most_all_locals, most_sites, most_sections}
 use Rattle.sect_types.specs.{declared.counting.sums.Sums.{Sums}, declared.expansion.action.Value.{Value}}
-use Rattle.sect_types.specs.{Sight.{Sight, operand_of}, Rules.{knows_kind}, Sums.{sums, sums_within, block_sums}}
-use Rattle.sect_types.specs.{Statements.{TextView, joined}, declared.expansion.expand.Fresh.{Fresh}}
+use Rattle.sect_types.specs.{Sight.{Sight, operand_of}, Sums.{sums, sums_within, block_sums}}
+use Rattle.sect_types.specs.Statements.{TextView, joined}
 use Rattle.sect_types.specs.Expanded.{Scene, NextNumbers, block_sections, fresh_in, past_thread}
-use Rattle.sect_types.specs.steps.Listing.{all_known}
+use Rattle.sect_types.specs.steps.{Listing.{all_known}, FreshTypes.{fresh_known}}
 use Rattle.sect_types.specs.steps.Written.{Writer, argument_in, written_statement, written_block, written_within}
 use Rattle.sect_types.specs.steps.Written.{written_threads, written_texts}
 use Rattle.sect_types.specs.declared.expansion.action.Value.TheVariants as value
@@ -62,6 +62,7 @@ pub record IsExpanding (t : TreeView) (n : ℕ) (s : Sight) (first : ℕ) (block
       → IsPast old e (block_sums t.procedures (table_by t n) block) (block_sections block)
   pub room : HasRoom now (block_sums t.procedures (table_by t n) rest) (block_sections rest)
 
+-- an argument, where there is one
 abbrev pub argument_of : Scene → Option Operand → Value
 argument_of v None = value.Null
 argument_of v (Some u) = argument_in v.first (operand_of v.sight u)
@@ -86,11 +87,6 @@ RoomFor t a (h ∷ hs) =
 pub record AreExpanded (t : TreeView) (now : NextNumbers) (rest : List Thread) (texts : List TextView) : Type 0 where
   pub written : texts ++ written_threads t now rest ≡ written_texts t
   pub room : RoomFor t now rest
-
--- the types of these fresh locals are known
-abbrev pub fresh_known : List (List ℕ) → List Fresh → Bool
-fresh_known records [] = true
-fresh_known records (f ∷ fs) = knows_kind records f.declared.kind && fresh_known records fs
 
 -- all types of a thread's locals are known, and its calls are within the limit
 pub record IsReadyForTypes (t : TreeView) (records : List (List ℕ)) (h : Thread) : Type 0 where

@@ -14,8 +14,8 @@ use Rattle.sect_graph.specs.{declared.flow.Successors.TheVariants.{Next as To, B
 use Rattle.sect_names.specs.Schemes.{guard_of}
 use Rattle.sect_table.specs.{declared.claims.Answer.TheVariants.{Granted}, Contents.{Contents}, Answers.{IsAnswered}}
 use Rattle.sect_table.specs.Sound.{IsKept}
-use Rattle.sect_emit.specs.{declared.plan.Grip.{Grip}, Compiled.{CompiledView, program_of}}
-use Rattle.sect_world.specs.{declared.inside.Making.{Making}, Events.{grips_of}, Viewing.{text_at}}
+use Rattle.sect_emit.specs.{declared.plan.Grip.{Grip}, Compiled.{CompiledView, program_of}, Graphed.{text_at}}
+use Rattle.sect_world.specs.{declared.inside.Making.{Making}, Events.{grips_of}}
 
 -- where control goes on; from a test by whether it holds
 abbrev pub chosen : Successors → Bool → ℕ

@@ -1,7 +1,6 @@
-use Rattle.std.proofs.Common.{sym, ◌∙◌, subst, true≢false}
+use Rattle.std.proofs.{Common.{sym, ◌∙◌, subst, true≢false}, lemmas.Slice.Zip.{AllZip-long}}
 use Rattle.sect_conflicts.specs.Conflicts.{MayGoTogether}
 use Rattle.sect_conflicts.specs.steps.Profiles.{AreSitesOfLock}
-use Rattle.sect_conflicts.proofs.PathPairs.{zipped_many}
 use Rattle.sect_conflicts.proofs.Profiling.{profile_here, sites_of_set, told_always, told_together}
 use Rattle.sect_conflicts.proofs.shared.Selecting.{some_item}
 use Rattle.sect_conflicts.proofs.comparing.conflict_of.Goals as goal
@@ -24,9 +23,9 @@ path_pairs-requires-clause-first c =
     let x = c.index-profiles-first.result in
     let mine = profile_here p c.args.profiles.now c.requires.profiles c.args.first x c.requires.first
     c.index-profiles-first.is in
-    zipped_many (AreSitesOfLock p.scheme) c.set.result.now c.as_slice-3.result.now
+    sym (AllZip-long (AreSitesOfLock p.scheme) c.set.result.now c.as_slice-3.result.now
     (sites_of_set p c.args.first x mine c.set.result.now c.set.ensures c.as_slice-3.result.now
-    c.as_slice-3.ensures.value)
+    c.as_slice-3.ensures.value))
 
 pub path_pairs-requires-clause-second : goal.path_pairs-requires-clause-second
 path_pairs-requires-clause-second c =
@@ -34,9 +33,9 @@ path_pairs-requires-clause-second c =
     let y = c.index-profiles-second.result in
     let theirs = profile_here p c.args.profiles.now c.requires.profiles c.args.second y c.requires.second
     c.index-profiles-second.is in
-    zipped_many (AreSitesOfLock p.scheme) c.set-2.result.now c.as_slice-4.result.now
+    sym (AllZip-long (AreSitesOfLock p.scheme) c.set-2.result.now c.as_slice-4.result.now
     (sites_of_set p c.args.second y theirs c.set-2.result.now c.set-2.ensures c.as_slice-4.result.now
-    c.as_slice-4.ensures.value)
+    c.as_slice-4.ensures.value))
 
 pub returns-then-is_none : goal.returns-then-is_none
 returns-then-is_none c =

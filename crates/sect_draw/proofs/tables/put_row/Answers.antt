@@ -1,8 +1,9 @@
 use Rattle.std.proofs.Common.{◌≡◌, ◌+◌, ◌++◌, ◌-◌, ◌<◌, length, drop, sym, ap, ◌∙◌, arith}
+use Rattle.std.proofs.lemmas.List.{take_rest}
 use Rattle.std.specs.String.{string_bytes}
 use Rattle.sect_draw.specs.Table.{widest, cells_text}
 use Rattle.sect_draw.specs.steps.CellTexts.{texts}
-use Rattle.sect_draw.proofs.RowCells.{are_empty, rest_is, last_cell, next_cell, put_cell}
+use Rattle.sect_draw.proofs.RowCells.{are_empty, last_cell, next_cell, put_cell}
 use Rattle.sect_draw.proofs.tables.put_row.Goals as goal
 
 pub returns-then-are_empty : goal.returns-then-are_empty
@@ -14,7 +15,7 @@ returns-then-are_empty c = λ rows widths.
     c.in_ok-push_str.ensures.bytes
     ∙ (ap (λ t. old ++ t) (c.as_str.ensures.value
     ∙ sym (last_cell rows row j cell c.loop-column-test.true c.index-row-column.is
-    (ap are_empty (sym (rest_is row (j + 1))) ∙ (sym c.are_empty.ensures ∙ c.if-are_empty.true))))
+    (ap are_empty (sym (take_rest row (j + 1))) ∙ (sym c.are_empty.ensures ∙ c.if-are_empty.true))))
     ∙ c.loop-column.invariant.added rows widths)
 
 pub loop-column-preserved : goal.loop-column-preserved
@@ -36,6 +37,6 @@ loop-column-preserved c =
           ∙ ap (λ n. widest j rows - n) wide))
           (ap (λ t. old ++ t)
           (sym (next_cell rows row j cell c.loop-column-test.true c.index-row-column.is
-          (ap are_empty (sym (rest_is row (j + 1))) ∙ (sym c.are_empty.ensures ∙ c.if-are_empty.false))))
+          (ap are_empty (sym (take_rest row (j + 1))) ∙ (sym c.are_empty.ensures ∙ c.if-are_empty.false))))
           ∙ c.loop-column.invariant.added rows widths);
     }

@@ -1,9 +1,9 @@
-use Rattle.std.proofs.{Common.{arith, subst}, lemmas.List.{length-map}}
+use Rattle.std.proofs.{Common.{arith, subst}, lemmas.List.{length-map}, lemmas.Slice.Zip.{AllZip-long}}
 use Rattle.sect_types.specs.{Sections.{sections_of}, Programs.{ProgramView, IsWithinLimits}, Sound.{AreSound}}
 use Rattle.sect_lemmas.proofs.{Places.{at_of}, Results.{if_ok}}
 use Rattle.sect_names.specs.Needed.{end_of}
 use Rattle.sect_chains.specs.{Chains.{IsFirstChain}, Numbered.{chains_in, links_by}}
-use Rattle.sect_emit.proofs.{Chained.{chains_named, section_lawful}, Counting.{few_locks}, Spelling.{zip_length}}
+use Rattle.sect_emit.proofs.{Chained.{chains_named, section_lawful}, Counting.{few_locks}}
 use Rattle.sect_emit.proofs.chains.numbered.Goals as goal
 
 pub numbered_chains-requires-clause-locks : goal.numbered_chains-requires-clause-locks
@@ -21,7 +21,7 @@ returns-clause-few c =
     let entry = c.args.locks.now.entry in
     let few = few_locks s c.facts.ensures limits of.0.thread entry told.0.in_order (told.1 0 entry told.0.first) in
     if_ok c.numbered_chains.result (λ chains are.
-    (let e = zip_length (IsFirstChain s of.0.thread (end_of s i) g.0) entry (chains_in chains) are in
+    (let e = AllZip-long (IsFirstChain s of.0.thread (end_of s i) g.0) entry (chains_in chains) are in
     omega (arith, few, e, length-map chains.chains (links_by chains.keys))))
     (c.numbered_chains.ensures of.0 g.0 of.1 g.1)
 

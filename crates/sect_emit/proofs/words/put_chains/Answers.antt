@@ -1,5 +1,5 @@
 use Rattle.std.proofs.Common.{◌≡◌, ◌<◌, ◌+◌, ◌∙◌, ◌++◌, ◌∷◌, [], Some, length, take, refl, sym, ap, subst}
-use Rattle.std.proofs.Common.{arith, append-nil}
+use Rattle.std.proofs.{Common.{arith, append-nil}, lemmas.Slice.Zip.{AllZip-long}}
 use Rattle.std.proofs.lemmas.{List.{length-map}, Option.{slice_get-get_or, slice_get-map, get_or_from_slice_get}}
 use Rattle.std.specs.{Prelude.{slice_get}, Option.{option_map}, List.{AllByRecursion}}
 use Rattle.sect_lemmas.proofs.{Membership.{Has-slice_get}, Places.{one_at, each_at, zipped_at}}
@@ -7,7 +7,7 @@ use Rattle.sect_cert.specs.Texts.{IsLock, IsChain, chains_lines, lines_text}
 use Rattle.sect_cert.proofs.shared.Lines.{next_chain as one_chain}
 use Rattle.sect_chains.specs.Numbered.{links_by, chains_in}
 use Rattle.sect_emit.specs.{Words.{chains_words}, steps.Known.{IsFirstNamed}}
-use Rattle.sect_emit.proofs.{KnownLemmas.{known_none}, Spelling.{next_chain, all_more, zip_length}}
+use Rattle.sect_emit.proofs.{KnownLemmas.{known_none}, Spelling.{next_chain, all_more}}
 use Rattle.sect_emit.proofs.words.put_chains.Goals as goal
 
 pub loop-lock-init : goal.loop-lock-init
@@ -25,7 +25,7 @@ bounds-entry-lock c =
       c.loop-lock-test.true,
       c.len-lock-end.ensures,
       length-map v.chains (links_by v.keys),
-      zip_length (IsFirstNamed c.args.program.now.source) c.args.entry.now (chains_in v) c.requires.first,
+      AllZip-long (IsFirstNamed c.args.program.now.source) c.args.entry.now (chains_in v) c.requires.first,
     )
 
 pub chain_of-requires-clause-named : goal.chain_of-requires-clause-named
@@ -55,7 +55,7 @@ chain_of-requires-clause-first c =
       c.loop-lock-test.true,
       c.len-lock-end.ensures,
       length-map v.chains (links_by v.keys),
-      zip_length (IsFirstNamed t) entry (chains_in v) c.requires.first,
+      AllZip-long (IsFirstNamed t) entry (chains_in v) c.requires.first,
     ) in
     let there : slice_get entry i ≡ Some first = slice_get-get_or entry i first within
     ∙ ap (λ z. Some z) (sym c.index-entry-lock.is) in
@@ -72,7 +72,7 @@ chain_of-requires-clause-good c =
       c.loop-lock-test.true,
       c.len-lock-end.ensures,
       length-map v.chains (links_by v.keys),
-      zip_length (IsFirstNamed c.args.program.now.source) entry (chains_in v) c.requires.first,
+      AllZip-long (IsFirstNamed c.args.program.now.source) entry (chains_in v) c.requires.first,
     ) in
     let there : slice_get entry i ≡ Some first = slice_get-get_or entry i first within
     ∙ ap (λ z. Some z) (sym c.index-entry-lock.is) in

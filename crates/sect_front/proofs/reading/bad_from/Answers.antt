@@ -1,6 +1,7 @@
 use Rattle.std.proofs.{Common.{◌-◌, ◌++◌, length, arith, sym, ◌∙◌, ap, ◌<◌, ◌≡◌}, lemmas.Bool.Decides.{nat_tests}}
+use Rattle.std.proofs.lemmas.List.{nil_from_length}
 use Rattle.sect_front.proofs.{Lexemes.{lexeme_first}, Reach.{bad_at, lexed}}
-use Rattle.sect_front.proofs.Texts.{leads_nowhere, leads_more, shorter, nothing_left}
+use Rattle.sect_front.proofs.Texts.{leads_nowhere, leads_more, shorter}
 use Rattle.sect_front.proofs.reading.bad_from.Goals as goal
 
 pub loop-here-init : goal.loop-here-init
@@ -35,4 +36,4 @@ pub returns : goal.returns
 returns c = λ before h.
     let led = c.loop-here.invariant.leads before h in
     let left : length c.loop-here.here.now ≡ 0 = grind (arith, nat_tests) in
-    (led.0, lexed c.args.bytes.now (before ++ led.0) c.loop-here.here.now led.1 (nothing_left _ left))
+    (led.0, lexed c.args.bytes.now (before ++ led.0) c.loop-here.here.now led.1 (nil_from_length _ left))

@@ -1,12 +1,12 @@
 use Rattle.std.proofs.Common.{◌≡◌, ◌<◌, ◌-◌, ◌++◌, ◌∷◌, [], length, arith, refl, sym, ◌∙◌, ap, subst}
-use Rattle.std.proofs.lemmas.Bool.Decides.{nat_tests}
+use Rattle.std.proofs.{lemmas.Bool.Decides.{nat_tests}, lemmas.List.{nil_from_length}}
 use Rattle.std.specs.Prelude.{filter}
 use Rattle.sect_front.specs.{Expected.{all_kinds}, Faults.{tokens_in, IsUnexpectedAt, IsTooDeepAt}, Gaps.{after_gap}}
 use Rattle.sect_front.specs.steps.{Taking.{is_kind_taken}, Verdicts.{SpellingAt}, Read.{finish_of}}
 use Rattle.sect_front.proofs.{Lexemes.{lexeme_first}, Reach.{reached_none, reached_rest, bad_at, lexed}}
 use Rattle.sect_front.proofs.Verdict.{reads_nothing, finished, is_low, brace_most}
 use Rattle.sect_front.proofs.Texts.{ReadHere, token_here, span_here, passed, reads_on, shorter, unexpected_at}
-use Rattle.sect_front.proofs.Texts.{too_deep_at, text_ends, nothing_left, passed_shorter, passed_reads}
+use Rattle.sect_front.proofs.Texts.{too_deep_at, text_ends, passed_shorter, passed_reads}
 use Rattle.sect_front.proofs.Following.{kinds_expected}
 use Rattle.sect_front.proofs.shared.Rests.{rest_more}
 use Rattle.sect_front.proofs.reading.take_all.Goals as goal
@@ -148,7 +148,7 @@ pub returns-clause-ends : goal.returns-clause-ends
 returns-clause-ends c =
     let read = c.loop-here.invariant.read in
     let left : length c.loop-here.here.now ≡ 0 = grind (arith, nat_tests) in
-    let spells = lexed c.args.bytes.now read.places c.loop-here.here.now read.reached (nothing_left _ left) in
+    let spells = lexed c.args.bytes.now read.places c.loop-here.here.now read.reached (nil_from_length _ left) in
     text_ends c.args.bytes.now read.places c.loop-here.reader c.loop-here.level spells read.reads
     (finish_of c.loop-here.reader) refl
 

@@ -1,7 +1,8 @@
 use Rattle.std.proofs.Common.{◌≡◌, ap, sym, ◌∙◌, subst, None, true}
+use Rattle.sect_lemmas.proofs.Options.{not_some}
 use Rattle.sect_types.specs.{Programs.{environment_at}, Sound.{IsSound}, Meaning.{found_at, looks}}
 use Rattle.sect_serial.specs.steps.Moves.{Stepped}
-use Rattle.sect_serial.proofs.SoundLemmas.{sound_stepped, left_stepped, left_now, not_some}
+use Rattle.sect_serial.proofs.SoundLemmas.{sound_stepped, left_stepped, left_now}
 use Rattle.sect_serial.proofs.frame.run_body.Goals as goal
 
 pub steps-preserved : goal.steps-preserved

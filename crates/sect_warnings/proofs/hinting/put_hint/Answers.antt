@@ -4,8 +4,9 @@ use Rattle.std.specs.Prelude.{slice_get}
 use Rattle.sect_front.specs.TreeView.{TreeView}
 use Rattle.sect_types.specs.Programs.{ProgramView}
 use Rattle.sect_names.specs.{Printing.{global_name}, Schemes.{SchemeView}}
+use Rattle.sect_lint.specs.Naming.{found}
 use Rattle.sect_warnings.specs.ClassLocks.{class_lock}
-use Rattle.sect_warnings.specs.Hinting.{name_of_record, record_name, declared_by, guard_for, IsTried, IsHintOf}
+use Rattle.sect_warnings.specs.Hinting.{record_name, declared_by, guard_for, IsTried, IsHintOf}
 use Rattle.sect_warnings.specs.Hinting.{IsHintSaid}
 use Rattle.sect_warnings.proofs.Hints.{name_within}
 use Rattle.sect_warnings.proofs.hinting.put_hint.Goals as goal
@@ -37,7 +38,7 @@ returns c =
     let tree : c.tree.result.now ≡ t = rw (c.program-2.ensures, c.scheme-scheme.ensures) at c.tree.ensures.tree in
     let declared = subst (λ (u : TreeView). declared_by names (slice_get u.records r) ≡ Some k) tree
     (sym c.declared.ensures.is ∙ c.in-Some-declared.is) in
-    let name : record_name names t r ≡ Some n = ap (name_of_record names) declared
+    let name : record_name names t r ≡ Some n = ap (found names) declared
     ∙ slice_get-get_or names k c.index-accepted-number.result c.in-Some-declared.ensures.within in
     let guard = subst (λ (s : SchemeView). guard_for s r ≡ Some g) c.scheme-scheme.ensures
     (sym c.guard_for.ensures.is ∙ c.in-Some-guard_for.is) in

@@ -4,7 +4,8 @@ use Rattle.std.specs.Prelude.{slice_get}
 use Rattle.sect_types.specs.declared.meaning.store.End.TheVariants.{Done}
 use Rattle.sect_graph.specs.{Graphs.{GraphView}, Rests.{rest_at}}
 use Rattle.sect_names.specs.Schemes.{SchemeView}
-use Rattle.sect_world.specs.Viewing.{EndsSo, text_at}
+use Rattle.sect_emit.specs.Graphed.{text_at}
+use Rattle.sect_world.specs.Viewing.{EndsSo}
 use Rattle.sect_world.proofs.Opening.{ends_on, ends_off}
 use Rattle.sect_world.proofs.giving.end_after.Goals as goal
 

@@ -2,7 +2,7 @@ use Rattle.std.proofs.Common.{◌≡◌, sym, ap, ◌∙◌, subst, slice_get, S
 use Rattle.sect_lemmas.proofs.Places.{at_of, told_of}
 use Rattle.sect_graph.specs.{declared.flow.Node.{Node}, Graphs.{GraphView}, Rests.{Begins, rest_at}}
 use Rattle.sect_names.specs.Schemes.{SchemeView}
-use Rattle.sect_world.specs.Viewing.{text_at}
+use Rattle.sect_emit.specs.Graphed.{text_at}
 use Rattle.sect_world.proofs.NodeSteps.{thread_graph, after_node}
 use Rattle.sect_world.proofs.outside.begin.Goals as goal
 

@@ -2,8 +2,7 @@ use Rattle.std.proofs.Common.{refl}
 use Rattle.sect_types.specs.Programs.{environment_at}
 use Rattle.sect_lemmas.proofs.Places.{at_of}
 use Rattle.sect_graph.specs.Rests.{rest_at}
-use Rattle.sect_emit.specs.Compiled.{program_of}
-use Rattle.sect_world.specs.Viewing.{text_at}
+use Rattle.sect_emit.specs.{Compiled.{program_of}, Graphed.{text_at}}
 use Rattle.sect_world.proofs.NodeSteps.{thread_graph, step_label, all_locally}
 use Rattle.sect_world.proofs.outside.run_outside.Goals as goal
 

@@ -1,7 +1,7 @@
 use Rattle.std.proofs.Common.{◌≡◌, ◌<◌, ◌≤◌, sym, ap, ◌∙◌, slice_get, Some, length, arith}
 use Rattle.sect_graph.specs.{Graphs.{GraphView}, Rests.{rest_at}}
 use Rattle.sect_names.specs.Schemes.{SchemeView}
-use Rattle.sect_world.specs.Viewing.{text_at}
+use Rattle.sect_emit.specs.Graphed.{text_at}
 use Rattle.sect_world.proofs.NodeSteps.{at_exit, before_exit, settled_at_exit}
 use Rattle.sect_world.proofs.outside.step_outside.Goals.{After-thread-flow}
 use Rattle.sect_world.proofs.outside.step_outside.Goals as goal

@@ -2,12 +2,13 @@ use Rattle.std.proofs.Common.{◌≡◌, ◌<◌, ◌≤◌, Some, length, lengt
 use Rattle.std.proofs.{lemmas.List.{get_or_default}, lemmas.Option.{slice_get_within}}
 use Rattle.std.specs.Prelude.{slice_get}
 use Rattle.sect_lemmas.proofs.{Membership.{Has-get_or, Has-slice_get}, Places.{at_of, one_at}}
+use Rattle.sect_lemmas.proofs.Elements.{slice_get-left}
 use Rattle.sect_lemmas.specs.Lists.{Has}
 use Rattle.sect_graph.specs.{Paths.{LeadsTo}, Predecessors.{AreBefore}}
 use Rattle.sect_names.specs.Chains.{LinksTo}
 use Rattle.sect_chains.specs.declared.keep.KeptLink.{KeptLink}
 use Rattle.sect_chains.specs.steps.Working.{kept_of}
-use Rattle.sect_chains.proofs.{Growing.{kept_numbers, link_at, lock_is, grows_none, grows_at}, Places.{in_front}}
+use Rattle.sect_chains.proofs.Growing.{kept_numbers, link_at, lock_is, grows_none, grows_at}
 use Rattle.sect_chains.proofs.Carrying.{carry_next, carry_done}
 use Rattle.sect_chains.proofs.Spreading.{first_begin, first_before, first_next, first_done}
 use Rattle.sect_chains.proofs.work.Searched.carry.Goals as goal
@@ -40,7 +41,7 @@ carry_to-requires-clause-leads c = λ y x at_y at_x.
     let grown = (c.loop-node.invariant.kept b.0 b.1).steps in
     let still : slice_get c.loop-node.trail.steps.items c.args.index ≡ Some z.0
     = subst (λ ls. slice_get ls c.args.index ≡ Some z.0) (sym grown.1)
-    (in_front old.steps.items grown.0 c.args.index z.0 z.1) in
+    (slice_get-left old.steps.items grown.0 c.args.index z.0 z.1) in
     let same : z.0 ≡ x = one_at c.loop-node.trail.steps.items c.args.index z.0 x still at_x in
     let found = (c.requires.before z.0 z.1 (get_or nodes i 0)).0
     (Has-get_or nodes i 0 (omega (arith, c.loop-node-test.true))) in

@@ -1,8 +1,7 @@
 use Rattle.std.proofs.Common.{◌≡◌, ◌<◌, ℕ, List, [], ◌∷◌, ◌++◌, map, set, length, ap, ◌∙◌, sym, arith, subst}
-use Rattle.std.proofs.lemmas.List.{get_or-map, length-map}
+use Rattle.std.proofs.lemmas.List.{get_or-map, length-map, map-set}
 use Rattle.std.specs.Prelude.{slice_index_or}
 use Rattle.sect_graph.specs.Predecessors.{IsAdded}
-use Rattle.sect_lemmas.proofs.Elements.{map-set}
 use Rattle.sect_graph.proofs.Adding.{push_at}
 use Rattle.sect_graph.proofs.predecessors.Predecessors.add.Goals as goal
 

@@ -1,6 +1,5 @@
-use Rattle.std.proofs.{Common.{◌<◌, [], set, length, sym, ap, ◌∙◌, arith}, lemmas.List.{length-map}}
+use Rattle.std.proofs.{Common.{◌<◌, [], set, length, sym, ap, ◌∙◌, arith}, lemmas.List.{length-map, map-set}}
 use Rattle.std.specs.Prelude.{slice_index_or}
-use Rattle.sect_lemmas.proofs.Elements.{map-set}
 use Rattle.sect_infer.specs.steps.Fronts.{rows_of, front_of, fronts_of}
 use Rattle.sect_infer.proofs.Fronts.{front_at, front_has, fronts_set}
 use Rattle.sect_infer.proofs.lists.Lists.share.Goals as goal

@@ -1,7 +1,6 @@
 use Rattle.std.proofs.Common.{inl, inr, ◌≡◌, ◌<◌, ℕ, List, [], ◌∷◌, ◌++◌, map, set, length, ap, ◌∙◌, sym, arith, subst}
-use Rattle.std.proofs.lemmas.List.{get_or-map, length-map}
+use Rattle.std.proofs.lemmas.List.{get_or-map, length-map, map-set}
 use Rattle.std.specs.Prelude.{slice_index_or}
-use Rattle.sect_lemmas.proofs.Elements.{map-set}
 use Rattle.sect_lemmas.proofs.Membership.{Has-cases}
 use Rattle.sect_infer.specs.{Numberings.{NumberingView}, steps.Putting.{AreWithin}}
 use Rattle.sect_infer.proofs.Highest.{within_set}

@@ -1,9 +1,9 @@
 use Rattle.std.proofs.Common.{rules, arith, ◌≡◌, ◌-◌, ◌<◌, ap, sym, ◌∙◌, subst, refl, length, vec_len, take, slice_get}
-use Rattle.std.proofs.Common.{Some, suc}
+use Rattle.std.proofs.{Common.{Some, suc}, lemmas.List.{take-set}}
 use Rattle.sect_types.specs.Statements.{Stop, joined}
 use Rattle.sect_serial.specs.steps.Rests.{rest_of, AreFull, after_first}
 use Rattle.sect_lemmas.proofs.Changed.{get_there}
-use Rattle.sect_serial.proofs.RestLemmas.{rest_last, rest_set, full_last, full_take, full_set, take_set, after_joined}
+use Rattle.sect_serial.proofs.RestLemmas.{rest_last, rest_set, full_last, full_take, full_set, after_joined}
 use Rattle.sect_serial.proofs.RestLemmas.{stopped}
 use Rattle.sect_serial.proofs.rest.Rest.advance.Goals as goal
 
@@ -11,7 +11,7 @@ use Rattle.sect_serial.proofs.rest.Rest.advance.Goals as goal
 left_items : (c : goal.After-pop)
     → c.pop.new.self.items ≡ take (vec_len c.self.inside.parts - 1) c.self.inside.parts.items
 left_items c = c.pop.ensures.rest
-    ∙ take_set c.self.inside.parts.items (vec_len c.self.inside.parts - 1) c.advance.new.self
+    ∙ take-set c.self.inside.parts.items (vec_len c.self.inside.parts - 1) c.advance.new.self
 
 pub invariant_of-self : goal.invariant_of-self
 invariant_of-self c =

@@ -1,8 +1,8 @@
 use Rattle.std.proofs.Common.{◌++◌, ◌∷◌, [], ap, ◌∙◌}
 use Rattle.indexmap.proofs.CallerLemmas.{insert_entry-new}
+use Rattle.sect_lemmas.proofs.Options.{not_some}
 use Rattle.sect_serial.specs.Comparing.{end_eq}
 use Rattle.sect_serial.specs.steps.States.{has_end}
-use Rattle.sect_serial.proofs.SoundLemmas.{not_some}
 use Rattle.sect_serial.proofs.states.Ends.add.Goals as goal
 
 pub returns : goal.returns

@@ -1,8 +1,8 @@
 use Rattle.std.proofs.Common.{◌∙◌, ◌++◌, ◌∷◌, [], ap, sym, refl, arith, subst, take, ◌+◌}
+use Rattle.std.proofs.lemmas.List.{get_or_read}
 use Rattle.std.specs.Prelude.{slice_index_or}
 use Rattle.sect_lemmas.proofs.Changed.{set_put}
 use Rattle.sect_types.proofs.Reversing.{AreReversed, one_reversed, all_reversed, called_there, gathered, read_call}
-use Rattle.sect_types.proofs.Reversing.{read_row}
 use Rattle.sect_types.proofs.rules.called.put_callers.Goals as goal
 
 pub index_mut-requires : goal.index_mut-requires
@@ -30,8 +30,8 @@ loop-callee-preserved c =
     let q = slice_index_or all c.loop-callee.callee-index 0 in
     let calls = read_call ps c.args.number all c.loop-callee.callee-index (omega arith) is in
     let there = called_there ps c.args.number q calls in
-    let row = read_row c.loop-callee.callers.items q c.index_mut.result.now
-    (omega (arith, c.loop-callee.invariant.before.as_many, there)) c.index_mut.ensures.value in
+    let row = get_or_read c.loop-callee.callers.items q c.index_mut.result.now
+    (omega (arith, c.loop-callee.invariant.before.as_many, there)) c.index_mut.ensures.value [] in
     subst (λ x. AreReversed c.args.number ps x (take (c.loop-callee.callee-index + 1) all))
     (sym (set_put q c.push.new.self c.loop-callee.callers.items))
     (one_reversed c.args.number ps c.loop-callee.callers.items all c.loop-callee.callee-index q c.push.new.self

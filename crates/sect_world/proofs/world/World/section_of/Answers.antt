@@ -2,8 +2,8 @@
 use Rattle.std.proofs.Common.{◌≡◌, Some, sym, ◌∙◌, subst, arith}
 use Rattle.std.specs.Prelude.{ℕ, slice_get}
 use Rattle.sect_graph.specs.Rests.{rest_at}
-use Rattle.sect_emit.specs.State.{ThreadState, IsThread, Entered}
-use Rattle.sect_world.specs.{Moments.{world_at}, Worlds.{WorldView}, Viewing.{text_at}}
+use Rattle.sect_emit.specs.{State.{ThreadState, IsThread, Entered}, Graphed.{text_at}}
+use Rattle.sect_world.specs.{Moments.{world_at}, Worlds.{WorldView}}
 use Rattle.sect_world.specs.steps.Moves.{IsNext}
 use Rattle.sect_world.proofs.{MoveTurns.{text_is}, TurnPlaces.{on_entered, no_step_entered}}
 use Rattle.sect_world.proofs.{Viewing.{runs_here, read_here}, world.World.section_of.Goals.{After-index}}

@@ -1,7 +1,8 @@
 use Rattle.std.proofs.Common.{arith, ◌∙◌, subst, ap, refl, length}
 use Rattle.std.specs.Prelude.{replicate, false, []}
+use Rattle.sect_lemmas.proofs.Changed.{get_there}
 use Rattle.sect_types.specs.steps.Called.{Marks}
-use Rattle.sect_types.proofs.Marking.{begun, searched, passed_by, all_searched, found_there, read_found}
+use Rattle.sect_types.proofs.Marking.{begun, searched, passed_by, all_searched, found_there}
 use Rattle.sect_types.proofs.rules.called.Called.returning.Goals.{then-next-len+in_ok-mark_callers, else-next-len}
 use Rattle.sect_types.proofs.rules.called.Called.returning.Goals as goal
 
@@ -24,7 +25,7 @@ loop-next-preserved c = elim c.if-next-len.branch [
   | then-next-len+in_ok-mark_callers w ↦ rw (w.marked-is, w.found-is) (searched c.args.self.now c.args.number
       c.loop-next.next w.index-reached.result.now c.loop-next.marked.items c.loop-next.found.items
       w.mark_callers.new.marked.items w.mark_callers.new.found.items
-      (read_found c.loop-next.found.items c.loop-next.next w.index-reached.result.now
+      (get_there c.loop-next.next w.index-reached.result.now c.loop-next.found.items
       (omega (arith, w.if-next-len.true, c.len.ensures)) w.index-reached.ensures) c.loop-next.invariant
       (w.in_ok-mark_callers.ensures.right c.args.number) w.in_ok-mark_callers.ensures.both
       w.in_ok-mark_callers.ensures.grows w.in_ok-mark_callers.ensures.callers)

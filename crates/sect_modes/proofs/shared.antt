@@ -1,0 +1,2 @@
+-- What follows from the public words of this crate, for the proofs of the crates above.
+pub mod Keys

@@ -89,12 +89,7 @@ fn pass_bytes<'a>(
 
 /// Adds the gap at the front of a rest of a text, behind which this follows, to the text's gaps, if it is many bytes.
 #[inline(always)]
-fn keep(
-    bytes: &[u8],
-    here: &[u8],
-    after: &[u8],
-    gaps: &mut Vec<Span>,
-) -> Result<(), AllocError>
+fn keep(bytes: &[u8], here: &[u8], after: &[u8], gaps: &mut Vec<Span>) -> Result<(), AllocError>
     requires gaps { AreGaps bytes.now gaps.old.items }
     requires rest { IsRestOf bytes.now here.now }
     requires after { after.now ≡ gap_of here.now }

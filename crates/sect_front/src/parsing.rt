@@ -153,8 +153,8 @@ pub fn parse_placed(alloc: Global, bytes: &[u8]) -> Result<Tree, PlacedFault>
     parse_gapped(alloc, bytes, &mut gaps)
 }
 
-/// What `parse_placed` gives. With it long gaps that the reading passes are added to these, in the order of the text, but
-/// for those in a statement that is read whole: what reads the text again passes each at once.
+/// What `parse_placed` gives. With it long gaps that the reading passes are added to these, in the order of the text,
+/// but for those in a statement that is read whole: what reads the text again passes each at once.
 pub fn parse_gapped(alloc: Global, bytes: &[u8], gaps: &mut Vec<Span>) -> Result<Tree, PlacedFault>
     requires { AreGaps bytes.now gaps.old.items }
     // A tree that is given is spelled so.

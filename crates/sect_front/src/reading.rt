@@ -88,8 +88,8 @@ fn unless_bad(bytes: &[u8], here: &[u8], fault: ReadFault) -> ReadFault
     }
 }
 
-/// Has a new reader take all tokens of a text, unless there is a fault. Long gaps that are passed are kept, but for those
-/// in a statement that is read whole.
+/// Has a new reader take all tokens of a text, unless there is a fault. Long gaps that are passed are kept, but for
+/// those in a statement that is read whole.
 fn take_all(
     alloc: Global,
     bytes: &[u8],

@@ -163,8 +163,8 @@ impl Within {
         matches!(self.place, Partial::Head(None))
     }
 
-    /// Adds the statement without a block that stands at the front, or begins the `if` that stands there, and gives what
-    /// follows. Where neither stands there, and where no statement can begin, nothing changes.
+    /// Adds the statement without a block that stands at the front, or begins the `if` that stands there, and gives
+    /// what follows. Where neither stands there, and where no statement can begin, nothing changes.
     pub fn pass_statement<'a>(
         &mut self,
         alloc: Global,

@@ -62,7 +62,7 @@ fn spans_of_every_form(rt: HostRuntime) -> Result<(), Fail> {
 const GAPPED: &[u8] = b"  // blanks and a comment before the first token\nrecord R {\n\
     int a; // a comment behind a declaration, and blanks\n    \n    int b; }\nglobal R g; // short\n\
     thread t {                                        atomic { g.a = 1; // a comment behind a statement\n  \
-    g.b = 2; } } // a comment that the end closes";
+    } } // a comment that the end closes";
 
 /// Its long gaps.
 const GAPS: &[&[u8]] = &[

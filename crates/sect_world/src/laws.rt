@@ -56,10 +56,10 @@ pub fn clashing_sections_exclude_each_other()
     ensures { (c : CompiledView) → IsCompiled c → ClashingSectionsExclude c }
 {}
 
-/// While one of two sections that go together is in progress, it doesn't keep the other waiting: the mode in which it has
-/// taken a key goes with the one in which the other wants that key first. A third thread may hold the key too. With the
-/// least sets so it is with all that the first holds: the key of an object that the section has made itself, which it
-/// holds without a `take`, is one that the other never asks for.
+/// While one of two sections that go together is in progress, it doesn't keep the other waiting: the mode in which it
+/// has taken a key goes with the one in which the other wants that key first. A third thread may hold the key too. With
+/// the least sets so it is with all that the first holds: the key of an object that the section has made itself, which
+/// it holds without a `take`, is one that the other never asks for.
 pub fn sections_that_go_together_never_wait()
     ensures taken { (c : CompiledView) → IsCompiled c → TogetherNeverWait c }
     ensures held { (c : CompiledView) → IsCompiled c → AreSetsLeast c → TogetherNeverWaitForHeld c }

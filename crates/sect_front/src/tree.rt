@@ -6,6 +6,7 @@ ghost use Rattle.sect_front.specs.{Syntax.{End}, Limits.{most_depth}};
 use crate::items::Items;
 use crate::literal::Literal;
 use crate::name::Name;
+use crate::room::{LONG_LIST, make_room};
 use std::alloc::{AllocError, Global};
 use std::marker::Model;
 
@@ -84,9 +85,6 @@ pub enum Primitive {
     Print(Operand),
 }
 
-/// A block of so many statements is long.
-const LONG_BLOCK: usize = 64;
-
 /// Statements, one after another.
 #[cycle(tree)]
 #[derive(Drop)]
@@ -157,25 +155,19 @@ impl Block {
         ensures err { OnErr result (self.new ≡ self.old) }
     {
         if self.statements.len() == self.statements.capacity() {
-            self.make_room()?;
+            make_room(&mut self.statements)?;
         }
         self.statements.push(statement)?;
         Ok(())
     }
 
-    /// Makes room for more statements, where there is none: for one in a new block, since most blocks that stand in
-    /// others have one, and for three times as many in a long one, which is seldom moved then.
-    #[inline(never)]
-    fn make_room(&mut self) -> Result<(), AllocError>
+    /// Gives back the room that no statement needs. A long block would take longer to move than that is worth.
+    pub(crate) fn fit(&mut self)
         ensures { self.new ≡ self.old }
     {
-        let count = self.statements.len();
-        let more = if count < LONG_BLOCK {
-            count.max(1)
-        } else {
-            count.saturating_mul(3)
-        };
-        self.statements.reserve_exact(more)
+        if self.statements.len() < LONG_LIST {
+            self.statements.shrink_to_fit();
+        }
     }
 
     /// Adds a statement before the last one.

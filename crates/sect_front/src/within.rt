@@ -560,6 +560,7 @@ impl Within {
     fn close(&mut self, alloc: Global) -> Result<Option<Block>, AllocError>
         ensures { IfOk result (λ body. LeadsTo body self.new (close_step self.old.open_blocks self.old.before)) }
     {
+        self.before.fit();
         let Some(open_block) = self.open_blocks.pop() else {
             return Ok(Some(mem::replace(&mut self.before, Block::new(alloc))));
         };

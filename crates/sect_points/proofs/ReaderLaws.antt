@@ -18,15 +18,15 @@ use Rattle.sect_types.specs.declared.expansion.action.Action.TheVariants as acti
 use Rattle.sect_points.specs.declared.holders.Growth.TheVariants as growth
 
 -- a statement that reads a local or a field has the row of it
-value_reads : (t : ℕ) (v : Value) (u x : ℕ) → ReadsValue t v (Local u x) → Has (value_rows t v) (local_row_of u x)
-value_reads t (value.Local y) u x h = inl (let same : local_row_of t y ≡ local_row_of u x = cc in same)
-value_reads t (value.Global g) u x h = absurd h
-value_reads t value.Null u x h = absurd h
-value_reads t (value.Number n) u x h = absurd h
+value_reads : (n t : ℕ) (v : Value) (u x : ℕ) → ReadsValue t v (Local u x) → Has (value_rows n t v) (local_row_of n u x)
+value_reads n t (value.Local y) u x h = inl (let same : local_row_of n t y ≡ local_row_of n u x = cc in same)
+value_reads n t (value.Global g) u x h = absurd h
+value_reads n t value.Null u x h = absurd h
+value_reads n t (value.Number m) u x h = absurd h
 
-base_reads : (t : ℕ) (b : Base) (u x : ℕ) → ReadsBase t b (Local u x) → Has (base_rows t b) (local_row_of u x)
-base_reads t (base.Local y) u x h = inl (let same : local_row_of t y ≡ local_row_of u x = cc in same)
-base_reads t (base.Global g) u x h = absurd h
+base_reads : (n t : ℕ) (b : Base) (u x : ℕ) → ReadsBase t b (Local u x) → Has (base_rows n t b) (local_row_of n u x)
+base_reads n t (base.Local y) u x h = inl (let same : local_row_of n t y ≡ local_row_of n u x = cc in same)
+base_reads n t (base.Global g) u x h = absurd h
 
 no_slot_value : (t : ℕ) (v : Value) (o f : ℕ) → ReadsValue t v (Slot o f) → ⊥
 no_slot_value t (value.Local y) o f h = cc
@@ -38,44 +38,45 @@ no_slot_base : (t : ℕ) (b : Base) (o f : ℕ) → ReadsBase t b (Slot o f) →
 no_slot_base t (base.Local y) o f h = cc
 no_slot_base t (base.Global g) o f h = h
 
-local_reads : (t : ℕ) (a : Action) (u x : ℕ) → Reads t a (Local u x) → Has (rows_read t a) (local_row_of u x)
-local_reads t (action.Assign y v) u x h = value_reads t v u x h
-local_reads t (action.Compute y v o w) u x h = absurd h
-local_reads t (action.New y r i) u x h = absurd h
-local_reads t (action.Load y b f) u x h = elim h [
-  | inl k ↦ Has-left (base_rows t b) (field_row_of f.number ∷ []) (local_row_of u x) (base_reads t b u x k)
+local_reads : (n t : ℕ) (a : Action) (u x : ℕ) → Reads t a (Local u x) → Has (rows_read n t a) (local_row_of n u x)
+local_reads n t (action.Assign y v) u x h = value_reads n t v u x h
+local_reads n t (action.Compute y v o w) u x h = absurd h
+local_reads n t (action.New y r i) u x h = absurd h
+local_reads n t (action.Load y b f) u x h = elim h [
+  | inl k ↦ Has-left (base_rows n t b) (field_row_of n f.number ∷ []) (local_row_of n u x) (base_reads n t b u x k)
   | inr k ↦ (let e = k.1 in absurd cc)
 ]
-local_reads t (action.Store b f v) u x h = elim h [
-  | inl k ↦ Has-left (base_rows t b) (value_rows t v) (local_row_of u x) (base_reads t b u x k)
-  | inr k ↦ Has-right (base_rows t b) (value_rows t v) (local_row_of u x) (value_reads t v u x k)
+local_reads n t (action.Store b f v) u x h = elim h [
+  | inl k ↦ Has-left (base_rows n t b) (value_rows n t v) (local_row_of n u x) (base_reads n t b u x k)
+  | inr k ↦ Has-right (base_rows n t b) (value_rows n t v) (local_row_of n u x) (value_reads n t v u x k)
 ]
-local_reads t (action.Print v) u x h = absurd h
+local_reads n t (action.Print v) u x h = absurd h
 
-field_reads : (t : ℕ) (a : Action) (o f : ℕ) → Reads t a (Slot o f) → Has (rows_read t a) (field_row_of f)
-field_reads t (action.Assign y v) o f h = absurd (no_slot_value t v o f h)
-field_reads t (action.Compute y v p w) o f h = absurd h
-field_reads t (action.New y r i) o f h = absurd h
-field_reads t (action.Load y b g) o f h = elim h [
+field_reads : (n t : ℕ) (a : Action) (o f : ℕ) → Reads t a (Slot o f) → Has (rows_read n t a) (field_row_of n f)
+field_reads n t (action.Assign y v) o f h = absurd (no_slot_value t v o f h)
+field_reads n t (action.Compute y v p w) o f h = absurd h
+field_reads n t (action.New y r i) o f h = absurd h
+field_reads n t (action.Load y b g) o f h = elim h [
   | inl k ↦ absurd (no_slot_base t b o f k)
-  | inr k ↦ Has-right (base_rows t b) (field_row_of g.number ∷ []) (field_row_of f)
-      (inl (let e = k.1 in let same : field_row_of g.number ≡ field_row_of f = cc in same))
+  | inr k ↦ Has-right (base_rows n t b) (field_row_of n g.number ∷ []) (field_row_of n f)
+      (inl (let e = k.1 in let same : field_row_of n g.number ≡ field_row_of n f = cc in same))
 ]
-field_reads t (action.Store b g v) o f h =
+field_reads n t (action.Store b g v) o f h =
     elim h [ inl k ↦ absurd (no_slot_base t b o f k) | inr k ↦ absurd (no_slot_value t v o f k) ]
-field_reads t (action.Print v) o f h = absurd h
+field_reads n t (action.Print v) o f h = absurd h
 
-growth_reads : (g : Growth) (new : List ℕ) (p : ThreadAction) → ReadsGrowth (grown g new) p
-    → Has (rows_read p.thread p.action) (row_of g)
-growth_reads (growth.Local t x) new p r = local_reads p.thread p.action t x (subst (Reads p.thread p.action) r.3.0 r.2)
-growth_reads (growth.Field f) new p r =
-    field_reads p.thread p.action r.3.0 f (subst (Reads p.thread p.action) r.3.1 r.2)
+growth_reads : (n : ℕ) (g : Growth) (new : List ℕ) (p : ThreadAction) → ReadsGrowth (grown g new) p
+    → Has (rows_read n p.thread p.action) (row_of n g)
+growth_reads n (growth.Local t x) new p r =
+    local_reads n p.thread p.action t x (subst (Reads p.thread p.action) r.3.0 r.2)
+growth_reads n (growth.Field f) new p r =
+    field_reads n p.thread p.action r.3.0 f (subst (Reads p.thread p.action) r.3.1 r.2)
 
 -- what reads the growth stands in its row
-pub found_each : (all : List ThreadAction) (rows : List (List ThreadAction)) → AreFiled all rows
+pub found_each : (n : ℕ) (all : List ThreadAction) (rows : List (List ThreadAction)) → AreFiled n all rows
     → (g : Growth) (new : List ℕ) (p : ThreadAction) → Has all p → ReadsGrowth (grown g new) p
-    → Has (row_at rows (row_of g)) p
-found_each all rows filed g new p has r = filed.each p has (row_of g) (growth_reads g new p r)
+    → Has (row_at rows (row_of n g)) p
+found_each n all rows filed g new p has r = filed.each p has (row_of n g) (growth_reads n g new p r)
 
 same_item : (rows : List (List ThreadAction)) (k : ℕ) (x y : List ThreadAction) → k < length rows
     → get_or rows k x ≡ get_or rows k y
@@ -125,10 +126,10 @@ put_there rows row p item lt is has = record {
   only = λ r q h. inl h;
 }
 
-pub filed_more : (i : ℕ) (all : List ThreadAction) (p : ThreadAction) (old new : List (List ThreadAction))
-    → i < length all → p ≡ get_or all i p → AreFiled (take i all) old → IsPut old new (rows_read p.thread p.action) p
-    → AreFiled (take (i + 1) all) new
-filed_more i all p old new lt is a b =
+pub filed_more : (n i : ℕ) (all : List ThreadAction) (p : ThreadAction) (old new : List (List ThreadAction))
+    → i < length all → p ≡ get_or all i p → AreFiled n (take i all) old
+    → IsPut old new (rows_read n p.thread p.action) p → AreFiled n (take (i + 1) all) new
+filed_more n i all p old new lt is a b =
     let next : take (i + 1) all ≡ take i all ++ p ∷ [] =
     take_more all i p lt ∙ ap (λ r. take i all ++ r ∷ []) (sym is) in
     record {
@@ -137,7 +138,7 @@ filed_more i all p old new lt is a b =
         | inl k ↦ b.keeps r q (a.each q k r reads)
         | inr k ↦ elim k [
           | inl same ↦ subst (λ z. Has (row_at new r) z) same
-              (b.there r (subst (λ (z : ThreadAction). Has (rows_read z.thread z.action) r) (sym same) reads))
+              (b.there r (subst (λ (z : ThreadAction). Has (rows_read n z.thread z.action) r) (sym same) reads))
           | inr k ↦ absurd k
         ]
       ]);

@@ -41,7 +41,8 @@ fn fill(alloc: Global, program: &Program, sets: &mut PointsTo) -> Result<(), All
 fn readers_of(alloc: Global, program: &Program) -> Result<Readers, AllocError>
     ensures { IfOk result (λ readers. readers ≡ thread_actions program.now) }
 {
-    Ok(Readers::new(alloc, placed_statements(alloc, program)?)?)
+    let statements = placed_statements(alloc, program)?;
+    Ok(Readers::new(alloc, program.thread_count(), statements)?)
 }
 
 /// The same by these readers, with other empty sets for what has been moved on.

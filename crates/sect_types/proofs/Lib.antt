@@ -12,6 +12,7 @@ mod PassedElements
 mod SoundLemmas
 mod FindLemmas
 mod NumberedSections
+mod LastSections
 mod SectionSound
 mod ProgramTexts
 mod WholeRows

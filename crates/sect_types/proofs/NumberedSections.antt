@@ -26,7 +26,7 @@ same_number i m j e = grind (arith, nat_tests)
 other_number : (i m j : ℕ) → i ≡ m → nat_eq i (m + suc j) ≡ false
 other_number i m j e = grind (arith, nat_tests)
 
-body_at : (p : TextView) (m j : ℕ) → AreNumbered m p → section_body (m + j) p ≡ slice_get (section_bodies p) j
+pub body_at : (p : TextView) (m j : ℕ) → AreNumbered m p → section_body (m + j) p ≡ slice_get (section_bodies p) j
 body_at Stop m j h = refl
 body_at (Do a k) m j h = body_at k m j h
 body_at (Choose c p q k) m j (first, second, rest) =

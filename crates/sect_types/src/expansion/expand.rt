@@ -320,30 +320,30 @@ fn expand_statement(
         }
         Statement::If(test, then) => {
             let condition = inside.scope.condition(inside.first, test);
-            let mut yes = Text::new(alloc);
+            let mut yes = Text::with_room(alloc, then.as_slice().len())?;
             expand_block(inside, front, then, &mut yes)?;
             out.push(Step::If(condition, yes, Text::new(alloc)))?;
             Ok(())
         }
         Statement::IfElse(test, then, other) => {
             let condition = inside.scope.condition(inside.first, test);
-            let mut yes = Text::new(alloc);
+            let mut yes = Text::with_room(alloc, then.as_slice().len())?;
             expand_block(inside, front, then, &mut yes)?;
-            let mut no = Text::new(alloc);
+            let mut no = Text::with_room(alloc, other.as_slice().len())?;
             expand_block(inside, front, other, &mut no)?;
             out.push(Step::If(condition, yes, no))?;
             Ok(())
         }
         Statement::While(test, body) => {
             let condition = inside.scope.condition(inside.first, test);
-            let mut inner = Text::new(alloc);
+            let mut inner = Text::with_room(alloc, body.as_slice().len())?;
             expand_block(inside, front, body, &mut inner)?;
             out.push(Step::While(condition, inner))?;
             Ok(())
         }
         Statement::Atomic(_, body) => {
             let number = front.pass_section();
-            let mut inner = Text::new(alloc);
+            let mut inner = Text::with_room(alloc, body.as_slice().len())?;
             expand_block(inside, front, body, &mut inner)?;
             out.push(Step::Section(number, inner))?;
             Ok(())
@@ -409,7 +409,7 @@ fn expand_thread(
         scope: &scope,
         first: 0,
     };
-    let mut text = Text::new(alloc);
+    let mut text = Text::with_room(alloc, thread.body.as_slice().len())?;
     expand_block(&inside, &mut front, &thread.body, &mut text)?;
     *sites = front.sites;
     *sections = front.sections;

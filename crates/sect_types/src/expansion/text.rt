@@ -1,9 +1,11 @@
 //! The text of a thread, by numbers.
 
-ghost use Rattle.std.specs.Prelude.{◌≡◌, OnOk, OnErr, option_copied};
-ghost use Rattle.sect_types.specs.Statements.{Stop, joined, section_body};
+ghost use Rattle.std.specs.Prelude.{◌≡◌, ℕ, true, None, IfOk, OnOk, OnErr, option_copied};
+ghost use Rattle.sect_types.specs.{Statements.{Stop, joined, section_body}, Sections.{AreNumbered}};
+ghost use Rattle.sect_types.specs.steps.FoundSections.{IsSectionBelow};
 
 use crate::expansion::action::{Action, Condition};
+use sect_front::make_room;
 use std::alloc::{AllocError, Global};
 use std::marker::Model;
 
@@ -59,6 +61,15 @@ impl Text {
         }
     }
 
+    /// No statements, with room for so many.
+    pub(crate) fn with_room(alloc: Global, count: usize) -> Result<Text, AllocError>
+        ensures { IfOk result (λ text. text ≡ Stop) }
+    {
+        Ok(Text {
+            steps: Vec::with_capacity(alloc, count)?,
+        })
+    }
+
     /// The statements, in text order.
     pub fn as_slice(&self) -> &[Step]
         ensures { statements_of result.now ≡ self.now }
@@ -72,8 +83,21 @@ impl Text {
         ensures ok { OnOk result (self.new ≡ joined self.old (step_then step Stop)) }
         ensures err { OnErr result (self.new ≡ self.old) }
     {
+        if self.steps.len() == self.steps.capacity() {
+            make_room(&mut self.steps)?;
+        }
         self.steps.push(step)?;
         Ok(())
+    }
+
+    /// Whether the last statement is a section with a smaller number.
+    pub(crate) fn ends_below(&self, number: u16) -> bool
+        ensures { result ≡ true → (m : ℕ) → AreNumbered m self.now → section_body number self.now ≡ None }
+    {
+        match self.as_slice().last() {
+            Some(step) => step.is_section_below(number),
+            None => false,
+        }
     }
 
     /// The body of the section of this number, if it is in this text.
@@ -92,6 +116,16 @@ impl Text {
 
 impl Step {
     ghost use Rattle.sect_types.specs.Texts.{step_then};
+
+    /// Whether it is a section with a smaller number.
+    fn is_section_below(&self, number: u16) -> bool
+        ensures { result ≡ true → IsSectionBelow number self.now }
+    {
+        match self {
+            Step::Section(own, _) => *own < number,
+            _ => false,
+        }
+    }
 
     /// The body of the section of this number, if it is this statement or in it.
     #[cycle(find)]

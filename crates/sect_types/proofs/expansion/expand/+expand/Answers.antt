@@ -263,7 +263,7 @@ expand_statement-returns-in_ok-push-in-If-clause-text t c =
     if_written (tree_of i.setting.now []) i.most i.scope.now i.first c.args.front.now.at _ _ _
     c.condition-condition.result c.expand_block.new.out c.new.result c.args.out.now c.push-in-If.new.self
     (ap statement_of c.in-If.is) c.condition-condition.ensures
-    (anew c.new-yes.result c.expand_block.new.out _ c.new-yes.ensures c.in_ok-expand_block-in-If.ensures.text)
+    (anew c.in_ok-yes-in-If.yes c.expand_block.new.out _ c.in_ok-yes-in-If.ensures c.in_ok-expand_block-in-If.ensures.text)
     c.new.ensures
     c.in_ok-push-in-If.ensures.ok
 
@@ -275,9 +275,9 @@ expand_statement-returns-in_ok-push-in-IfElse-clause-text t c =
     c.expand_block-in-IfElse.new.front _ _ _ _ c.condition-condition-in-IfElse.result c.expand_block-in-IfElse.new.out
     c.expand_block-in-IfElse-2.new.out c.args.out.now c.push-in-IfElse.new.self (ap statement_of c.in-IfElse.is)
     c.condition-condition-in-IfElse.ensures
-    (anew c.new-yes-in-IfElse.result c.expand_block-in-IfElse.new.out _ c.new-yes-in-IfElse.ensures
+    (anew c.in_ok-yes-in-IfElse.yes c.expand_block-in-IfElse.new.out _ c.in_ok-yes-in-IfElse.ensures
     c.in_ok-expand_block-in-IfElse.ensures.text) c.in_ok-expand_block-in-IfElse.ensures.front
-    (anew c.new-no.result c.expand_block-in-IfElse-2.new.out _ c.new-no.ensures
+    (anew c.in_ok-no-in-IfElse.no c.expand_block-in-IfElse-2.new.out _ c.in_ok-no-in-IfElse.ensures
     c.in_ok-expand_block-in-IfElse-2.ensures.text)
     c.in_ok-push-in-IfElse.ensures.ok
 
@@ -288,7 +288,7 @@ expand_statement-returns-in_ok-push-in-While-clause-text t c =
     while_written (tree_of i.setting.now []) i.most i.scope.now i.first c.args.front.now.at _ _ _
     c.condition-condition-in-While.result c.expand_block-in-While.new.out c.args.out.now c.push-in-While.new.self
     (ap statement_of c.in-While.is) c.condition-condition-in-While.ensures
-    (anew c.new-inner.result c.expand_block-in-While.new.out _ c.new-inner.ensures
+    (anew c.in_ok-inner-in-While.inner c.expand_block-in-While.new.out _ c.in_ok-inner-in-While.ensures
     c.in_ok-expand_block-in-While.ensures.text)
     c.in_ok-push-in-While.ensures.ok
 
@@ -300,5 +300,5 @@ expand_statement-returns-in_ok-push-in-Atomic-clause-text t c =
     c.pass_section-number.new.self.at _ _ _ c.pass_section-number.result c.expand_block-in-Atomic.new.out c.args.out.now
     c.push-in-Atomic.new.self (ap statement_of c.in-Atomic.is) c.pass_section-number.ensures.number
     (ap (λ (f : FrontView). f.at) c.pass_section-number.ensures.front)
-    (anew c.new-inner-in-Atomic.result c.expand_block-in-Atomic.new.out _ c.new-inner-in-Atomic.ensures
+    (anew c.in_ok-inner-in-Atomic.inner c.expand_block-in-Atomic.new.out _ c.in_ok-inner-in-Atomic.ensures
     c.in_ok-expand_block-in-Atomic.ensures.text) c.in_ok-push-in-Atomic.ensures.ok

@@ -11,4 +11,4 @@ returns-clause-text c =
     (c.scope-scope.ensures ∙ ap (sight c.args.setting.now.records c.args.setting.now.globals) c.as_slice-list.ensures)
     (front_same _ (thread_start c.args.sites.now c.args.sections.now c.args.thread.now) refl refl
     (omega (arith, ap length c.as_slice-list.ensures, ap length c.new.ensures.items)) refl c.new.ensures.items)
-    (anew c.new-text.result c.expand_block.new.out _ c.new-text.ensures c.in_ok-expand_block.ensures.text)
+    (anew c.in_ok-text.text c.expand_block.new.out _ c.in_ok-text.ensures c.in_ok-expand_block.ensures.text)

@@ -6,7 +6,7 @@ ghost use Rattle.sect_points.specs.{Flow.{IsLeastFlow}, Sets.{InSets, IsEmpty, S
 ghost use Rattle.sect_points.specs.Statements.{thread_actions, IsRoomFor};
 
 use crate::marks::Marks;
-use crate::readers::Readers;
+use crate::readers::{Readers, rows_for};
 use crate::sets::PointsTo;
 use crate::solving::close;
 use crate::statements::placed_statements;
@@ -42,7 +42,7 @@ fn readers_of(alloc: Global, program: &Program) -> Result<Readers, AllocError>
     ensures { IfOk result (λ readers. readers ≡ thread_actions program.now) }
 {
     let statements = placed_statements(alloc, program)?;
-    Ok(Readers::new(alloc, program.thread_count(), statements)?)
+    Ok(Readers::new(alloc, rows_for(program), statements)?)
 }
 
 /// The same by these readers, with other empty sets for what has been moved on.

@@ -28,8 +28,8 @@ behind (step.If c p q) k m n (first, second, more) rest =
       omega (arith, r.0),
       ap (λ o. option_or o (option_or (section_body n q) (section_body n k)))
           (none_behind p m n first (omega (arith, r.0)))
-      ∙ (ap (λ o. option_or o (section_body n k))
-      (none_behind q (m + length (section_bodies p)) n second (omega (arith, r.0))) ∙ r.1),
+          ∙ (ap (λ o. option_or o (section_body n k))
+          (none_behind q (m + length (section_bodies p)) n second (omega (arith, r.0))) ∙ r.1),
     )
 behind (step.While c p) k m n (first, more) rest =
     let r = rest (m + length (section_bodies p)) more in (

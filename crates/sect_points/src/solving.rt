@@ -389,7 +389,8 @@ fn round(sets: &mut PointsTo, moved: &mut PointsTo, readers: &Readers, marks: &m
     ensures still { result ≡ false → Within (InSets sets.new) (InSets moved.new) }
 {
     let mut grew = false;
-    for row in 0..MOST_THREADS as u16 * LOCAL_ROWS {
+    let rows = sets.locals().len() as u16 * LOCAL_ROWS;
+    for row in 0..rows {
         grew = settle_locals(sets, moved, readers, row, marks) || grew;
     }
     for field in 0..MOST_FIELDS as u16 {

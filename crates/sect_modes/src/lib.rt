@@ -7,7 +7,9 @@
 mod key;
 mod laws;
 mod mode;
+mod word;
 
 pub use key::{Key, is_below, is_same};
 pub use laws::{apartness_of_modes, order_of_modes, sharing_of_modes};
 pub use mode::{Mode, at_least, compatible, intention, join};
+pub use word::{admits, against, unit, words_of_holders};

@@ -1,5 +1,5 @@
 -- A step of a thread at a node of its text's graph is the next step of what is still to run there.
-use Rattle.std.proofs.Common.{rules, ◌≡◌, ◌<◌, ◌≤◌, ◌-◌, ◌∷◌, ◌++◌, [], ℕ, true, false, List, Some, None}
+use Rattle.std.proofs.Common.{rules, ◌≡◌, ◌<◌, ◌≤◌, ◌∷◌, ◌++◌, [], ℕ, true, false, List, Some, None}
 use Rattle.std.proofs.Common.{Result, Ok, Err, IfOk, length, drop, refl, sym, ap, ◌∙◌, subst, arith, true≢false}
 use Rattle.std.proofs.lemmas.List.{get_or-set_same, map-append}
 use Rattle.std.proofs.lemmas.Option.{get_or_from_slice_get}

@@ -3,7 +3,7 @@
 use Rattle.std.proofs.Common.{◌≡◌, ◌≢◌, ◌⊎◌, inl, inr, ℕ, ◌<◌, ◌≤◌, List, [], ◌∷◌, ◌++◌, length, Bool, true, false}
 use Rattle.std.proofs.Common.{Option, Some, None, refl, sym, ap, ◌∙◌, subst, arith, append-nil}
 use Rattle.std.proofs.lemmas.Option.{slice_get_within, slice_get-get_or}
-use Rattle.std.specs.Prelude.{ℤ, slice_get, slice_index_or}
+use Rattle.std.specs.Prelude.{⊤, ℤ, slice_get, slice_index_or}
 use Rattle.sect_lemmas.specs.Lists.{Has}
 use Rattle.sect_lemmas.proofs.{Membership.{Has-cases, Has-left, Has-right}, Options.{none_or_some, some_injective}}
 use Rattle.sect_lemmas.proofs.Replaced.{each_put, put_other}
@@ -21,7 +21,7 @@ use Rattle.sect_names.specs.{declared.lock.Effect.{Effect}, Needed.{end_of}, Alo
 use Rattle.sect_names.proofs.shared.Walking.{needed_walk, section_stands}
 use Rattle.sect_modes.specs.{declared.mode.Mode.{Mode}, declared.key.Key.{Key}, Mode.{are_compatible}}
 use Rattle.sect_emit.specs.declared.plan.Grip.{Grip}
-use Rattle.sect_emit.specs.Plan.{grip, held_mode, meets, IsFixedPart, field_datum, field_of, path_datum}
+use Rattle.sect_emit.specs.Plan.{grip, key_of, held_mode, meets, IsFixedPart, field_datum, field_of, path_datum}
 use Rattle.sect_emit.specs.Compiled.{CompiledView, IsCompiled, AreSetsLeast, program_of}
 use Rattle.sect_emit.specs.State.{Position, Outside, Entered, Running, Faulted, ThreadState, State, IsThread, start}
 use Rattle.sect_emit.specs.{State.{plan_at}, ModeTests.{is_writing}}
@@ -39,7 +39,8 @@ use Rattle.sect_world.specs.Held.{locked_object, may_read, may_write, Loading, n
 use Rattle.sect_world.specs.{Kept.{HaveTheirClass, IsPlaced, IsWellKept}, Runs.{RunsTo, IsRun}}
 use Rattle.sect_world.specs.Secured.{AllSecured, Good}
 use Rattle.sect_world.specs.Together.{IsIn, HasEntered, GoTogether, taken_by, taken_after, TogetherNeverWaitForHeld}
-use Rattle.sect_world.proofs.AllowedChanges.{IsAllowed, asked_is_allowed}
+use Rattle.sect_world.proofs.AllowedChanges.{IsAllowed, asked_is_allowed, LeavesAlone, left_alone, next_is_none}
+use Rattle.sect_world.proofs.Denoting.{path_stays}
 use Rattle.sect_world.proofs.Excluding.{reader_and_writer_clash, readers_and_writers_exclude}
 use Rattle.sect_world.proofs.{GoodRuns.{runs_are_good, good_holds_enough}, GoodStates.{met_plan_secures_all}}
 use Rattle.sect_world.proofs.KeptPointed.{pointed_thread, its_section}
@@ -109,31 +110,31 @@ section_in i (Faulted j why) inside = tt
 
 module _ (c : CompiledView) where
   -- thread t has made objects from one number on, and another thread refers to none of them
-  abbrev IsUnseen : ℕ → ℕ → ThreadState → Type 0
+  abbrev pub IsUnseen : ℕ → ℕ → ThreadState → Type 0
   IsUnseen t born other = (n : ℕ) → born ≤ n → HasReference other.frame.work.locals (Made t n) → ⊥
 
   -- nor does it ask for them, where its section goes together with that of thread t
-  abbrev IsUnasked : ℕ → ℕ → ThreadState → ThreadState → Type 0
+  abbrev pub IsUnasked : ℕ → ℕ → ThreadState → ThreadState → Type 0
   IsUnasked t born th other =
       (n i j : ℕ) (m : Mode) → born ≤ n → IsIn i th.position → HasEntered j other → GoTogether c i j
       → Has other.wanted (grip (key.Made t n) m) → ⊥
 
   -- the key of an object that the thread has made in the section that is in progress
-  abbrev IsOwnKey : ℕ → ℕ → ThreadState → Grip → Type 0
+  abbrev pub IsOwnKey : ℕ → ℕ → ThreadState → Grip → Type 0
   IsOwnKey t born th g = IsInSection th.position × ((n : ℕ) × (born ≤ n) × (g.key ≡ key.Made t n))
 
   -- what thread t makes in the section that is in progress are the objects from this number on: what it holds else it
   -- has taken; references to such objects are in objects that it may write, and no other thread has one or asks for one
-  record KeepsItsOwn (s : State) (t : ℕ) (th : ThreadState) (gs : List Grip) : Type 0 where
-    born : ℕ
-    counted : born ≤ count s.store t
-    keys : (g : Grip) → Has th.held g → Has gs g ⊎ IsOwnKey t born th g
-    fields : (n : ℕ) → born ≤ n → (z : ObjectName) (x : ObjectView) → object_at s.store z ≡ Some x
+  pub record KeepsItsOwn (s : State) (t : ℕ) (th : ThreadState) (gs : List Grip) : Type 0 where
+    pub born : ℕ
+    pub counted : born ≤ count s.store t
+    pub keys : (g : Grip) → Has th.held g → Has gs g ⊎ IsOwnKey t born th g
+    pub fields : (n : ℕ) → born ≤ n → (z : ObjectName) (x : ObjectView) → object_at s.store z ≡ Some x
         → FieldRefers x (Made t n) → may_write c s.store th.held z ≡ true
-    others : (u : ℕ) (other : ThreadState) → t ≢ u → IsThread s u other
+    pub others : (u : ℕ) (other : ThreadState) → t ≢ u → IsThread s u other
         → IsUnseen t born other × IsUnasked t born th other
 
-  abbrev AllKeep : State → (ℕ → List Grip) → Type 0
+  abbrev pub AllKeep : State → (ℕ → List Grip) → Type 0
   AllKeep s gs = (t : ℕ) (th : ThreadState) → IsThread s t th → KeepsItsOwn s t th (gs t)
 
   -- the mode of a key that a thread asks for
@@ -165,37 +166,27 @@ module _ (c : CompiledView) where
   module _ (ok : IsCompiled c) (least : AreSetsLeast c) (never : PlansNeverClash c) where
     -- thread t is in section i, and thread u stands before section j, which goes together with it
     module _ (s : State) (good : Good c s) (t u : ℕ) (th other : ThreadState) (apart : t ≢ u) (at : IsThread s t th)
-        (there : IsThread s u other) (gs : List Grip) (own : KeepsItsOwn s t th gs) (i j : ℕ)
+        (there : IsThread s u other) (gs : List Grip) (i j : ℕ)
         (asked : IsAsked c s.store th gs i) (together : GoTogether c i j) (body rest : TextView)
         (text : other.frame.text ≡ Section j body rest) where
-      abbrev locals : List Datum
-      locals = other.frame.work.locals
+      abbrev asker : List Datum
+      asker = other.frame.work.locals
 
-      abbrev plan : List Grip
-      plan = plan_at c j s.store locals
+      abbrev asks : List Grip
+      asks = plan_at c j s.store asker
 
-      stands : slice_get (sections_of (program_of c).texts) j ≡ Some (record { thread = u; body = body })
-      stands = its_section c s good.kept u other there j body rest text
+      placed : slice_get (sections_of (program_of c).texts) j ≡ Some (record { thread = u; body = body })
+      placed = its_section c s good.kept u other there j body rest text
 
       pointed_over : IsSectionOver c j s.store other.frame.work
       pointed_over = record {
         section = record { thread = u; body = body };
-        at = stands;
+        at = placed;
         pointed = pointed_thread c s good.kept u other there;
       }
 
-      classes : HaveTheirClass c s.store plan
-      classes = plan_classes c ok s.store u j body other.frame.work good.kept.store
-          (good.kept.threads u other there).work stands
-
-      secured : AllSecured c s.store u j locals plan body
-      secured = met_plan_secures_all c ok s good u other there plan
-          (plan_kept c ok s.store u j body other.frame.work good.kept.store (good.kept.threads u other there).work
-          stands)
-          j body rest text (meets_itself plan (plan_at_ascends c ok j s.store locals))
-
       -- what thread t has taken goes together with what u is to ask for
-      taken_shares : (k : Key) (m n : Mode) → Has plan (grip k m) → Has gs (grip k n) → are_compatible m n ≡ true
+      taken_shares : (k : Key) (m n : Mode) → Has asks (grip k m) → Has gs (grip k n) → are_compatible m n ≡ true
       taken_shares k m n mine theirs = by (are_compatible m n) refl
         where
           by : (b : Bool) → are_compatible m n ≡ b → are_compatible m n ≡ true
@@ -209,19 +200,56 @@ module _ (c : CompiledView) where
                 (k, m, n, mine, asked.had (grip k n) theirs, e)
           ])
 
+    -- thread u stands before section j, the plan of which goes together with what thread t has taken, as to these keys
+    module _ (s : State) (good : Good c s) (t u : ℕ) (th other : ThreadState) (apart : t ≢ u) (at : IsThread s t th)
+        (there : IsThread s u other) (gs : List Grip) (own : KeepsItsOwn s t th gs) (j : ℕ) (body rest : TextView)
+        (text : other.frame.text ≡ Section j body rest)
+        (near : Key → Type 0)
+        (shares : (k : Key) (m n : Mode) → near k → Has (plan_at c j s.store other.frame.work.locals) (grip k m)
+        → Has gs (grip k n) → are_compatible m n ≡ true) where
+      abbrev locals : List Datum
+      locals = other.frame.work.locals
+
+      abbrev plan : List Grip
+      plan = plan_at c j s.store locals
+
+      stands : slice_get (sections_of (program_of c).texts) j ≡ Some (record { thread = u; body = body })
+      stands = its_section c s good.kept u other there j body rest text
+
+      classes : HaveTheirClass c s.store plan
+      classes = plan_classes c ok s.store u j body other.frame.work good.kept.store
+          (good.kept.threads u other there).work stands
+
+      secured : AllSecured c s.store u j locals plan body
+      secured = met_plan_secures_all c ok s good u other there plan
+          (plan_kept c ok s.store u j body other.frame.work good.kept.store (good.kept.threads u other there).work
+          stands)
+          j body rest text (meets_itself plan (plan_at_ascends c ok j s.store locals))
+
       -- so does all that it holds, but for the keys of its own objects
-      held_shares : (k : Key) (m n : Mode) → ((e : ℕ) → own.born ≤ e → k ≡ key.Made t e → ⊥)
+      held_shares : (k : Key) (m n : Mode) → ((e : ℕ) → own.born ≤ e → k ≡ key.Made t e → ⊥) → near k
           → held_mode k plan ≡ Some m → held_mode k th.held ≡ Some n → are_compatible m n ≡ true
-      held_shares k m n old mine theirs = elim (own.keys (grip k n) (mode_is_there k n th.held theirs)) [
-        | inl has ↦ taken_shares k m n (mode_is_there k m plan mine) has
+      held_shares k m n old is_near mine theirs = elim (own.keys (grip k n) (mode_is_there k n th.held theirs)) [
+        | inl has ↦ shares k m n is_near (mode_is_there k m plan mine) has
         | inr (inside, (e, past, is)) ↦ absurd (old e past is)
       ]
 
       -- the beginnings of a path that section j needs denote none of the objects that t has made
       module _ (p : PathView) (effect : Effect)
-          (needed : NeededIn c.scheme u (end_of c.scheme j) body (lock.Path p effect)) where
+          (needed : NeededIn c.scheme u (end_of c.scheme j) body (lock.Path p effect)) (r : PathView)
+          (within : (q : PathView) (f : Field) → GoesBy r q f → GoesBy p q f)
+          (nears : (q : PathView) (f : Field) (z : ObjectName) → GoesBy r q f → path_datum s.store locals q ≡ Refers z
+          → (k : Key) → ((o : ObjectName) → k ≡ key_of o → o ≡ locked_object c s.store z) → near k) where
+        -- what a beginning denotes is there, and its keys allow to read it
+        readable : (q : PathView) (f : Field) → GoesBy r q f → (z : ObjectName)
+            → path_datum s.store locals q ≡ Refers z
+            → ((x : ObjectView) × (object_at s.store z ≡ Some x)) × (may_read c s.store plan z ≡ true)
+        readable q f goes z at_z = beginnings_are_held c ok.scheme (typed_program c ok) u s.store other.frame.work
+            (pointed_thread c s good.kept u other there) plan j body (section_stands c.scheme j _ stands) secured p
+            q f effect needed (within q f goes) z at_z
+
         -- by a field that the path goes by no such object is reached, where none was reached before
-        by_field : (q : PathView) (f : Field) → GoesBy p q f
+        by_field : (q : PathView) (f : Field) → GoesBy r q f
             → ((n : ℕ) → own.born ≤ n → path_datum s.store locals q ≡ Refers (Made t n) → ⊥) → (n : ℕ)
             → own.born ≤ n → path_datum s.store locals (dot q f) ≡ Refers (Made t n) → ⊥
         by_field q f goes before n past is = by (path_datum s.store locals q) refl is
@@ -231,13 +259,11 @@ module _ (c : CompiledView) where
             from z at_z None found e = null_refers (Made t n) e
             from z at_z (Some x) found e =
                 let writes = own.fields n past z x found (f.number, e) in
-                let reads = (beginnings_are_held c ok.scheme (typed_program c ok) u s.store other.frame.work
-                (pointed_thread c s good.kept u other there) plan j body (section_stands c.scheme j _ stands) secured p
-                q f effect needed goes z at_z).1 in
+                let reads = (readable q f goes z at_z).1 in
                 reader_and_writer_clash c s.store plan th.held classes (good.classes t th at) z
                 (λ k a b one. held_shares k a b (λ m born_m is_m.
                 let same = locked_made c s.store z t m (sym (one (Made t m) is_m)) in
-                before m born_m (at_z ∙ ap Refers same))) reads writes
+                before m born_m (at_z ∙ ap Refers same)) (nears q f z goes at_z k one)) reads writes
 
             by : (d : Datum) → path_datum s.store locals q ≡ d
                 → field_of s.store d f.number ≡ Refers (Made t n) → ⊥
@@ -245,22 +271,43 @@ module _ (c : CompiledView) where
             by Null at_d e = null_refers (Made t n) e
             by (Refers z) at_d e = from z at_d (object_at s.store z) refl e
 
-        unreached : (q : PathView) → ((q ≡ p) ⊎ ((f : Field) × GoesBy p q f)) → (n : ℕ) → own.born ≤ n
+        unreached : (q : PathView) → ((q ≡ r) ⊎ ((f : Field) × GoesBy r q f)) → (n : ℕ) → own.born ≤ n
             → path_datum s.store locals q ≡ Refers (Made t n) → ⊥
         unreached (var (variable.Global g)) begins n past is =
             let same : Global g ≡ Made t n = refers_injective (Global g) (Made t n) is in absurd cc
         unreached (var (variable.Local v x)) begins n past is =
             (own.others u other apart there).0 n past (x, is)
         unreached (dot q f) begins n past is =
-            let goes : GoesBy p q f = elim begins [
-              | inl whole ↦ subst (λ r. GoesBy r q f) whole (inl (refl, refl))
-              | inr (g, h) ↦ goes_before p q f g h
+            let goes : GoesBy r q f = elim begins [
+              | inl whole ↦ subst (λ e. GoesBy e q f) whole (inl (refl, refl))
+              | inr (g, h) ↦ goes_before r q f g h
             ] in
             by_field q f goes (λ m born_m at_m. unreached q (inr (f, goes)) m born_m at_m) n past is
 
+        untouched : (z : ObjectName) (x : ObjectView) → object_at s.store z ≡ Some x → (d : Change)
+            → IsAllowed c s.store th.held d → (may_write c s.store th.held z ≡ true → ⊥) → LeavesAlone t s.store d z
+        untouched z x found Unchanged allows never_writes = tt
+        untouched z x found (Written y f d) allows never_writes =
+            λ e. never_writes (subst (λ q. may_write c s.store th.held q ≡ true) e allows)
+        untouched z x found (Added new) allows never_writes =
+            next_is_none t s.store (pointed_thread c s good.kept t th at).row z x found
+
+        -- so a change by thread t leaves what the path denotes
+        pub way_stays : (change : Change) → IsAllowed c s.store th.held change
+            → path_datum (after_change t s.store change) locals r ≡ path_datum s.store locals r
+        way_stays change allows = path_stays s.store (after_change t s.store change) locals r (λ q f z goes at_z.
+            let held = readable q f goes z at_z in
+            left_alone t s.store (pointed_thread c s good.kept t th at).row change z
+            (untouched z held.0.0 held.0.1 change allows (λ writes.
+            reader_and_writer_clash c s.store plan th.held classes (good.classes t th at) z
+            (λ k a b one. held_shares k a b (λ m born_m is_m.
+            let same = locked_made c s.store z t m (sym (one (Made t m) is_m)) in
+            unreached q (inr (f, goes)) m born_m (at_z ∙ ap Refers same)) (nears q f z goes at_z k one)) held.1
+            writes)))
+
       -- so its plan asks for none of them
-      plan_unasked : (n : ℕ) (m : Mode) → own.born ≤ n → Has plan (grip (key.Made t n) m) → ⊥
-      plan_unasked n m past has =
+      pub plan_unasked : ((k : Key) → near k) → (n : ℕ) (m : Mode) → own.born ≤ n → Has plan (grip (key.Made t n) m) → ⊥
+      plan_unasked always n m past has =
           let within = slice_get_within (sections_of (program_of c).texts) j _ stands in
           let locks = slice_index_or c.sets j [] in
           let part = slice_index_or c.parts j [] in
@@ -273,7 +320,7 @@ module _ (c : CompiledView) where
           let of = plan_object c.scheme part locks s.store locals planned (grip (key.Made t n) m) (Made t n) has refl in
           path_is_needed c.scheme u (end_of c.scheme j) body locks (least j _ locks stands locks_at).0 of.0 of.1 of.2
           (λ f needed. unreached of.0 f ((needed_walk c.scheme u (end_of c.scheme j) body (lock.Path of.0 f)).0 needed)
-          of.0 (inl refl) n past of.3)
+          of.0 (λ q g goes. goes) (λ q g z goes is k one. always k) of.0 (inl refl) n past of.3)
 
     -- thread v does a deed
     module _ (s : State) (good : Good c s) (gs : ℕ → List Grip) (follow : AllFollow c s gs) (all : AllKeep s gs) (v : ℕ)
@@ -488,9 +535,10 @@ module _ (c : CompiledView) where
             unseen_before new refl t th other there k,
             λ n a b m past in_a entered together has.
                 let same : i ≡ b = let e = entered.1.2 in cc in
-                plan_unasked s good t v th old (λ e. other (sym e)) there at (gs t) k a i
+                plan_unasked s good t v th old (λ e. other (sym e)) there at (gs t) k i body rest text
+                (λ x. ⊤) (λ x x1 x2 any. taken_shares s good t v th old (λ e. other (sym e)) there at (gs t) a i
                 ((follow t th there).inside a in_a)
-                (subst (GoTogether c a) (sym same) together) body rest text n m past has,
+                (subst (GoTogether c a) (sym same) together) body rest text x x1 x2) (λ x. tt) n m past has,
           )))
       deed_keeps (Take k m) after (rest, entered, wanted, lets, is) kept =
           let new = taking k m rest old in
@@ -556,7 +604,7 @@ module _ (c : CompiledView) where
           let placed = subst (λ p. IsPlaced p th) (starts_outside c fuel t th at) (kept.threads t th at).asks in
           anew (start c fuel) kept t th [] (λ g h. absurd (subst (λ ks. Has ks g) placed.0 h))
 
-      all_keep : (trace : List Event) (s : State) → IsRun c fuel trace s → AllKeep s (λ t. taken_after t trace [])
+      pub all_keep : (trace : List Event) (s : State) → IsRun c fuel trace s → AllKeep s (λ t. taken_after t trace [])
       all_keep trace s run = events_keep [] (start c fuel) refl (λ t. []) (all_follow c ok fuel [] (start c fuel) refl)
           starts_keep trace s run
 

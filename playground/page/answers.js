@@ -2,8 +2,14 @@
 
 /** An answer's document. An integer that a float can't hold stays the text of its digits. */
 export function documentOf(text) {
+  if (!/\d{16}/.test(text)) return JSON.parse(text);
   return JSON.parse(text, (_name, value, { source }) =>
     typeof value === "number" && !Number.isSafeInteger(value) ? source : value);
+}
+
+/** The documents of an answer that has one a line. */
+export function documentsOf(text) {
+  return text.split("\n").filter(Boolean).map(documentOf);
 }
 
 function subject({ kind, class: number, path, name }) {
@@ -13,6 +19,11 @@ function subject({ kind, class: number, path, name }) {
 /** A lock as the program prints it, as `R head.next`. */
 export function lockText(lock) {
   return `${lock.right} ${subject(lock)}`;
+}
+
+/** A set of locks as the program prints it. */
+export function setText(locks) {
+  return locks.map(lockText).join(", ") || "none";
 }
 
 /** A key as the program prints it, as `class 1`. */
@@ -26,8 +37,12 @@ export function meetingText({ meet, key, modes, paths }) {
   return meet === "where" ? paths.map(({ first, second }) => `${first} is ${second}`).join(", or ") : "";
 }
 
-/** The lines of an outcome: how each thread has ended, the order of the sections, and what was printed. */
-export function outcomeLines({ threads, order, output }) {
-  return [...threads.map(({ state }, thread) => `thread ${thread} ${state}`),
-    `order ${order.length ? order.join(" ") : "none"}`, ...output.map((value) => `out ${value}`)];
+/** How a thread has ended, in words. */
+export const ENDS = {
+  done: "done", running: "still running", null: "stopped at null", overflow: "stopped by overflow", fuel: "out of fuel",
+};
+
+/** A number and its noun, in the plural where it isn't one. */
+export function counted(number, noun) {
+  return `${number.toLocaleString("en")} ${noun}${number === 1 ? "" : "s"}`;
 }

@@ -1,59 +1,7 @@
-// What the program's module asks of the C library, in JavaScript: a heap, its words, its input and its output.
+// What the program's module asks of the C library, in JavaScript: its words, its input and its output.
 //
-// Nothing here is proved. A heap's blocks have sizes that are powers of two, with a list of free blocks for each size.
-
-const PAGE = 65536;
-
-class Heap {
-  constructor(exports) {
-    this.memory = exports.memory;
-    this.top = Number(exports.__heap_base.value);
-    this.top += -this.top & 15;
-    this.end = this.memory.buffer.byteLength;
-    this.free = Array.from({ length: 48 }, () => []);
-    this.sizes = new Map();
-  }
-
-  /** The address of a block of at least `size` bytes, or 0 where the memory can't grow. */
-  take(size) {
-    const power = Math.max(4, Math.ceil(Math.log2(size)));
-    const block = this.free[power].pop() ?? this.extend(2 ** power);
-    if (block) this.sizes.set(block, power);
-    return block;
-  }
-
-  extend(size) {
-    if (this.top + size > this.end) {
-      const pages = Math.max(16, Math.ceil((this.top + size - this.end) / PAGE));
-      try {
-        this.memory.grow(BigInt(pages));
-      } catch {
-        return 0;
-      }
-      this.end = this.memory.buffer.byteLength;
-    }
-    const block = this.top;
-    this.top += size;
-    return block;
-  }
-
-  give(block) {
-    const power = this.sizes.get(block);
-    this.sizes.delete(block);
-    this.free[power].push(block);
-  }
-
-  /** Moves the first `kept` bytes of a block to one of at least `size` bytes, which may be the same. */
-  resize(block, kept, size) {
-    if (size <= 2 ** this.sizes.get(block)) return block;
-    const to = this.take(size);
-    if (to) {
-      new Uint8Array(this.memory.buffer).copyWithin(to, block, block + Math.min(kept, size));
-      this.give(block);
-    }
-    return to;
-  }
-}
+// Nothing here is proved.
+import { Heap } from "./heap.js";
 
 /** The program has ended with a status. */
 export class Exit extends Error {
@@ -75,12 +23,11 @@ export class Run {
 
   /** Begins to use the memory of a new instance of the module. */
   start(exports) {
-    this.memory = exports.memory;
     this.heap = new Heap(exports);
   }
 
   bytes(address, length) {
-    return new Uint8Array(this.memory.buffer, Number(address), Number(length));
+    return new Uint8Array(this.heap.memory.buffer, Number(address), Number(length));
   }
 
   read(address, length) {
@@ -106,9 +53,11 @@ export class Run {
 
   /** Puts the two words of an allocation's answer: whether there is a block, and where. */
   answer(to, block) {
-    const view = new DataView(this.memory.buffer, Number(to), 16);
-    view.setBigUint64(0, block ? 1n : 0n, true);
-    view.setBigUint64(8, BigInt(block || 16), true);
+    const at = Number(to);
+    const { view } = this.heap;
+    view.setUint32(at, block ? 1 : 0, true);
+    view.setUint32(at + 4, 0, true);
+    view.setBigUint64(at + 8, BigInt(block || 16), true);
   }
 
   /** No feature of an x86 processor is missing, so the program takes no other way for want of one. */

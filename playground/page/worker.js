@@ -1,12 +1,13 @@
-// Runs commands of the program, one after another, beside the page. A message has `words` and `text`; the answer has the
-// status and what was printed. Each command has an instance of its own, so nothing is left of one that failed.
+// Runs commands of the program, one after another, beside the page. The first message has the compiled module; each
+// other one has `words` and `text`, and its answer the status and what was printed. Each command has an instance of its
+// own, so nothing is left of one that failed.
 import { Exit, Run } from "./libc.js";
 
-const compiled = WebAssembly.compileStreaming(fetch("out/sectc.wasm"));
+let compiled;
 
 async function answer(words, text) {
   const run = new Run(["sectc", ...words], new TextEncoder().encode(text));
-  const { exports } = await WebAssembly.instantiate(await compiled, { env: run.imports() });
+  const { exports } = await WebAssembly.instantiate(compiled, { env: run.imports() });
   run.start(exports);
   try {
     return { status: exports.sectc_main(), text: run.text() };
@@ -16,7 +17,11 @@ async function answer(words, text) {
   }
 }
 
-onmessage = async ({ data: { number, words, text } }) => {
+onmessage = async ({ data: { module, number, words, text } }) => {
+  if (module) {
+    compiled = module;
+    return;
+  }
   try {
     postMessage({ number, ...(await answer(words, text)) });
   } catch (failure) {

@@ -113,7 +113,7 @@ export class Compare extends View {
       return before && before.meet !== pair.meet ? [{ before, pair }] : [];
     });
     if (!changed.length) return element("p", { class: "quiet", "data-key": "pairs" }, "Each pair of sections meets as before.");
-    return element("div", { "data-key": "changed" }, element("h3", {}, "Pairs that meet otherwise"), element("ul", { class: "changes" }, changed.map(({ before, pair }) =>
+    return element("div", { "data-key": "changed" }, element("h2", {}, "Pairs that meet otherwise"), element("ul", { class: "changes" }, changed.map(({ before, pair }) =>
       element("li", { class: pair.meet }, element("strong", {}, `sections ${pair.first} and ${pair.second}`), ": ",
         element("s", {}, MEETS[before.meet], " ", meeting(before)), " → ", MEETS[pair.meet], " ", meeting(pair)))));
   }

@@ -30,13 +30,39 @@ export function boxesOf(nodes) {
   return { boxes, edges };
 }
 
+/** How far down or up the boxes reach that stand in a row with one. */
+function reach(box, boxes) {
+  const middle = ({ y, height }) => y + height / 2;
+  const tall = Math.max(...boxes.filter((it) => Math.abs(middle(it) - middle(box)) < 1).map(({ height }) => height));
+  return [middle(box) - tall / 2, middle(box) + tall / 2];
+}
+
+/** Where a line leaves or enters a box: towards the point where it goes on. */
+function port({ x, width }, point) {
+  const middle = x + width / 2;
+  return middle + Math.min(Math.max((point.x - middle) / 2, -width / 3), width / 3);
+}
+
+/** A line as dagre leads it, but out of a box below and into one above, past the boxes beside them. */
+function led(line, edge, boxes) {
+  if (edge.isLoop) return besides(line, edge, boxes);
+  const [from, to] = [boxes[edge.from], boxes[edge.to]];
+  const inner = line.points.slice(1, -1);
+  const [leaves, enters] = [port(from, inner[0]), port(to, inner.at(-1))];
+  return { ...line, points: [{ x: leaves, y: from.y + from.height }, { x: leaves, y: reach(from, boxes)[1] + 2 }, ...inner,
+    { x: enters, y: reach(to, boxes)[0] - 2 }, { x: enters, y: to.y }] };
+}
+
 /** A line back to the box right above goes at the side; dagre has led longer ones there already. */
-function besides(line, { from, to, isLoop }, boxes) {
-  if (!isLoop || line.points.length > 3) return line;
+function besides(line, { from, to }, boxes) {
+  if (line.points.length > 3) return line;
   const [low, high] = [boxes[from], boxes[to]];
   const left = Math.max(Math.min(low.x, high.x) - ASIDE, 2);
-  const ends = [{ x: low.x, y: low.y + low.height / 2 }, { x: high.x, y: high.y + high.height / 2 }];
-  return { ...line, points: [ends[0], { x: left, y: ends[0].y }, { x: left, y: ends[1].y }, ends[1]] };
+  const [start, end] = [low, high].map(({ x, y, height }) => ({ x, y: y + height / 2 }));
+  const isInTheWay = (box) => box !== low && box !== high && box.x < Math.max(low.x, high.x) && box.x + box.width > left
+    && box.y < start.y && box.y + box.height > end.y;
+  if (boxes.some(isInTheWay)) return line;
+  return { ...line, points: [start, { x: left, y: start.y }, { x: left, y: end.y }, end] };
 }
 
 export class Graph extends View {
@@ -155,7 +181,7 @@ export class Graph extends View {
     picture.style.width = `${width}px`;
     picture.style.height = `${height}px`;
     const boxed = places.map((corner, number) => ({ ...corner, ...sizes[number] }));
-    this.lines(picture.querySelector("svg"), edges, lines.map((line, number) => besides(line, edges[number], boxed)), this.litEdges(steps, boxes));
+    this.lines(picture.querySelector("svg"), edges, lines.map((line, number) => led(line, edges[number], boxed)), this.litEdges(steps, boxes));
     this.zoomTo(this.zoom);
   }
 

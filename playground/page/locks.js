@@ -85,7 +85,7 @@ export class Locks extends View {
     const { steps } = this.chain;
     const last = steps.at(-1);
     return element("div", { class: "chain" },
-      element("h3", {}, "Why ", lockSign(steps[0].lock), "?"),
+      element("h2", {}, "Why ", lockSign(steps[0].lock), "?"),
       element("p", {}, prose(`Read from below: \`${last.text}\` needs \`${lockText(last.lock)}\`. Each step up says what that object is called there.`)),
       element("ol", { start: 0 }, steps.map(({ node, text, lock }, number) => {
         const reason = steps[number + 1] && reasonOf(lock, text, steps[number + 1].lock);

@@ -3,6 +3,7 @@ import { keep } from "./keep.js";
 import { legend } from "./legend.js";
 import { compiledModule, Unavailable } from "./module.js";
 import { Page } from "./page.js";
+import { Sectc } from "./sectc.js";
 import { TITLES } from "./titles.js";
 import { STEPS } from "./tour.js";
 import { button, element, prose, update } from "./view.js";
@@ -71,9 +72,11 @@ async function begin() {
   byId("legend").append(...legend());
   const about = json("about.json");
   try {
-    const [module, examples] = await Promise.all([compiledModule("sectc.wasm"), json("examples.json")]);
+    const module = compiledModule("sectc.wasm");
+    const sectc = new Sectc(module);
+    const [examples] = await Promise.all([json("examples.json"), module]);
     fillExamples(examples);
-    const page = new Page(module, examples);
+    const page = new Page(sectc, examples);
     connect(page);
     globalThis.page = page;
     await page.begin();

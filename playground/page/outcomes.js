@@ -13,6 +13,8 @@ const FUEL = 1000;
 const MOST = 20000;
 const MOST_APART = 4000;
 const SHOWN = 100;
+/** A longer text isn't taken apart, in letters: it has more moments than can be listed. */
+const LONG = 20_000;
 
 export class Outcomes extends View {
   constructor(page) {
@@ -54,7 +56,7 @@ export class Outcomes extends View {
       this.answer = answer.document;
     }
     this.redraw();
-    if (!this.apart && canBeTakenApart(this.program.text)) {
+    if (!this.apart && this.program.text.length < LONG && canBeTakenApart(this.program.text)) {
       await this.takeApart();
       this.redraw();
     }
@@ -73,17 +75,17 @@ export class Outcomes extends View {
   async takeApart() {
     const text = takenApart(this.program.text);
     const answer = await this.page.askDocument(this.words(MOST_APART), text);
-    this.apart = { text, ...answer };
+    this.apart = { program: text, ...answer };
   }
 
   redraw() {
     const { outcomes, states } = this.answer;
     const apart = this.apart?.document?.outcomes ?? [];
     const difference = differences([...outcomes, ...apart], this.names);
-    this.draw(element("h3", { id: "count" }, `${counted(outcomes.length, "outcome")} of ${counted(states, "state")}`),
+    this.draw(element("h2", { id: "count" }, `${counted(outcomes.length, "outcome")} of ${counted(states, "state")}`),
       this.question(outcomes, difference.columns),
       element("div", { class: "beside" },
-        element("section", { "aria-label": "With its sections" }, element("h4", {}, "With its sections"), this.list(outcomes, difference, 0)),
+        element("section", { "aria-label": "With its sections" }, element("h3", {}, "With its sections"), this.list(outcomes, difference, 0)),
         this.apartSection(difference)),
       this.sameInAll(difference));
   }
@@ -155,13 +157,13 @@ export class Outcomes extends View {
   }
 
   replayButton({ order }, isApart) {
-    const replay = () => (isApart ? this.page.replayText(this.apart.text, order, FUEL) : this.page.replay(order, FUEL));
+    const replay = () => (isApart ? this.page.replayText(this.apart.program, order, FUEL) : this.page.replay(order, FUEL));
     return button("replay", replay, { title: isApart ? "opens this program, and replays the order as a schedule" : "replays this order as a schedule" });
   }
 
   apartSection(difference) {
     if (!this.apart) return null;
-    const heading = element("h4", {}, "Without them, statement by statement");
+    const heading = element("h3", {}, "Without them, statement by statement");
     const label = { "aria-label": "Without its sections", class: "apart" };
     if (this.apart.status) {
       return element("section", label, heading, element("p", { class: "quiet" }, /TooManyStates/.test(this.apart.text)
@@ -174,7 +176,7 @@ export class Outcomes extends View {
     const said = wrong ? `${counted(wrong, "outcome")} more that the sections keep away.` : "Nothing else can come of it here.";
     return element("section", label, heading, this.list(outcomes, difference, this.answer.outcomes.length, isOld),
       element("p", { class: wrong ? "trouble" : "quiet" }, said),
-      button("open this program", () => this.page.openText(this.apart.text, null)));
+      button("open this program", () => this.page.openText(this.apart.program, null)));
   }
 
   sameInAll({ same, columns }) {

@@ -11,7 +11,7 @@ import { Outcomes } from "./outcomes.js";
 import { Program } from "./program.js";
 import { marksOf, reportList } from "./reports.js";
 import { Schedule } from "./schedule.js";
-import { Sectc, Stopped } from "./sectc.js";
+import { Stopped } from "./sectc.js";
 import { lockClass, lockParts } from "./signs.js";
 import { Tabs } from "./tabs.js";
 import { Tour } from "./tour.js";
@@ -29,9 +29,10 @@ function byId(id) {
 }
 
 export class Page {
-  constructor(module, examples) {
+  constructor(sectc, examples) {
     this.examples = examples;
-    this.sectc = new Sectc(module, () => this.showWork());
+    this.sectc = sectc;
+    sectc.changed = () => this.showWork();
     this.editor = new Editor(byId("code"), { changed: () => this.changed(), stops: () => this.remember() });
     this.views = [Locks, Graph, Conflicts, Schedule, Outcomes, Compare].map((View) => new View(this));
     this.tabs = new Tabs(byId("tabs"), byId("panels"), this.views, (view) => this.openView(view.key));
@@ -39,12 +40,18 @@ export class Page {
     this.program = null;
     this.version = 0;
     this.took = 0;
+    this.deeds = 0;
     this.opened = "";
     this.view = this.views[0];
   }
 
   get k() {
     return byId("fields").value;
+  }
+
+  /** Whether all is shown that was asked for. */
+  get isSettled() {
+    return this.program?.version === this.version && this.deeds === 0 && !this.sectc.isBusy;
   }
 
   setFields(k) {
@@ -79,6 +86,7 @@ export class Page {
   /** Asks what is known of the text, and shows it. */
   async refresh() {
     clearTimeout(this.timer);
+    this.deeds++;
     const begun = performance.now();
     const asked = { text: this.editor.text, k: this.k, version: this.version };
     try {
@@ -87,10 +95,13 @@ export class Page {
       this.took = performance.now() - begun;
       this.program = new Program(asked, inspected, linted);
       this.judge();
+      if (!performance.getEntriesByName("first answer").length) performance.mark("first answer");
       await this.view.open();
     } catch (failure) {
       if (!(failure instanceof Stopped)) throw failure;
       if (asked.version === this.version) this.say(`No answer: ${failure.message}.`);
+    } finally {
+      this.deeds--;
     }
   }
 
@@ -279,6 +290,7 @@ export class Page {
     if (part === (this.part ?? "")) return;
     try {
       const state = await read(part);
+      this.part = part;
       if (state) await this.restore(state);
       else this.remember();
     } catch (failure) {

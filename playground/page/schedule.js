@@ -13,7 +13,8 @@ export class Schedule extends View {
     super(page, "Schedule", "schedule");
     this.turns = new Turns(page);
     this.wanted = null;
-    this.panel.onkeydown = (event) => this.key(event);
+    this.before = Promise.resolve();
+    this.panel.onkeydown = (event) => this.press(event);
   }
 
   get linked() {
@@ -41,13 +42,20 @@ export class Schedule extends View {
     await this.redraw();
   }
 
-  /** Does something with the turns, and shows what has come of it. */
+  /** Does something with the turns once what was asked before is done, and shows what has come of it. */
   deed(doIt) {
-    return this.work(async () => {
-      this.said = await doIt(this.turns) ?? null;
-      await this.redraw();
-      this.page.remember();
+    const { version } = this.page;
+    this.page.deeds++;
+    this.before = this.before.then(async () => {
+      this.page.deeds--;
+      if (version !== this.page.version) return;
+      await this.work(async () => {
+        this.said = await doIt(this.turns) ?? null;
+        await this.redraw();
+        this.page.remember();
+      });
     });
+    return this.before;
   }
 
   look(at) {
@@ -92,7 +100,7 @@ export class Schedule extends View {
     return this.deed((turns) => (wrong ? "Turns are the names or numbers of threads." : turns.make(list)));
   }
 
-  key(event) {
+  press(event) {
     if (event.target.matches("input, select, textarea") || event.ctrlKey || event.metaKey || event.altKey) return;
     const step = { ArrowLeft: -1, ArrowRight: 1, Home: -Infinity, End: Infinity }[event.key];
     const thread = /^[1-9]$/.test(event.key) ? Number(event.key) - 1 : -1;
@@ -109,8 +117,8 @@ export class Schedule extends View {
     if (moment !== this.turns.moment || at !== this.turns.at) return;
     this.draw(this.runControls(), this.timeControls(), this.told(moment),
       element("div", { class: "threads" }, moment.threads.map((thread, number) => this.card(thread, number))),
-      element("h3", {}, "The store"), picture, this.output(moment),
-      element("h3", {}, "Turns so far"), timeline(this.turns, this.program, (turn) => this.look(turn)),
+      element("h2", {}, "The store"), picture, this.output(moment),
+      element("h2", {}, "Turns so far"), timeline(this.turns, this.program, (turn) => this.look(turn)),
       this.keys(moment), this.command());
   }
 

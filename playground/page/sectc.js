@@ -9,6 +9,9 @@ const YOUNG = 300;
 /** No answer comes: the question was dropped or stopped, or the program didn't come to an end. */
 export class Stopped extends Error {}
 
+/** The program refuses to answer; the message is its own. */
+export class Refused extends Error {}
+
 class Lane {
   constructor(module, changed) {
     this.module = module;
@@ -16,14 +19,17 @@ class Lane {
     this.queue = [];
     this.started = 0;
     this.numbers = 0;
+    this.start();
   }
 
+  /** Begins a worker, which gets the module as soon as that is compiled. */
   start() {
     this.started++;
-    this.worker = new Worker("worker.js", { type: "module" });
-    this.worker.onmessage = ({ data }) => this.answered(data);
-    this.worker.onerror = (event) => this.answered({ number: this.running?.number, failure: event.message });
-    this.worker.postMessage({ module: this.module });
+    const worker = new Worker("worker.js", { type: "module" });
+    worker.onmessage = ({ data }) => this.answered(data);
+    worker.onerror = (event) => this.answered({ number: this.running?.number, failure: event.message });
+    this.module.then((module) => worker.postMessage({ module }), () => worker.terminate());
+    this.worker = worker;
   }
 
   ask(words, text) {
@@ -35,7 +41,6 @@ class Lane {
 
   next() {
     if (this.running || !this.queue.length) return this.changed();
-    if (!this.worker) this.start();
     this.running = this.queue.shift();
     this.begun = performance.now();
     const { number, words, text } = this.running;
@@ -64,8 +69,8 @@ class Lane {
 
   end() {
     this.worker.terminate();
-    this.worker = null;
     this.running = null;
+    this.start();
     this.next();
   }
 
@@ -76,8 +81,9 @@ class Lane {
 }
 
 export class Sectc {
-  /** `changed` is called whenever a question begins to run or has its answer. */
-  constructor(module, changed) {
+  /** `module` is a promise of the compiled module. Questions are asked once it is there. */
+  constructor(module) {
+    const changed = () => this.changed?.();
     this.lanes = { key: new Lane(module, changed), view: new Lane(module, changed) };
   }
 

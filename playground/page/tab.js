@@ -1,5 +1,5 @@
 // A view of the program: a tab with a panel of its own, into which nothing else draws.
-import { Stopped } from "./sectc.js";
+import { Refused, Stopped } from "./sectc.js";
 import { button, element, prose, update } from "./view.js";
 
 export class View {
@@ -36,14 +36,17 @@ export class View {
   /** Does what asks the program. What is stopped is said, what is out of date isn't. */
   async work(deed) {
     const { version } = this.page;
+    this.page.deeds++;
     try {
       await deed();
     } catch (failure) {
-      if (!(failure instanceof Stopped)) throw failure;
+      if (!(failure instanceof Stopped || failure instanceof Refused)) throw failure;
       if (version === this.page.version) {
         this.draw(element("div", { class: "empty", "data-key": "stopped" }, element("p", {}, `No answer: ${failure.message}.`),
           button("ask again", () => this.open())));
       }
+    } finally {
+      this.page.deeds--;
     }
   }
 

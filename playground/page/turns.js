@@ -1,5 +1,6 @@
 // Making turns: a run grows by turns of its threads, and is known moment by moment.
 import { counted } from "./answers.js";
+import { Refused } from "./sectc.js";
 import { momentsOf } from "./trace.js";
 
 /** More turns than this aren't made at once. */
@@ -41,7 +42,7 @@ export class Turns {
   }
 
   /** The threads that haven't ended at a moment. */
-  running({ threads } = this.moment) {
+  running({ threads } = this.moment ?? { threads: [] }) {
     return threads.map((_, thread) => thread).filter((thread) => threads[thread].standing === "running");
   }
 
@@ -58,7 +59,7 @@ export class Turns {
     const [command, ...words] = [...this.words(0), ...list.map(String)];
     const [{ document, status, text }, chart] = await Promise.all([
       this.page.askDocument([command, ...words]), this.page.ask([command, "--chart", ...words])]);
-    if (status) throw new RangeError(text.trim());
+    if (status) throw new Refused(text.trim());
     return { document, chart: chart.text };
   }
 

@@ -16,9 +16,19 @@ EXAMPLES = f"{TOP}/crates/sect_cases/data/examples"
 CODEMIRROR = "/usr/share/javascript/codemirror"
 LIBRARIES = {
     **{f"{CODEMIRROR}/lib/codemirror.{kind}": "libjs-codemirror" for kind in ("js", "css")},
-    **{f"{CODEMIRROR}/addon/{name}": "libjs-codemirror" for name in (
-        "edit/matchbrackets.js", "edit/closebrackets.js", "selection/active-line.js", "comment/comment.js",
-        "dialog/dialog.js", "dialog/dialog.css", "search/searchcursor.js", "search/search.js")},
+    **{
+        f"{CODEMIRROR}/addon/{name}": "libjs-codemirror"
+        for name in (
+            "edit/matchbrackets.js",
+            "edit/closebrackets.js",
+            "selection/active-line.js",
+            "comment/comment.js",
+            "dialog/dialog.js",
+            "dialog/dialog.css",
+            "search/searchcursor.js",
+            "search/search.js",
+        )
+    },
     "/usr/share/nodejs/dagre/dist/dagre.min.js": "node-dagre-layout",
 }
 DOCUMENT = """<!doctype html>
@@ -54,7 +64,9 @@ def copy_page(out):
     """The page's own files. All of its modules are asked for at once, and the program's beside them."""
     for name in os.listdir(PAGE):
         shutil.copy(f"{PAGE}/{name}", f"{out}/{name}")
-    modules = sorted(name for name in os.listdir(PAGE) if name.endswith(".js") and name not in ("worker.js", "libc.js", "heap.js"))
+    modules = sorted(
+        name for name in os.listdir(PAGE) if name.endswith(".js") and name not in ("worker.js", "libc.js", "heap.js")
+    )
     preloads = ['<link rel="preload" href="sectc.wasm" as="fetch" crossorigin>']
     preloads += [f'<link rel="modulepreload" href="{name}">' for name in modules]
     write(f"{out}/index.html", text_of(f"{PAGE}/index.html").replace("<!-- preloads -->", "\n".join(preloads)))
@@ -67,14 +79,19 @@ def copy_libraries(out):
         if not os.path.exists(path):
             sys.exit(f"{path} isn't there: it is of Debian's package {package}")
         shutil.copy(path, f"{out}/lib/{os.path.basename(path)}")
-    licences = [f"{package}\n\n{text_of(f'/usr/share/doc/{package}/copyright')}" for package in sorted(set(LIBRARIES.values()))]
+    licences = [
+        f"{package}\n\n{text_of(f'/usr/share/doc/{package}/copyright')}" for package in sorted(set(LIBRARIES.values()))
+    ]
     write(f"{out}/lib/LICENCES.txt", ("\n" + "=" * 78 + "\n").join(licences))
 
 
 def write_examples(out):
-    """The texts of the examples by their names. Their locks aren't told in comments: the page shows them in the text."""
+    """The texts of the examples by their names, without the comments that tell their locks: the page shows these."""
     names = sorted(name for name in os.listdir(EXAMPLES) if name.endswith(".sect"))
-    found = {name[: -len(".sect")]: re.sub(r"^// section .*\n", "", text_of(f"{EXAMPLES}/{name}"), flags=re.M) for name in names}
+    found = {
+        name[: -len(".sect")]: re.sub(r"^// section .*\n", "", text_of(f"{EXAMPLES}/{name}"), flags=re.M)
+        for name in names
+    }
     write(f"{out}/examples.json", json.dumps(found, indent=1))
 
 
@@ -91,7 +108,11 @@ def link(match):
         return match.group(0)
     path, _, part = target.partition("#")
     name = os.path.basename(path)
-    is_here = name.endswith(".md") and re.fullmatch(r"(docs/|\.\./)?[A-Z]+\.md", path) and os.path.exists(f"{TOP}/docs/{name}")
+    is_here = (
+        name.endswith(".md")
+        and re.fullmatch(r"(docs/|\.\./)?[A-Z]+\.md", path)
+        and os.path.exists(f"{TOP}/docs/{name}")
+    )
     if path in ("playground/README.md", "../playground/README.md"):
         return f'<a href="../index.html">{label}</a>'
     if not is_here and path not in ("../README.md", "README.md"):
@@ -110,10 +131,15 @@ def write_documents(out):
         body = subprocess.run(["cmark-gfm", "-e", "table", path], capture_output=True, text=True, check=True).stdout
         body = re.sub(r"<(h[1-4])>(.*?)</h", lambda it: f'<{it[1]} id="{slug(it[2])}">{it[2]}</h', body)
         body = re.sub(r'<a href="([^"]*)">(.*?)</a>', link, body, flags=re.S)
-        body = re.sub(r'(<img src=")(?:docs/)', r"\1", body).replace("<table>", '<div class="wide" tabindex="0"><table>')
+        body = re.sub(r'(<img src=")(?:docs/)', r"\1", body).replace(
+            "<table>", '<div class="wide" tabindex="0"><table>'
+        )
         body = body.replace("</table>", "</table></div>").replace("<pre>", '<pre tabindex="0">')
         title = re.search(r"<h1[^>]*>(.*?)</h1>", body)[1]
-        write(f"{out}/docs/{os.path.basename(path)[:-3]}.html", DOCUMENT.format(title=re.sub(r"<[^>]+>", "", title), body=body))
+        write(
+            f"{out}/docs/{os.path.basename(path)[:-3]}.html",
+            DOCUMENT.format(title=re.sub(r"<[^>]+>", "", title), body=body),
+        )
 
 
 def git(*words):
@@ -126,8 +152,14 @@ def write_about(out, is_proved, kit):
     with open(f"{out}/sectc.wasm", "rb") as file:
         sha256 = hashlib.sha256(file.read()).hexdigest()
     origin = git("remote", "get-url", "origin")
-    about = {"proved": is_proved, "commit": git("rev-parse", "HEAD") or "unknown", "kit": kit, "sha256": sha256,
-             "built": datetime.datetime.now(datetime.timezone.utc).date().isoformat()}
+    changed = " with changes" if git("status", "--porcelain", "--", "crates") else ""
+    about = {
+        "proved": is_proved,
+        "commit": (git("rev-parse", "HEAD") or "unknown") + changed,
+        "kit": kit,
+        "sha256": sha256,
+        "built": datetime.datetime.now(datetime.timezone.utc).date().isoformat(),
+    }
     if re.match(r"https://", origin):
         about["repository"] = origin.removesuffix(".git")
     write(f"{out}/about.json", json.dumps(about, indent=1) + "\n")

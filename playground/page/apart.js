@@ -31,8 +31,10 @@ class Writer {
 
   simple(words, rename, isInside) {
     const isShared = words.includes(".") || words[2] === "new" || words[0] === "print";
-    const text = words.map((word, place) => (words[place - 1] === "." || words[place - 1] === "new" ? word : rename(word)))
-      .join(" ").replaceAll(" . ", ".");
+    const text =
+      words.map((word, place) => (words[place - 1] === "." || words[place - 1] === "new" ? word : rename(word)))
+        .join(" ")
+        .replaceAll(" . ", ".");
     return isInside && isShared ? `atomic { ${text}; }` : `${text};`;
   }
 
@@ -63,15 +65,22 @@ export function takenApart(text) {
   const fields = (list) => list.map(({ type, name }) => `${type} ${name};`).join(" ");
   return [
     "// The same program without its sections: other threads may come between any two statements.",
-    ...tree.records.map(({ name, guard, fields: list }) => `record ${name} ${guard ? `protected_by ${guard} ` : ""}{ ${fields(list)} }`),
+    ...tree.records.map(
+      ({ name, guard, fields: list }) => `record ${name} ${guard ? `protected_by ${guard} ` : ""}{ ${fields(list)} }`),
     ...tree.globals.map(({ type, name }) => `global ${type} ${name};`),
-    ...tree.threads.flatMap((thread) => writer.thread(thread)), "",
+    ...tree.threads.flatMap((thread) => writer.thread(thread)),
+    "",
   ].join("\n");
 }
 
 /** Whether a program has a section of more than one statement, so that it differs from what is taken apart. */
 export function canBeTakenApart(text) {
-  const counts = (part) => part.reduce((sum, it) => sum + (it.kind === "simple" ? 1 : it.kind === "call" ? 2 : counts(it.part) + counts(it.other ?? [])), 0);
-  const hasLong = (part) => part.some((it) => (it.kind === "atomic" ? counts(it.part) > 1 : it.part && (hasLong(it.part) || hasLong(it.other))));
+  const counts = (part) => part.reduce((sum, it) => sum
+      + (it.kind === "simple"  ? 1
+          : it.kind === "call" ? 2
+                               : counts(it.part) + counts(it.other ?? [])),
+    0);
+  const hasLong = (part) => part.some(
+    (it) => (it.kind === "atomic" ? counts(it.part) > 1 : it.part && (hasLong(it.part) || hasLong(it.other))));
   return treeOf(text).threads.some(({ statements }) => hasLong(statements));
 }

@@ -4,7 +4,8 @@
 export function cellsOf(chart, turns) {
   const [head, ...rows] = chart.split("\n");
   const columns = Array.from(head.matchAll(/\S+/g), ({ index }) => index).slice(1);
-  return rows.slice(0, turns).map((row) => columns.map((start, thread) => row.slice(start, columns[thread + 1]).trim()));
+  return rows.slice(0, turns).map(
+    (row) => columns.map((start, thread) => row.slice(start, columns[thread + 1]).trim()));
 }
 
 /** What a thread waits for, where its cell says that it waits. */

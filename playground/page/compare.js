@@ -18,6 +18,10 @@ export class Compare extends View {
     this.kept = null;
   }
 
+  anew() {
+    [this.first, this.second] = ["opened", "now"];
+  }
+
   get linked() {
     return [this.first, this.second];
   }
@@ -65,8 +69,10 @@ export class Compare extends View {
   }
 
   picker(which, chosen, label) {
-    return element("label", {}, `${label} `, element("select", { onchange: this.choose(which), "aria-label": label }, this.variants.map(({ name, label: text }) =>
-      element("option", { value: name, selected: name === chosen.name }, text))));
+    return element("label", {}, `${label} `,
+      element("select", { onchange: this.choose(which), "aria-label": label },
+        this.variants.map(
+          ({ name, label: text }) => element("option", { value: name, selected: name === chosen.name }, text))));
   }
 
   redraw(before, after, [old, now]) {
@@ -76,7 +82,8 @@ export class Compare extends View {
       this.page.say("The text is kept to compare with.");
       this.open();
     };
-    const controls = element("div", { class: "controls", "data-key": "controls" }, this.picker("first", before, "before"), this.picker("second", after, "after"),
+    const controls = element("div", { class: "controls", "data-key": "controls" },
+      this.picker("first", before, "before"), this.picker("second", after, "after"),
       button("keep this text", keep, { title: "to compare with it after an edit" }));
     if (!old || !now) {
       this.draw(controls, element("p", { class: "refused" }, "One of the two texts is no program."));
@@ -87,10 +94,14 @@ export class Compare extends View {
 
   measures(old, now) {
     const locks = ({ program }) => program.sections.reduce((sum, section) => sum + section.locks.length, 0);
-    const row = (name, one, other) => element("tr", {}, element("th", { scope: "row" }, name), element("td", {}, one), element("td", { class: one === other ? "" : "changed" }, other));
+    const row = (name, one, other) => element("tr", {}, element("th", { scope: "row" }, name), element("td", {}, one),
+      element("td", { class: one === other ? "" : "changed" }, other));
     return element("table", { class: "measures" }, element("caption", {}, "In numbers"),
-      element("thead", {}, element("tr", {}, element("td", {}), element("th", { scope: "col" }, "before"), element("th", { scope: "col" }, "after"))),
-      element("tbody", {}, row("pairs of sections", freedomText(old.pairs), freedomText(now.pairs)), row("locks", String(locks(old)), String(locks(now)))));
+      element("thead", {},
+        element("tr", {}, element("td", {}), element("th", { scope: "col" }, "before"),
+          element("th", { scope: "col" }, "after"))),
+      element("tbody", {}, row("pairs of sections", freedomText(old.pairs), freedomText(now.pairs)),
+        row("locks", String(locks(old)), String(locks(now)))));
   }
 
   sections(old, now) {
@@ -98,13 +109,21 @@ export class Compare extends View {
     const rows = Array.from({ length: count }, (_, number) => {
       const [one, other] = [old.sections[number]?.locks ?? [], now.sections[number]?.locks ?? []];
       const texts = [one, other].map((locks) => new Set(locks.map(lockText)));
-      const chips = (locks, others, kind) => locks.map((lock) => element("span", { class: `${lockClass(lock)}${others.has(lockText(lock)) ? "" : ` ${kind}`}` }, lockParts(lock)));
+      const chips = (locks, others, kind) =>
+        locks.map((lock) => element("span",
+                    { class: `${lockClass(lock)}${others.has(lockText(lock)) ? "" : ` ${kind}`}` }, lockParts(lock)));
       const program = now.sections[number] ? now : old;
-      return element("tr", {}, element("th", { scope: "row" }, threadSign(program.threadName(program.sections[number].thread), program.sections[number].thread), ` section ${number}`),
-        element("td", {}, one.length ? chips(one, texts[1], "gone") : "none"), element("td", {}, other.length ? chips(other, texts[0], "new") : "none"));
+      return element("tr", {},
+        element("th", { scope: "row" },
+          threadSign(program.threadName(program.sections[number].thread), program.sections[number].thread),
+          ` section ${number}`),
+        element("td", {}, one.length ? chips(one, texts[1], "gone") : "none"),
+        element("td", {}, other.length ? chips(other, texts[0], "new") : "none"));
     });
     return element("table", { class: "variants" }, element("caption", {}, "Which locks went, and which came"),
-      element("thead", {}, element("tr", {}, ["section", "before", "after"].map((head) => element("th", { scope: "col" }, head)))), element("tbody", {}, rows));
+      element("thead", {},
+        element("tr", {}, ["section", "before", "after"].map((head) => element("th", { scope: "col" }, head)))),
+      element("tbody", {}, rows));
   }
 
   pairs(old, now) {
@@ -112,9 +131,14 @@ export class Compare extends View {
       const before = Program.pairOf(old.pairs, pair.first, pair.second);
       return before && before.meet !== pair.meet ? [{ before, pair }] : [];
     });
-    if (!changed.length) return element("p", { class: "quiet", "data-key": "pairs" }, "Each pair of sections meets as before.");
-    return element("div", { "data-key": "changed" }, element("h2", {}, "Pairs that meet otherwise"), element("ul", { class: "changes" }, changed.map(({ before, pair }) =>
-      element("li", { class: pair.meet }, element("strong", {}, `sections ${pair.first} and ${pair.second}`), ": ",
-        element("s", {}, MEETS[before.meet], " ", meeting(before)), " → ", MEETS[pair.meet], " ", meeting(pair)))));
+    if (!changed.length)
+      return element("p", { class: "quiet", "data-key": "pairs" }, "Each pair of sections meets as before.");
+    return element("div", { "data-key": "changed" }, element("h2", {}, "Pairs that meet otherwise"),
+      element("ul", { class: "changes" },
+        changed.map(
+          ({ before, pair }) => element("li", { class: pair.meet },
+            element("strong", {}, `sections ${pair.first} and ${pair.second}`), ": ",
+            element("s", {}, MEETS[before.meet], " ", meeting(before)), " → ", MEETS[pair.meet], " ",
+            meeting(pair)))));
   }
 }

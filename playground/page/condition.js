@@ -122,7 +122,9 @@ class Reader {
       if (!this.passes(",")) break;
     }
     this.expect("]");
-    return ({ output }) => (output.length === wanted.length && output.every((value, place) => numeric(value) === wanted[place])) === isEqual;
+    return ({ output }) =>
+             (output.length === wanted.length && output.every((value, place) => numeric(value) === wanted[place]))
+      === isEqual;
   }
 
   number() {
@@ -184,7 +186,8 @@ class Reader {
   }
 
   path() {
-    if (!this.globals.includes(this.next)) throw this.fault(this.next ? `there is no global \`${this.next}\`` : "the condition ends too early");
+    if (!this.globals.includes(this.next))
+      throw this.fault(this.next ? `there is no global \`${this.next}\`` : "the condition ends too early");
     const base = this.take();
     const fields = [];
     while (this.passes(".")) {

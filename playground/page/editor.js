@@ -22,12 +22,23 @@ export class Editor {
   constructor(place, { changed, stops }) {
     this.layers = new Map();
     this.code = CodeMirror(place, {
-      mode: "sect", lineNumbers: true, lineWrapping: true, matchBrackets: true, autoCloseBrackets: true, indentUnit: 2,
-      gutters: ["CodeMirror-linenumbers", "stops"], styleActiveLine: true, undoDepth: 1000, maxHighlightLength: 2000,
+      mode: "sect",
+      lineNumbers: true,
+      lineWrapping: true,
+      matchBrackets: true,
+      autoCloseBrackets: true,
+      indentUnit: 2,
+      gutters: ["CodeMirror-linenumbers", "stops"],
+      styleActiveLine: true,
+      undoDepth: 1000,
+      maxHighlightLength: 2000,
       screenReaderLabel: "Source text. Escape and then Tab leaves it.",
       extraKeys: {
         Tab: (editor) => editor.execCommand(editor.somethingSelected() ? "indentMore" : "insertSoftTab"),
-        "Shift-Tab": "indentLess", "Ctrl-/": "toggleComment", "Cmd-/": "toggleComment", Esc: (editor) => this.release(editor),
+        "Shift-Tab": "indentLess",
+        "Ctrl-/": "toggleComment",
+        "Cmd-/": "toggleComment",
+        Esc: (editor) => this.release(editor),
       },
     });
     this.code.on("renderLine", hang);
@@ -79,19 +90,23 @@ export class Editor {
   }
 
   /**
-   * Puts elements behind pieces of the text, each `{ span, key, make }`, in place of those of the same layer. One that is
-   * there with the same key stays.
+   * Puts elements behind pieces of the text, each `{ span, key, make }`, in place of those of the same layer. One that
+   * is there with the same key stays.
    */
   put(layer, pieces) {
     const at = ({ line, ch }) => `${line}:${ch}`;
-    const old = new Map((this.layers.get(layer) ?? []).map((it) => [`${at(it.mark.find() ?? { line: -1, ch: 0 })} ${it.key}`, it]));
+    const old = new Map(
+      (this.layers.get(layer) ?? []).map((it) => [`${at(it.mark.find() ?? { line: -1, ch: 0 })} ${it.key}`, it]));
     this.code.operation(() => {
       const now = pieces.map(({ span, key, make }) => {
         const place = position(span.end);
         const name = `${at(place)} ${key}`;
         const there = old.get(name);
         old.delete(name);
-        return there ?? { key, mark: this.code.setBookmark(place, { widget: make(), insertLeft: false, handleMouseEvents: false }) };
+        return there ?? {
+          key,
+          mark: this.code.setBookmark(place, { widget: make(), insertLeft: false, handleMouseEvents: false })
+        };
       });
       old.forEach(({ mark }) => mark.clear());
       this.layers.set(layer, now);

@@ -17,7 +17,8 @@ const ZOOMS = [0.25, 0.35, 0.5, 0.7, 0.85, 1, 1.2, 1.5, 2, 3];
 export function boxesOf(nodes) {
   const before = nodes.map(() => []);
   nodes.forEach(({ next }, node) => next.forEach((to) => before[to].push(node)));
-  const goesOn = (node) => before[node].length === 1 && nodes[before[node][0]].next.length === 1 && before[node][0] === node - 1 && nodes[node].next.length === 1;
+  const goesOn = (node) => before[node].length === 1 && nodes[before[node][0]].next.length === 1
+    && before[node][0] === node - 1 && nodes[node].next.length === 1;
   const boxes = [];
   const boxOf = [];
   nodes.forEach((_, node) => {
@@ -49,8 +50,13 @@ function led(line, edge, boxes) {
   const [from, to] = [boxes[edge.from], boxes[edge.to]];
   const inner = line.points.slice(1, -1);
   const [leaves, enters] = [port(from, inner[0]), port(to, inner.at(-1))];
-  return { ...line, points: [{ x: leaves, y: from.y + from.height }, { x: leaves, y: reach(from, boxes)[1] + 2 }, ...inner,
-    { x: enters, y: reach(to, boxes)[0] - 2 }, { x: enters, y: to.y }] };
+  return {
+    ...line,
+    points: [
+      { x: leaves, y: from.y + from.height }, { x: leaves, y: reach(from, boxes)[1] + 2 }, ...inner,
+      { x: enters, y: reach(to, boxes)[0] - 2 }, { x: enters, y: to.y }
+    ]
+  };
 }
 
 /** A line back to the box right above goes at the side; dagre has led longer ones there already. */
@@ -72,6 +78,10 @@ export class Graph extends View {
     this.lock = null;
     this.zoom = 1;
     this.opened = new Set();
+  }
+
+  anew() {
+    [this.section, this.lock, this.zoom] = [0, null, 1];
   }
 
   get linked() {
@@ -107,16 +117,23 @@ export class Graph extends View {
     const { nodes } = this.known;
     const { boxes, edges } = boxesOf(nodes);
     if (boxes.length > MANY && !this.isWanted) {
-      this.draw(this.controls(), element("div", { class: "empty", "data-key": "many" }, element("p", {}, `This graph has ${boxes.length} boxes.`),
-        button("draw it", () => { this.isWanted = true; this.redraw(); })));
+      this.draw(this.controls(),
+        element("div", { class: "empty", "data-key": "many" },
+          element("p", {}, `This graph has ${boxes.length} boxes.`), button("draw it", () => {
+            this.isWanted = true;
+            this.redraw();
+          })));
       return;
     }
     const steps = this.known.chains[this.lock]?.steps ?? [];
     const names = new Map();
     for (const { node, lock } of steps) names.set(node, [...names.get(node) ?? [], lockText(lock)]);
-    const picture = element("div", { class: "graph", "data-key": "graph" }, drawn("svg", { "aria-hidden": "true" }), boxes.map((box, number) => this.box(box, number, names)));
-    this.draw(this.controls(), element("div", { class: "canvas", tabindex: 0, role: "group", "aria-label": "Control-flow graph", "data-key": "canvas" },
-      element("div", { class: "sheet" }, picture)));
+    const picture = element("div", { class: "graph", "data-key": "graph" }, drawn("svg", { "aria-hidden": "true" }),
+      boxes.map((box, number) => this.box(box, number, names)));
+    this.draw(this.controls(),
+      element("div",
+        { class: "canvas", tabindex: 0, role: "group", "aria-label": "Control-flow graph", "data-key": "canvas" },
+        element("div", { class: "sheet" }, picture)));
     this.place(edges, steps, boxes);
   }
 
@@ -129,13 +146,18 @@ export class Graph extends View {
       this.redraw();
     };
     const zoom = (label, title, to) => button(label, () => this.zoomTo(to()), { title, "aria-label": title });
-    const next = (step) => ZOOMS[Math.min(Math.max(ZOOMS.findIndex((it) => it >= this.zoom) + step, 0), ZOOMS.length - 1)];
+    const next = (step) =>
+      ZOOMS[Math.min(Math.max(ZOOMS.findIndex((it) => it >= this.zoom) + step, 0), ZOOMS.length - 1)];
     return element("div", { class: "controls", "data-key": "controls" },
-      element("label", {}, "Graph of ", element("select", { id: "section", onchange: choose }, sections.map((_, number) =>
-        element("option", { value: number, selected: number === this.section }, this.program.titleOf(number))))),
-      element("div", { class: "chips", role: "group", "aria-label": "Draw the chain of a lock in" }, this.known.chains.map(({ steps }, number) =>
-        button(lockParts(steps[0].lock), () => this.choose(number), { class: lockClass(steps[0].lock), "aria-pressed": String(this.lock === number) }))),
-      element("span", { class: "pair zoom" }, zoom("−", "smaller", () => next(-1)), zoom("1:1", "as large as text", () => 1), zoom("+", "larger", () => next(1)),
+      element("label", {}, "Graph of ",
+        element("select", { id: "section", onchange: choose },
+          sections.map((_, number) => element("option", { value: number, selected: number === this.section },
+                         this.program.titleOf(number))))),
+      element("div", { class: "chips", role: "group", "aria-label": "Draw the chain of a lock in" },
+        this.known.chains.map(({ steps }, number) => button(lockParts(steps[0].lock), () => this.choose(number),
+                                { class: lockClass(steps[0].lock), "aria-pressed": String(this.lock === number) }))),
+      element("span", { class: "pair zoom" }, zoom("−", "smaller", () => next(-1)),
+        zoom("1:1", "as large as text", () => 1), zoom("+", "larger", () => next(1)),
         zoom("fit", "the whole graph", () => this.fitting())));
   }
 
@@ -153,16 +175,26 @@ export class Graph extends View {
     const shown = isShort ? box : box.slice(0, LONG);
     const isTest = nodes[box[0]].next.length > 1;
     const kind = isTest ? "test" : nodes[box[0]].next.length ? "" : "exit";
-    return element("div", { class: `block ${kind}`, "data-key": `box-${box[0]}` }, shown.map((node) => this.step(node, names.get(node))),
-      isShort ? null : button(`${box.length - LONG} more statements`, () => { this.opened.add(number); this.redraw(); }));
+    return element("div", { class: `block ${kind}`, "data-key": `box-${box[0]}` },
+      shown.map((node) => this.step(node, names.get(node))),
+      isShort ? null : button(`${box.length - LONG} more statements`, () => {
+        this.opened.add(number);
+        this.redraw();
+      }));
   }
 
   step(node, chain) {
     const { text, needs } = this.known.nodes[node];
     const light = () => this.page.light(this.program.spansOf(this.section, [node]));
     const called = chain && element("span", { class: "called" }, chain.join(" ← "));
-    return element("button", { type: "button", class: `step${chain ? " lit" : ""}`, onclick: light, title: `from here on: ${setText(needs)}` },
-      element("span", { class: "text" }, text), called ?? element("span", { class: "needs" }, needs.length ? setSigns(needs) : null));
+    return element("button", {
+      type: "button",
+      class: `step${chain ? " lit" : ""}`,
+      onclick: light,
+      title: `from here on: ${setText(needs)}`
+    },
+      element("span", { class: "text" }, text),
+      called ?? element("span", { class: "needs" }, needs.length ? setSigns(needs) : null));
   }
 
   /** Puts the boxes where dagre wants them, and draws the lines between them. */
@@ -171,8 +203,9 @@ export class Graph extends View {
     picture.style.zoom = "1";
     const nodes = [...picture.querySelectorAll(".block")];
     const sizes = nodes.map((node) => ({ width: node.offsetWidth, height: node.offsetHeight }));
-    const { width, height, places, edges: lines } = laidOut(sizes, edges.map(({ from, to, isTest }) => ({ from, to, label: isTest ? 26 : 0 })),
-      { direction: "TB", gap: 52, layers: 34 });
+    const { width, height, places, edges: lines } =
+      laidOut(sizes, edges.map(({ from, to, isTest }) => ({ from, to, label: isTest ? 26 : 0 })),
+        { direction: "TB", gap: 52, layers: 34 });
     nodes.forEach((node, number) => {
       node.style.left = `${places[number].x}px`;
       node.style.top = `${places[number].y}px`;
@@ -181,7 +214,8 @@ export class Graph extends View {
     picture.style.width = `${width}px`;
     picture.style.height = `${height}px`;
     const boxed = places.map((corner, number) => ({ ...corner, ...sizes[number] }));
-    this.lines(picture.querySelector("svg"), edges, lines.map((line, number) => led(line, edges[number], boxed)), this.litEdges(steps, boxes));
+    this.lines(picture.querySelector("svg"), edges, lines.map((line, number) => led(line, edges[number], boxed)),
+      this.litEdges(steps, boxes));
     this.zoomTo(this.zoom);
   }
 
@@ -196,7 +230,11 @@ export class Graph extends View {
     svg.replaceChildren(tip("graph-tip"), ...edges.flatMap(({ from, to, way, isTest, isLoop }, number) => {
       const { points, x, y } = lines[number];
       const isLit = lit.has(`${from} ${to}`);
-      const line = drawn("path", { class: `edge${isTest && way ? " otherwise" : ""}${isLoop ? " loop" : ""}${isLit ? " lit" : ""}`, d: lineThrough(points), "marker-end": "url(#graph-tip)" });
+      const line = drawn("path", {
+        class: `edge${isTest && way ? " otherwise" : ""}${isLoop ? " loop" : ""}${isLit ? " lit" : ""}`,
+        d: lineThrough(points),
+        "marker-end": "url(#graph-tip)"
+      });
       return isTest ? [line, drawn("text", { class: "way", x: x - 5, y: y + 4 }, way ? "no" : "yes")] : [line];
     }));
   }

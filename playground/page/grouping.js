@@ -8,7 +8,8 @@ function valueText(value) {
 /** What an outcome is, by the names of its parts. */
 export function partsOf({ threads, output, objects }, names) {
   const parts = new Map();
-  for (const { name, fields } of objects) for (const field of fields) parts.set(`${name}.${field.name}`, valueText(field.value));
+  for (const { name, fields } of objects)
+    for (const field of fields) parts.set(`${name}.${field.name}`, valueText(field.value));
   parts.set("printed", output.length ? output.join(" ") : "nothing");
   threads.forEach(({ state }, thread) => parts.set(`thread ${names[thread]}`, ENDS[state]));
   return parts;
@@ -31,6 +32,7 @@ export function differences(outcomes, names) {
 /** The numbers of outcomes in the order of what they differ in, so that what is alike stands together. */
 export function sorted(rows, columns) {
   const compare = (one, other) => one.localeCompare(other, "en", { numeric: true });
-  const order = (first, second) => columns.reduce((found, key) => found || compare(rows[first].get(key) ?? "", rows[second].get(key) ?? ""), 0);
+  const order = (first, second) =>
+    columns.reduce((found, key) => found || compare(rows[first].get(key) ?? "", rows[second].get(key) ?? ""), 0);
   return rows.map((_, number) => number).sort(order);
 }

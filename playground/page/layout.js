@@ -51,6 +51,16 @@ export function lineThrough(points) {
 
 /** The tip of an arrow, for `marker-end`. */
 export function tip(id) {
-  return drawn("defs", {}, drawn("marker", { id, viewBox: "0 0 8 8", refX: 7, refY: 4, markerWidth: 10, markerHeight: 10, markerUnits: "userSpaceOnUse", orient: "auto" },
-    drawn("path", { d: "M0 0.5 L8 4 L0 7.5 z", class: "tip" })));
+  return drawn("defs", {},
+    drawn("marker", {
+      id,
+      viewBox: "0 0 8 8",
+      refX: 7,
+      refY: 4,
+      markerWidth: 10,
+      markerHeight: 10,
+      markerUnits: "userSpaceOnUse",
+      orient: "auto"
+    },
+      drawn("path", { d: "M0 0.5 L8 4 L0 7.5 z", class: "tip" })));
 }

@@ -3,16 +3,16 @@ import { shape } from "./signs.js";
 import { element, prose, update } from "./view.js";
 
 const WORDS = {
-  section: ["section", "The statements in `atomic { .. }`: they run as if no other thread ran meanwhile. A section takes all its locks "
-    + "when it begins, and gives them back when it ends."],
+  section: ["section", "The statements in `atomic { .. }`: they run as if no other thread ran meanwhile. A section "
+    + "takes all its locks when it begins, and gives them back when it ends."],
   R: ["R · read", "`R a` lets the section read the object `a`. Other threads may read it too, and none may write it."],
   W: ["W · write", "`W a` lets the section read and write the object `a`. Nobody else may touch it meanwhile."],
   M: ["M · make", "`M class 1` lets the section make objects of class 1 with `new`. Several threads may do so together."],
-  class: ["class", "Objects that the compiler can't tell apart, since one local or one field may refer to any of them. A lock on a class "
-    + "is taken where a path to an object would be too long."],
+  class: ["class", "Objects that the compiler can't tell apart, since one local or one field may refer to any of them. "
+    + "A lock on a class is taken where a path to an object would be too long."],
   all: ["all", "`W all`, the lock of a section that is marked `all`, keeps out every other section with locks."],
-  k: ["k", "How many fields a path in a lock may have. With 2, `R head.next.next` may stand; one field more becomes the lock on the "
-    + "whole class."],
+  k: ["k", "How many fields a path in a lock may have. With 2, `R head.next.next` may stand; one field more becomes "
+    + "the lock on the whole class."],
   IS: ["IS · will read below", "The thread reads some object of this class. It goes with all modes but X."],
   IX: ["IX · will write below", "The thread writes or makes some object of this class. It goes with IS and IX."],
   S: ["S · shared", "The thread reads this object, or all objects of this class. It goes with IS and S."],

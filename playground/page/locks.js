@@ -9,15 +9,21 @@ import { button, element, prose } from "./view.js";
 function reasonOf(before, text, after) {
   if (lockText(before) === lockText(after)) return null;
   if (before.kind === "class" && after.kind === "path") {
-    return `Before \`${text}\` this path would have more fields than k allows, so the lock on its whole class stands in its place.`;
+    return `Before \`${
+      text}\` this path would have more fields than k allows, so the lock on its whole class stands in its place.`;
   }
-  if (before.kind === "path" && after.kind === "path") return `Before \`${text}\` the object of \`${after.path}\` is called \`${before.path}\`.`;
+  if (before.kind === "path" && after.kind === "path")
+    return `Before \`${text}\` the object of \`${after.path}\` is called \`${before.path}\`.`;
   return `Before \`${text}\` the lock \`${lockText(after)}\` is \`${lockText(before)}\`.`;
 }
 
 export class Locks extends View {
   constructor(page) {
     super(page, "Locks", "locks");
+    this.chosen = null;
+  }
+
+  anew() {
     this.chosen = null;
   }
 
@@ -50,18 +56,22 @@ export class Locks extends View {
   }
 
   light() {
-    this.page.light(this.chain ? this.program.spansOf(this.chosen.section, this.chain.steps.map(({ node }) => node)) : []);
+    this.page.light(
+      this.chain ? this.program.spansOf(this.chosen.section, this.chain.steps.map(({ node }) => node)) : []);
   }
 
   redraw() {
     const { sections } = this.program;
     if (!sections.length) {
-      this.draw(element("p", { class: "empty" }, prose("There is no `atomic` section in this program, so no lock is needed.")));
+      this.draw(element(
+        "p", { class: "empty" }, prose("There is no `atomic` section in this program, so no lock is needed.")));
       return;
     }
-    this.draw(element("p", { class: "lead" }, "Each ", term("section", "section"), " takes these locks when it begins. "
-      + "They are enough for every path of control, and no smaller set is. ", element("em", {}, "Choose one to see why.")),
-    element("ol", { class: "cards" }, sections.map((section) => this.card(section))));
+    this.draw(element("p", { class: "lead" }, "Each ", term("section", "section"),
+                " takes these locks when it begins. " +
+                  "They are enough for every path of control, and no smaller set is. ",
+                element("em", {}, "Choose one to see why.")),
+      element("ol", { class: "cards" }, sections.map((section) => this.card(section))));
   }
 
   card({ section, thread, place, chains, locks }) {
@@ -84,9 +94,10 @@ export class Locks extends View {
     const { section } = this.chosen;
     const { steps } = this.chain;
     const last = steps.at(-1);
-    return element("div", { class: "chain" },
-      element("h2", {}, "Why ", lockSign(steps[0].lock), "?"),
-      element("p", {}, prose(`Read from below: \`${last.text}\` needs \`${lockText(last.lock)}\`. Each step up says what that object is called there.`)),
+    return element("div", { class: "chain" }, element("h2", {}, "Why ", lockSign(steps[0].lock), "?"),
+      element("p", {},
+        prose(`Read from below: \`${last.text}\` needs \`${
+          lockText(last.lock)}\`. Each step up says what that object is called there.`)),
       element("ol", { start: 0 }, steps.map(({ node, text, lock }, number) => {
         const reason = steps[number + 1] && reasonOf(lock, text, steps[number + 1].lock);
         return element("li", { class: number === steps.length - 1 ? "needs" : "" },

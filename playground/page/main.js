@@ -23,15 +23,19 @@ function fillExamples(examples) {
   const toured = STEPS.map(({ example }) => example);
   const option = (name) => element("option", { value: name }, TITLES[name] ?? name);
   const others = Object.keys(TITLES).filter((name) => !toured.includes(name) && examples[name]);
-  byId("examples").append(element("optgroup", { label: "The tour" }, toured.map(option)), element("optgroup", { label: "More programs" }, others.map(option)));
+  byId("examples")
+    .append(element("optgroup", { label: "The tour" }, toured.map(option)),
+      element("optgroup", { label: "More programs" }, others.map(option)));
 }
 
 /** What the module is, as the build has left it. */
 function tellAbout(about) {
   if (!about) return;
   const { proved, commit, kit, built, sha256, repository } = about;
-  update(byId("about"), proved ? "Made from the proved program" : element("strong", {}, "Made from the program without its proofs"),
-    `, commit ${commit.slice(0, 8)}, ${kit}, ${built}, sha-256 `, element("code", { title: sha256 }, sha256.slice(0, 12)),
+  update(byId("about"),
+    proved ? "Made from the proved program" : element("strong", {}, "Made from the program without its proofs"),
+    `, commit ${commit.replace(/^(.{8})\S*/, "$1")}, ${kit}, ${built}, sha-256 `,
+    element("code", { title: sha256 }, sha256.slice(0, 12)),
     ". The step that turns it into a module for the browser is proved by nothing, and neither is this page.");
   if (repository) byId("links").append(element("a", { href: repository }, "Repository"));
 }
@@ -56,13 +60,14 @@ function connect(page) {
   byId("share").addEventListener("click", () => page.share());
   byId("start").addEventListener("click", () => page.tour.go(0));
   addEventListener("hashchange", () => page.follow());
-  addEventListener("pagehide", () => { keep.draft = page.state; });
+  addEventListener("pagehide", () => page.keepDraft());
 }
 
 /** Says why there is no program, in place of the views. */
 function unavailable(failure) {
-  update(byId("panels"), element("div", { class: "empty unavailable", role: "alert" }, element("h2", {}, "The program can't run here"),
-    element("p", {}, prose(failure.message)), button("try again", () => location.reload())));
+  update(byId("panels"),
+    element("div", { class: "empty unavailable", role: "alert" }, element("h2", {}, "The program can't run here"),
+      element("p", {}, prose(failure.message)), button("try again", () => location.reload())));
   byId("state").textContent = "no program";
 }
 

@@ -5,8 +5,9 @@ export class Unavailable extends Error {}
 
 const TOO_OLD = "This browser can't run the program: its module needs WebAssembly with memories of 64 bits. "
   + "Chromium, Chrome and Edge from version 133 on and Firefox from 134 on have them.";
-const NOT_BUILT = "The program isn't here yet. Run `playground/build`, and serve the folder `playground/out` over http: "
-  + "`python3 -m http.server -d playground/out 8080`.";
+const NOT_BUILT =
+  "The program isn't here yet. Run `playground/build`, and serve the folder `playground/out` over http: " +
+  "`python3 -m http.server -d playground/out 8080`.";
 
 /** The least module that has a memory of 64 bits. */
 const PROBE = Uint8Array.of(0, 97, 115, 109, 1, 0, 0, 0, 5, 3, 1, 4, 1);

@@ -119,8 +119,9 @@ export class Page {
   /** The locks behind a section's `atomic`. */
   inlay(section, locks) {
     const choose = (lock) => this.openView("locks").then(() => this.views[0].choose(section, lock));
-    const chips = locks.length ? locks.map((lock, number) => button(lockParts(lock), () => choose(number), { class: lockClass(lock), title: "why?", tabindex: -1 }))
-      : element("span", { class: "quiet" }, "no lock");
+    const chips = locks.length ? locks.map((lock, number) => button(lockParts(lock), () => choose(number),
+                                             { class: lockClass(lock), title: "why?", tabindex: -1 }))
+                               : element("span", { class: "quiet" }, "no lock");
     return element("span", { class: "inlay" }, chips);
   }
 
@@ -165,6 +166,7 @@ export class Page {
   /** Puts another text in the place of what is there, which isn't lost: it can be undone, and one's own is kept. */
   async openText(text, view) {
     this.keepOwn();
+    this.views.forEach((it) => it.anew());
     this.opened = text;
     this.editor.text = text;
     if (view) this.choose(view);
@@ -237,7 +239,8 @@ export class Page {
   offer(text, what) {
     const field = element("input", { value: text, readonly: true, "aria-label": what });
     const box = byId("offer");
-    update(box, element("p", {}, `This browser doesn't let the page copy. Here is ${what}:`), field, button("close", () => box.close()));
+    update(box, element("p", {}, `This browser doesn't let the page copy. Here is ${what}:`), field,
+      button("close", () => box.close()));
     box.showModal();
     box.querySelector("input").select();
   }
@@ -246,8 +249,12 @@ export class Page {
   get state() {
     const words = this.view.linked;
     return {
-      text: this.editor.text, k: this.k, view: this.view.key, ...(words === undefined ? {} : { words }),
-      ...(this.tour.step === null ? {} : { tour: this.tour.step }), ...(this.opened === this.editor.text ? {} : { opened: this.opened }),
+      text: this.editor.text,
+      k: this.k,
+      view: this.view.key,
+      ...(words === undefined ? {} : { words }),
+      ...(this.tour.step === null ? {} : { tour: this.tour.step }),
+      ...(this.opened === this.editor.text ? {} : { opened: this.opened }),
     };
   }
 
@@ -259,11 +266,15 @@ export class Page {
 
   async write() {
     clearTimeout(this.remembering);
-    const { state } = this;
-    keep.draft = state;
-    const part = await written(state);
+    const part = await written(this.state);
     this.part = part.length > LONGEST ? "" : part;
     history.replaceState(null, "", this.part ? `#${this.part}` : location.pathname + location.search);
+    this.keepDraft();
+  }
+
+  /** Keeps what is shown for this tab, and for which address that is: a draft is newer than its address. */
+  keepDraft() {
+    keep.draft = { state: this.state, part: location.hash.slice(1) };
   }
 
   async share() {
@@ -302,10 +313,11 @@ export class Page {
   /** Shows the address's program, the draft of this tab, or the beginning of the tour. */
   async begin() {
     const part = location.hash.slice(1);
-    const linked = await read(part).catch(() => "broken");
-    const state = linked === "broken" ? keep.draft : linked ?? keep.draft;
+    const { draft } = keep;
+    const isNewer = draft?.part === part;
+    const linked = isNewer ? draft.state : await read(part).catch(() => "broken");
     byId("own").hidden = keep.own === null;
-    if (state) await this.restore(state);
+    if (linked && linked !== "broken") await this.restore(linked);
     else await this.tour.go(0);
     if (linked === "broken") this.say("This link is broken: a part of it is missing.");
   }

@@ -8,9 +8,12 @@ function remediesOf(report, page) {
   const k = notes.match(/`--k (\d)` would give/);
   if (k) found.push([`use k ${k[1]}`, () => page.setFields(k[1])]);
   const guard = notes.match(/`record (\w+) protected_by (\w+)` would give/);
-  if (guard) found.push([`protect ${guard[1]} by ${guard[2]}`, () => page.rewrite((text) => guarded(text, guard[1], guard[2]))]);
+  if (guard)
+    found.push(
+      [`protect ${guard[1]} by ${guard[2]}`, () => page.rewrite((text) => guarded(text, guard[1], guard[2]))]);
   if (report.code === "all-for-one") found.push(["remove all", () => page.editor.replace(report.span, "atomic")]);
-  if (report.code === "hint-without-use") found.push(["remove the hint", () => page.rewrite((text) => unguarded(text, report.span))]);
+  if (report.code === "hint-without-use")
+    found.push(["remove the hint", () => page.rewrite((text) => unguarded(text, report.span))]);
   return found;
 }
 
@@ -44,7 +47,8 @@ function item(report, page) {
     { class: "place", title: "go there" });
   const remedies = remediesOf(report, page).map(([label, deed]) => button(label, deed, { class: "remedy" }));
   const elsewhere = labels.filter((label) => label.span && label.span.start.offset !== span?.start.offset)
-    .map((label) => button(`${label.span.start.line}:${label.span.start.column}`, () => page.editor.select(label.span), { class: "place" }));
+                      .map((label) => button(`${label.span.start.line}:${label.span.start.column}`,
+                             () => page.editor.select(label.span), { class: "place" }));
   return element("li", { class: severity },
     element("span", { class: "severity" }, severity === "error" ? "error" : "warning"), jump, elsewhere,
     element("strong", {}, message),
@@ -55,7 +59,9 @@ const MOST = 50;
 
 /** The list of all that is told. */
 export function reportList(reports, page) {
-  if (!reports.length) return element("p", { class: "quiet", "data-key": "none" }, "Nothing to complain of.");
+  if (!reports.length)
+    return element(
+      "p", { class: "quiet", "data-key": "none" }, "No mistake, and nothing that is worth a second look.");
   const more = reports.length > MOST ? element("li", { class: "quiet" }, `and ${reports.length - MOST} more`) : null;
   return element("ul", { class: "reports" }, reports.slice(0, MOST).map((report) => item(report, page)), more);
 }

@@ -75,14 +75,15 @@ export class Schedule extends View {
   }
 
   untilWaits(thread) {
-    return this.deed((turns) => turns.until(({ threads }) => threads[thread].waits !== null, (moment) => turns.running(moment)));
+    return this.deed(
+      (turns) => turns.until(({ threads }) => threads[thread].waits !== null, (moment) => turns.running(moment)));
   }
 
   untilStop() {
     const stops = new Set(this.page.editor.stops);
     const lineOf = ({ span }) => span?.start.line;
-    const hasCome = (now, before) => now.threads.some((thread, number) =>
-      stops.has(lineOf(thread)) && (thread.text !== before.threads[number].text || lineOf(before.threads[number]) !== lineOf(thread)));
+    const hasCome = (now, before) => now.threads.some((thread, number) => stops.has(lineOf(thread))
+        && (thread.text !== before.threads[number].text || lineOf(before.threads[number]) !== lineOf(thread)));
     return this.deed((turns) => (stops.size ? turns.until(hasCome, (moment) => turns.running(moment))
       : "Click beside a line's number to have a run stop there."));
   }
@@ -120,14 +121,28 @@ export class Schedule extends View {
       element("h2", {}, "The store"), picture, this.output(moment),
       element("h2", {}, "Turns so far"), timeline(this.turns, this.program, (turn) => this.look(turn)),
       this.keys(moment), this.command());
+    this.showNow();
+  }
+
+  /** Brings the turn that is looked at into sight, among the turns alone. */
+  showNow() {
+    const now = this.panel.querySelector(".timeline .now");
+    const list = now?.closest(".timeline");
+    if (list
+      && (now.offsetTop < list.scrollTop + 32
+        || now.offsetTop + now.offsetHeight > list.scrollTop + list.clientHeight)) {
+      list.scrollTop = now.offsetTop - list.clientHeight / 2;
+    }
   }
 
   /** Lights up where each thread is. */
   light({ threads, turn }) {
-    const pieces = threads.flatMap(({ span, call, name, text }, number) => [span, call].filter(Boolean).map((piece, place) => ({
-      span: piece, title: `${name} is here: ${text}`,
-      name: `at ${threadColour(number)}${number === turn ? " turn" : ""}${place ? " call" : ""}`,
-    })));
+    const pieces =
+      threads.flatMap(({ span, call, name, text }, number) => [span, call].filter(Boolean).map((piece, place) => ({
+        span: piece,
+        title: `${name} is here: ${text}`,
+        name: `at ${threadColour(number)}${number === turn ? " turn" : ""}${place ? " call" : ""}`,
+      })));
     this.page.lightThreads(pieces, threads[turn]?.span);
   }
 
@@ -139,50 +154,84 @@ export class Schedule extends View {
       const inert = { "aria-disabled": String(hasEnded), title: hasEnded ? `${name} has ended` : "" };
       return element("span", { class: `pair ${threadColour(number)}`, "data-key": `thread-${number}` },
         button(`turn of ${name}`, () => hasEnded || this.turn(number), { class: "turn", ...inert }),
-        button("section", () => hasEnded || this.deed((turns) => turns.section(number)),
-          { ...inert, "aria-label": `${name} up to the end of its section`, title: `${name} up to the end of its section` }));
+        button("section", () => hasEnded || this.deed((turns) => turns.section(number)), {
+          ...inert,
+          "aria-label": `${name} up to the end of its section`,
+          title: `${name} up to the end of its section`
+        }));
     };
     return element("div", { class: "controls", "data-key": "run" }, names.map(ofThread),
-      button("random turn", () => this.random()), button("until all have ended", () => this.deed((turns) => turns.toTheEnd())),
-      element("span", { class: "pair" }, button("until", () => this.untilWaits(Number(this.panel.querySelector("#waiter").value))),
-        element("select", { id: "waiter", "aria-label": "thread" }, names.map((name, number) => element("option", { value: number }, `${name} waits`)))),
-      button("until a marked line", () => this.untilStop(), { title: "a click beside a line's number marks it" }));
+      element("span", { class: "break" }), button("random turn", () => this.random(), { class: "minor" }),
+      button("until all have ended", () => this.deed((turns) => turns.toTheEnd()), { class: "minor" }),
+      element("span", { class: "pair minor" },
+        button("until", () => this.untilWaits(Number(this.panel.querySelector("#waiter").value))),
+        element("select", { id: "waiter", "aria-label": "thread" },
+          names.map((name, number) => element("option", { value: number }, `${name} waits`)))),
+      button("until a marked line", () => this.untilStop(),
+        { class: "minor", title: "a click beside a line's number marks it" }));
   }
 
   timeControls() {
     const { at, list } = this.turns;
-    const step = (label, to, title) => button(label, () => this.look(to), { title, "aria-label": title, "aria-disabled": String(to === at || to < 0 || to > list.length) });
-    return element("div", { class: "time", "data-key": "time" }, step("|◂", 0, "to the start"), step("◂", at - 1, "one turn back"),
-      element("input", { type: "range", id: "slider", min: 0, max: list.length, value: at, "aria-label": "turn",
-        "aria-valuetext": `behind turn ${at} of ${list.length}`, oninput: (event) => this.look(Number(event.target.value)) }),
+    const step = (label, to, title) => button(label, () => this.look(to),
+      { title, "aria-label": title, "aria-disabled": String(to === at || to < 0 || to > list.length) });
+    return element("div", { class: "time", "data-key": "time" }, step("|◂", 0, "to the start"),
+      step("◂", at - 1, "one turn back"), element("input", {
+        type: "range",
+        id: "slider",
+        min: 0,
+        max: list.length,
+        value: at,
+        "aria-label": "turn",
+        "aria-valuetext": `behind turn ${at} of ${list.length}`,
+        oninput: (event) => this.look(Number(event.target.value))
+      }),
       step("▸", at + 1, "one turn on"), step("▸|", list.length, "to the last turn"),
-      element("span", { class: "count" }, `${at} / ${counted(list.length, "turn")}`),
-      button("from the start", () => { this.forget(); return this.deed((turns) => turns.make([])); }));
+      element("span", { class: "count" }, `${at} / ${counted(list.length, "turn")}`), button("from the start", () => {
+        this.forget();
+        return this.deed((turns) => turns.make([]));
+      }));
   }
 
   told(moment) {
-    const said = moment.turn === null ? "No turn yet: give a thread a turn, or take one of the keys 1, 2, ..; ← and → go back and forth."
-      : [threadSign(moment.threads[moment.turn].name, moment.turn), " ", moment.cells[moment.turn], ...moment.done.map(({ text }) => [": ", element("code", {}, text)])];
-    return element("p", { class: "told", id: "told", "aria-live": "polite" }, said, this.said ? element("strong", { class: "trouble" }, ` ${this.said}`) : null);
+    const said = moment.turn === null
+      ? "No turn yet: give a thread a turn, or take one of the keys 1, 2, ..; ← and → go back and forth."
+      : [
+          threadSign(moment.threads[moment.turn].name, moment.turn), " ", moment.cells[moment.turn],
+          ...moment.done.map(({ text }) => [": ", element("code", {}, text)])
+        ];
+    return element("p", { class: "told", id: "told", "aria-live": "polite" }, said,
+      this.said ? element("strong", { class: "trouble" }, ` ${this.said}`) : null);
   }
 
   card(thread, number) {
     const { name, standing, text, waits, held, locals, isInside } = thread;
     const isTurn = this.turns.moment.turn === number;
-    const state = standing !== "running" ? ENDS[standing] : waits ? "waits" : isInside ? "in its section" : "between sections";
-    return element("article", { class: `card thread-card ${threadColour(number)}${isTurn ? " turn" : ""}${waits ? " waits" : ""}`, "data-key": `card-${number}` },
+    const state = standing !== "running" ? ENDS[standing]
+      : waits                            ? "waits"
+      : isInside                         ? "in its section"
+                                         : "between sections";
+    return element("article", {
+      class: `card thread-card ${threadColour(number)}${isTurn ? " turn" : ""}${waits ? " waits" : ""}`,
+      "data-key": `card-${number}`
+    },
       element("header", {}, threadSign(name, number), element("span", { class: "state" }, state)),
       text ? element("p", { class: "next" }, "next: ", element("code", {}, text)) : null,
       waits ? this.wait(waits) : null,
-      locals.length ? element("dl", { class: "locals" }, locals.map(({ name: local, value, hasChanged }) =>
-        element("div", { class: hasChanged ? "changed" : "" }, element("dt", {}, local), element("dd", {}, value === null ? "null" : String(value))))) : null,
-      held.size ? element("p", { class: "held" }, "holds ", [...held].map(([key, how]) => element("span", { class: "key" }, mode(how), key))) : null);
+      locals.length ? element("dl", { class: "locals" },
+        locals.map(({ name: local, value, hasChanged }) => element("div", { class: hasChanged ? "changed" : "" },
+                     element("dt", {}, local), element("dd", {}, value === null ? "null" : String(value)))))
+                    : null,
+      held.size ? element("p", { class: "held" }, "holds ",
+        [...held].map(([key, how]) => element("span", { class: "key" }, mode(how), key)))
+                : null);
   }
 
   wait({ key, mode: wanted, holders, behind }) {
     const sign = (name) => threadSign(name, this.program.threads.findIndex((thread) => thread.name === name));
     return element("p", { class: "wait" }, "waits for ", element("span", { class: "key" }, mode(wanted), key),
-      holders.map(({ name, mode: held }) => [", ", sign(name), " holds ", mode(held)]), behind.map((name) => [", behind ", sign(name)]));
+      holders.map(({ name, mode: held }) => [sign(name), " holds ", mode(held)]),
+      behind.map((name) => ["behind ", sign(name)]));
   }
 
   output({ output }) {
@@ -194,10 +243,13 @@ export class Schedule extends View {
     if (!keys.length) return element("p", { class: "quiet", "data-key": "keys" }, "No key is held.");
     const cell = ({ held, waits }, key, number) => {
       const colour = threadColour(number);
-      if (waits?.key === key) return element("td", { class: `waits ${colour}` }, "waits, wants ", term(waits.mode), waits.behind.map((name) => ` behind ${name}`));
+      if (waits?.key === key)
+        return element("td", { class: `waits ${colour}` }, "waits, wants ", term(waits.mode),
+          waits.behind.map((name) => ` behind ${name}`));
       return element("td", { class: held.has(key) ? `held ${colour}` : "" }, held.has(key) ? term(held.get(key)) : "");
     };
-    const rows = keys.map((key) => [element("th", { scope: "row" }, key), ...threads.map((thread, number) => cell(thread, key, number))]);
+    const rows = keys.map(
+      (key) => [element("th", { scope: "row" }, key), ...threads.map((thread, number) => cell(thread, key, number))]);
     const heads = ["key", ...threads.map(({ name }, number) => threadSign(name, number))];
     return element("div", { class: "scroll", "data-key": "keys", tabindex: 0, role: "group", "aria-label": "Keys" },
       table("Who holds which key, and in which mode", [heads, ...rows]));
@@ -206,9 +258,20 @@ export class Schedule extends View {
   command() {
     const { command } = this.turns;
     return element("div", { class: "command", "data-key": "command" },
-      element("label", { for: "turns" }, "These turns as a command"),
-      element("input", { id: "turns", value: command, spellcheck: "false", autocomplete: "off",
-        onchange: (event) => this.type(event.target.value), onkeydown: (event) => { if (event.key === "Enter") this.type(event.target.value); } }),
+      element("label",
+        { for: "turns"
+        },
+        "These turns as a command"),
+      element("input", {
+        id: "turns",
+        value: command,
+        spellcheck: "false",
+        autocomplete: "off",
+        onchange: (event) => this.type(event.target.value),
+        onkeydown: (event) => {
+          if (event.key === "Enter") this.type(event.target.value);
+        }
+      }),
       button("copy", () => this.page.copy(command, "the command")));
   }
 }

@@ -5,21 +5,25 @@ import { drawn, element } from "./view.js";
 
 const COLOURS = 8;
 
-/** A hollow sign reads and a full one writes; a ring or a disc stands for a key itself, a triangle for keys below it. */
+/**
+ * A hollow sign reads and a full one writes; a ring or a disc stands for a key itself, a triangle for keys below it.
+ */
 const SHAPES = {
   ring: () => drawn("circle", { cx: 6, cy: 6, r: 4, class: "hollow" }),
   disc: () => drawn("circle", { cx: 6, cy: 6, r: 4.6, class: "full" }),
   cross: () => drawn("path", { d: "M6 1.5 V10.5 M1.5 6 H10.5", class: "hollow strong" }),
   down: () => drawn("path", { d: "M1.6 2.6 H10.4 L6 10 Z", class: "hollow" }),
   downFull: () => drawn("path", { d: "M1.2 2.2 H10.8 L6 10.6 Z", class: "full" }),
-  both: () => [drawn("circle", { cx: 6, cy: 6, r: 4.8, class: "hollow" }), drawn("path", { d: "M3.6 4.4 H8.4 L6 8.4 Z", class: "full" })],
+  both: () => [drawn("circle", { cx: 6, cy: 6, r: 4.8, class: "hollow" }),
+    drawn("path", { d: "M3.6 4.4 H8.4 L6 8.4 Z", class: "full" })],
 };
 const OF = { R: "ring", W: "disc", M: "cross", S: "ring", X: "disc", IS: "down", IX: "downFull", SIX: "both" };
 
 /** The shape of a right or of a mode. */
 export function shape(name) {
   if (!OF[name]) return null;
-  return drawn("svg", { class: "shape", viewBox: "0 0 12 12", width: 12, height: 12, "aria-hidden": "true" }, SHAPES[OF[name]]());
+  return drawn("svg", { class: "shape", viewBox: "0 0 12 12", width: 12, height: 12, "aria-hidden": "true" },
+    SHAPES[OF[name]]());
 }
 
 /** A mode with its shape. */

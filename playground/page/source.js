@@ -39,8 +39,8 @@ class Reader {
   /** Declarations `type name;`, as many as there are. */
   variables() {
     const found = [];
-    while (/^\w/.test(this.next ?? "") && /^[A-Za-z_]/.test(this.tokens[this.at + 1] ?? "") && this.tokens[this.at + 2] === ";"
-      && this.next !== "print") {
+    while (/^\w/.test(this.next ?? "") && /^[A-Za-z_]/.test(this.tokens[this.at + 1] ?? "")
+      && this.tokens[this.at + 2] === ";" && this.next !== "print") {
       found.push({ type: this.take(), name: this.take() });
       this.take();
     }

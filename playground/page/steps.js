@@ -29,7 +29,12 @@ function objectOf(name, locals, objects) {
 /** Whether a test as `p != null` holds. */
 export function isTrue([one, sign, other], locals) {
   const [first, second] = [operand(one, locals), operand(other, locals)];
-  return { "==": () => first === second, "!=": () => first !== second, "<": () => first < second, "<=": () => first <= second }[sign]();
+  return {
+    "==": () => first === second,
+    "!=": () => first !== second,
+    "<": () => first < second,
+    "<=": () => first <= second
+  }[sign]();
 }
 
 /** The words of a statement or a test, as `x#0 = y.f` has five. */

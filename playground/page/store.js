@@ -11,15 +11,20 @@ function valueText(value) {
 }
 
 function sized(object) {
-  const longest = Math.max(object.name.length + 2, ...object.fields.map(({ name, value }) => name.length + valueText(value).length + 4));
+  const longest = Math.max(
+    object.name.length + 2, ...object.fields.map(({ name, value }) => name.length + valueText(value).length + 4));
   return { ...object, width: Math.max(longest * LETTER + 18, LEAST), height: (object.fields.length + 1) * ROW + 6 };
 }
 
 function row({ name, value, hasChanged }, number, { x, y, width }) {
   const base = y + (number + 1) * ROW + 17;
-  return [hasChanged ? drawn("rect", { class: "changed", x: x + 1, y: base - 16, width: width - 2, height: ROW }) : null,
+  return [
+    hasChanged ? drawn("rect", { class: "changed", x: x + 1, y: base - 16, width: width - 2, height: ROW }) : null,
     drawn("text", { x: x + 10, y: base, class: "field" }, name),
-    drawn("text", { x: x + width - 10, y: base, class: hasChanged ? "value strong" : "value", "text-anchor": "end" }, valueText(value))];
+    drawn("text",
+      { x: x + width - 10, y: base, class: hasChanged ? "value strong" : "value", "text-anchor": "end" },
+      valueText(value))
+  ];
 }
 
 function box(object) {
@@ -36,7 +41,10 @@ function arrow(from, number, to, points) {
   const line = from === to
     ? `M${start.x} ${start.y} C${start.x + 44} ${start.y}, ${start.x + 44} ${from.y + 8}, ${start.x + 2} ${from.y + 12}`
     : to.x > from.x ? lineThrough([start, ...points.slice(1, -1), { x: to.x, y: to.y + 12 }])
-      : lineThrough([start, { x: start.x + 18, y: start.y }, ...points.slice(1, -1), { x: to.x + to.width / 2, y: to.y + to.height }]);
+                    : lineThrough([
+                        start, { x: start.x + 18, y: start.y }, ...points.slice(1, -1),
+                        { x: to.x + to.width / 2, y: to.y + to.height }
+                      ]);
   return drawn("path", { class: "edge", d: line, "marker-end": "url(#store-tip)" });
 }
 
@@ -80,8 +88,10 @@ function picture(boxes, placed, edges, laid) {
   const width = Math.max(laid.width + 30, ...boxes.map((it) => it.x + it.width + 16));
   const height = Math.max(...boxes.map((it) => it.y + it.height)) + 12;
   const straight = edges.filter(({ from, to }) => from !== to);
-  const arrows = edges.map((edge) => arrow(placed[edge.from], edge.number, placed[edge.to], laid.edges[straight.indexOf(edge)]?.points ?? []));
-  const said = boxes.map(({ name, fields }) => `${name}: ${fields.map((it) => `${it.name} = ${valueText(it.value)}`).join(", ")}`);
+  const arrows = edges.map(
+    (edge) => arrow(placed[edge.from], edge.number, placed[edge.to], laid.edges[straight.indexOf(edge)]?.points ?? []));
+  const said =
+    boxes.map(({ name, fields }) => `${name}: ${fields.map((it) => `${it.name} = ${valueText(it.value)}`).join(", ")}`);
   return element("div", { class: "store", tabindex: 0, role: "group", "aria-label": "The store" },
     drawn("svg", { viewBox: `0 0 ${width} ${height}`, width, height, role: "img", "aria-label": said.join("; ") },
       tip("store-tip"), boxes.map(box), arrows));

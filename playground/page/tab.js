@@ -6,7 +6,8 @@ export class View {
   /** `name` is the tab's, `key` its name in a link. */
   constructor(page, name, key) {
     Object.assign(this, { page, name, key });
-    this.panel = element("div", { id: `panel-${key}`, role: "tabpanel", "aria-labelledby": `tab-${key}`, class: "panel", hidden: true });
+    this.panel = element("div",
+      { id: `panel-${key}`, role: "tabpanel", "aria-labelledby": `tab-${key}`, class: "panel", hidden: true });
   }
 
   /** The program. */
@@ -17,6 +18,9 @@ export class View {
   /** The text has changed. What hangs on the old one is of no use. */
   forget() {}
 
+  /** Another program is opened. What was chosen in the old one isn't kept. */
+  anew() {}
+
   /** Draws into the panel, in place of what is there. */
   draw(...parts) {
     update(this.panel, ...parts);
@@ -26,7 +30,8 @@ export class View {
   async open() {
     if (!this.program) return;
     if (this.program.isRefused) {
-      this.draw(element("div", { class: "empty", "data-key": "refused" }, element("p", {}, prose("This text is no program yet. ")),
+      this.draw(element("div", { class: "empty", "data-key": "refused" },
+        element("p", {}, prose("This text is no program yet. ")),
         button("go to the mistake", () => this.page.toFirstReport())));
       return;
     }
@@ -42,8 +47,8 @@ export class View {
     } catch (failure) {
       if (!(failure instanceof Stopped || failure instanceof Refused)) throw failure;
       if (version === this.page.version) {
-        this.draw(element("div", { class: "empty", "data-key": "stopped" }, element("p", {}, `No answer: ${failure.message}.`),
-          button("ask again", () => this.open())));
+        this.draw(element("div", { class: "empty", "data-key": "stopped" },
+          element("p", {}, `No answer: ${failure.message}.`), button("ask again", () => this.open())));
       }
     } finally {
       this.page.deeds--;
@@ -65,5 +70,6 @@ export class View {
 
 /** What a view says where the program refuses. */
 export function refusal({ text, status }) {
-  return element("p", { class: "refused", "data-key": "refusal" }, text.trim() || `The program ended with status ${status}.`);
+  return element(
+    "p", { class: "refused", "data-key": "refusal" }, text.trim() || `The program ended with status ${status}.`);
 }

@@ -6,9 +6,14 @@ export class Tabs {
   constructor(list, panels, views, open) {
     this.views = views;
     this.tabs = views.map((view) => element("button", {
-      type: "button", role: "tab", id: `tab-${view.key}`, "aria-controls": `panel-${view.key}`, onclick: () => open(view),
+      type: "button",
+      role: "tab",
+      id: `tab-${view.key}`,
+      "aria-controls": `panel-${view.key}`,
+      onclick: () => open(view),
       onkeydown: (event) => this.key(event, open),
-    }, view.name));
+    },
+                            view.name));
     list.append(...this.tabs);
     panels.append(...views.map(({ panel }) => panel));
     this.choose(views[0]);
@@ -21,13 +26,17 @@ export class Tabs {
       this.tabs[number].tabIndex = view === chosen ? 0 : -1;
     });
     const { offsetLeft, offsetWidth, parentElement } = this.tabs[this.views.indexOf(chosen)];
-    if (parentElement.scrollWidth > parentElement.clientWidth) parentElement.scrollLeft = offsetLeft - (parentElement.clientWidth - offsetWidth) / 2;
+    if (parentElement.scrollWidth > parentElement.clientWidth)
+      parentElement.scrollLeft = offsetLeft - (parentElement.clientWidth - offsetWidth) / 2;
   }
 
   key(event, open) {
     const at = this.tabs.indexOf(event.currentTarget);
     const count = this.tabs.length;
-    const to = { ArrowRight: (at + 1) % count, ArrowLeft: (at - 1 + count) % count, Home: 0, End: count - 1 }[event.key];
+    const to = { ArrowRight: (at + 1) % count,
+      ArrowLeft: (at - 1 + count) % count,
+      Home: 0,
+      End: count - 1 }[event.key];
     if (to === undefined) return;
     event.preventDefault();
     this.tabs[to].focus();

@@ -1,8 +1,8 @@
 // A run moment by moment: where each thread is, its locals, what it holds and waits for, and what has changed.
 //
-// `schedule` tells the events of each turn. Which statement that was, and the locals and fields behind it, is worked out
-// here from the graphs of `inspect`, and who waits for whom is read from the chart. All of it goes through `momentsOf`:
-// when `schedule` tells it itself, this file, `steps.js` and `chart.js` are of no more use.
+// `schedule` tells the events of each turn. Which statement that was, and the locals and fields behind it, is worked
+// out here from the graphs of `inspect`, and who waits for whom is read from the chart. All of it goes through
+// `momentsOf`: when `schedule` tells it itself, this file, `steps.js` and `chart.js` are of no more use.
 import { keyText } from "./answers.js";
 import { cellsOf, endOf, waitOf } from "./chart.js";
 import { treeOf } from "./source.js";
@@ -36,7 +36,8 @@ class Machine {
   }
 
   made(record) {
-    return new Map(this.tree.records.find(({ name }) => name === record).fields.map(({ type, name }) => [name, beginning(type)]));
+    return new Map(
+      this.tree.records.find(({ name }) => name === record).fields.map(({ type, name }) => [name, beginning(type)]));
   }
 
   nodeOf({ section, graph, node, inner }) {
@@ -94,9 +95,13 @@ class Machine {
 
   view(turn, events, done, cells) {
     return {
-      turn, events, done, cells,
+      turn,
+      events,
+      done,
+      cells,
       threads: this.threads.map((thread, number) => this.viewOf(thread, number)),
-      objects: [...this.objects].map(([name, fields]) => ({ name, fields: [...fields].map(([field, value]) => ({ name: field, value })) })),
+      objects: [...this.objects].map(
+        ([name, fields]) => ({ name, fields: [...fields].map(([field, value]) => ({ name: field, value })) })),
       output: [...this.output],
     };
   }
@@ -106,9 +111,15 @@ class Machine {
     const hasEnded = thread.standing !== "running";
     const { statement, call } = node?.place ?? {};
     return {
-      name: this.program.threadName(number), standing: thread.standing, section: thread.section,
-      isInside: thread.section !== null, waits: thread.waits, held: new Map(thread.held),
-      text: hasEnded ? "" : node?.text ?? "", span: hasEnded ? null : statement ?? null, call: hasEnded ? null : call ?? null,
+      name: this.program.threadName(number),
+      standing: thread.standing,
+      section: thread.section,
+      isInside: thread.section !== null,
+      waits: thread.waits,
+      held: new Map(thread.held),
+      text: hasEnded ? "" : node?.text ?? "",
+      span: hasEnded ? null : statement ?? null,
+      call: hasEnded ? null : call ?? null,
       locals: [...thread.locals].map(([name, value]) => ({ name, value })),
     };
   }

@@ -24,7 +24,10 @@ export class Turns {
 
   /** The words of the command that makes the first so many turns. */
   words(count = this.at) {
-    return ["schedule", "--k", String(this.page.k), ...(this.fuel ? ["--fuel", String(this.fuel)] : []), ...this.list.slice(0, count).map(String)];
+    return [
+      "schedule", "--k", String(this.page.k), ...(this.fuel ? ["--fuel", String(this.fuel)] : []),
+      ...this.list.slice(0, count).map(String)
+    ];
   }
 
   /** The command as one would type it. */
@@ -81,7 +84,8 @@ export class Turns {
       const known = list.length;
       await this.make([...list, ...Array.from({ length: more }, (_, number) => threads[number % threads.length])]);
       this.dropIdle(known);
-      const found = this.moments.findIndex((moment, number) => number > start && isWanted(moment, this.moments[number - 1]));
+      const found =
+        this.moments.findIndex((moment, number) => number > start && isWanted(moment, this.moments[number - 1]));
       if (found >= 0) return this.keep(found);
       list = this.list;
       if (list.length === known) return "Nothing more happens.";

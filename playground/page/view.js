@@ -1,4 +1,5 @@
-// Elements of the page, and how what is shown becomes what shall be shown. Text always goes in as text, never as markup.
+// Elements of the page, and how what is shown becomes what shall be shown. Text always goes in as text, never as
+// markup.
 
 const SVG = "http://www.w3.org/2000/svg";
 const HANDLERS = ["onclick", "onchange", "oninput", "onkeydown", "onsubmit", "onpointerenter", "onpointerleave"];
@@ -44,7 +45,8 @@ function isLike(one, other) {
 
 function takeAttributes(node, wanted) {
   const stays = (name) => name === "open" && node.nodeName === "DETAILS";
-  for (const { name } of [...node.attributes]) if (!wanted.hasAttribute(name) && !stays(name)) node.removeAttribute(name);
+  for (const { name } of [...node.attributes])
+    if (!wanted.hasAttribute(name) && !stays(name)) node.removeAttribute(name);
   for (const { name, value } of wanted.attributes) {
     if (node.getAttribute(name) !== value && !stays(name)) node.setAttribute(name, value);
   }
@@ -60,7 +62,8 @@ function become(node, wanted) {
   takeAttributes(node, wanted);
   if (node.nodeName === "TEXTAREA") return;
   update(node, ...wanted.childNodes);
-  if (node.nodeName === "SELECT" || (node.nodeName === "INPUT" && wanted.hasAttribute("value") && node.value !== wanted.value)) {
+  if (node.nodeName === "SELECT"
+    || (node.nodeName === "INPUT" && wanted.hasAttribute("value") && node.value !== wanted.value)) {
     node.value = wanted.value;
   }
 }

@@ -8,10 +8,28 @@ from page import TOP
 
 DATA = f"{TOP}/crates/sect_cases/data"
 PROGRAM = f"{TOP}/crates/sectc/out/sectc"
-COMMANDS = [["locks"], ["locks", "--k", "0"], ["explain"], ["conflicts"], ["compile"], ["compile", "--cert"], ["outcomes"],
-            ["schedule", "0", "0", "0", "0", "0"], ["serial"], ["serial", "0", "1"], ["locks", "--k", "9"], ["schedule", "70"],
-            ["check"], ["lint"], ["lint", "--k", "9"], ["--help"], ["inspect"], ["graph"], ["compile", "--format", "json"],
-            ["schedule", "--chart", "0", "0", "0", "0", "0"]]
+COMMANDS = [
+    ["locks"],
+    ["locks", "--k", "0"],
+    ["explain"],
+    ["conflicts"],
+    ["compile"],
+    ["compile", "--cert"],
+    ["outcomes"],
+    ["schedule", "0", "0", "0", "0", "0"],
+    ["serial"],
+    ["serial", "0", "1"],
+    ["locks", "--k", "9"],
+    ["schedule", "70"],
+    ["check"],
+    ["lint"],
+    ["lint", "--k", "9"],
+    ["--help"],
+    ["inspect"],
+    ["graph"],
+    ["compile", "--format", "json"],
+    ["schedule", "--chart", "0", "0", "0", "0", "0"],
+]
 LONGEST = 100_000
 
 
@@ -79,7 +97,10 @@ def answers_are_those_of_the_program(page):
         for words in COMMANDS:
             there = page.run("return await page.sectc.ask(given[0], given[1])", words, text)
             done = subprocess.run([PROGRAM, *words], input=text.encode(), stdout=subprocess.PIPE)
-            assert there == {"status": done.returncode, "text": done.stdout.decode()}, f"{name}: {' '.join(words)}: {there}"
+            assert there == {
+                "status": done.returncode,
+                "text": done.stdout.decode(),
+            }, f"{name}: {' '.join(words)}: {there}"
 
 
 def examples_have_titles(page):
@@ -100,9 +121,14 @@ def about_is_told(page):
     told = page.text("footer")
     said = "the proved program" if about["proved"] else "the program without its proofs"
     assert said in told and about["commit"][:8] in told and about["sha256"][:12] in told, told
-    digest = page.run("const bytes = await (await fetch('sectc.wasm')).arrayBuffer();"
-                      "return [...new Uint8Array(await crypto.subtle.digest('SHA-256', bytes))].map((it) => it.toString(16).padStart(2, '0')).join('')")
+    digest = page.probe("digest")
     assert digest == about["sha256"], json.dumps(about)
 
 
-TESTS = [answers_are_those_of_the_cases, answers_are_those_of_the_program, examples_have_titles, integers_are_exact, about_is_told]
+TESTS = [
+    answers_are_those_of_the_cases,
+    answers_are_those_of_the_program,
+    examples_have_titles,
+    integers_are_exact,
+    about_is_told,
+]

@@ -2,24 +2,55 @@
 from page import wide
 
 CONDITIONS = {
-    "a.bal == 1": 1, "a.bal == 2": 1, "a.bal < 3": 2, "a.bal == 1 || a.bal == 2": 2, "!(a.bal == 1)": 1, "thread p == done": 2,
-    "thread 1 != done": 0, "print == []": 2, "#print == 0 && a.bal >= 2": 1, "a.bal * 2 - 1 == 1": 1, "a == a": 2, "a != null": 2,
-    "print[0] == 1": 0, "print[0] != 1": 0, "a.bal.bal == 1": 0, "#5 == 0": 2,
+    "a.bal == 1": 1,
+    "a.bal == 2": 1,
+    "a.bal < 3": 2,
+    "a.bal == 1 || a.bal == 2": 2,
+    "!(a.bal == 1)": 1,
+    "thread p == done": 2,
+    "thread 1 != done": 0,
+    "print == []": 2,
+    "#print == 0 && a.bal >= 2": 1,
+    "a.bal * 2 - 1 == 1": 1,
+    "a == a": 2,
+    "a != null": 2,
+    "print[0] == 1": 0,
+    "print[0] != 1": 0,
+    "a.bal.bal == 1": 0,
+    "#5 == 0": 2,
 }
-WRONG = {"a.bal = 1": "column 7", "b.bal == 1": "column 1", "a.bal ==": "column 9", "thread z == done": "column 8", "a.bal == 1 $": "column 12",
-         "a.bal == 1 a": "column 12", "(a.bal == 1": "column 12", "print == [1": "column 12"}
+WRONG = {
+    "a.bal = 1": "column 7",
+    "b.bal == 1": "column 1",
+    "a.bal ==": "column 9",
+    "thread z == done": "column 8",
+    "a.bal == 1 $": "column 12",
+    "a.bal == 1 a": "column 12",
+    "(a.bal == 1": "column 12",
+    "print == [1": "column 12",
+}
+
+
+READERS = """record Node { int val; Node next; }
+global Node head; global Node two;
+thread r { Node p; int v; atomic { p = head.next; v = p.val; } }
+thread w { Node q; q = two; atomic { q.val = 1; } }
+thread s { atomic { head.next = two; } }
+"""
 
 
 def ask(page, condition):
-    page.run("const it = document.getElementById('condition'); it.value = given[0]; it.dispatchEvent(new Event('input'))", condition)
+    page.run(
+        "const it = document.getElementById('condition'); it.value = given[0]; it.dispatchEvent(new Event('input'))",
+        condition,
+    )
     return page.text("#verdict")
 
 
 def conditions_are_answered(page):
     page.example("lost_update", "outcomes")
     for condition, count in CONDITIONS.items():
-        found = page.run("""const { conditionOf } = await import('./condition.js');
-          return page.views[4].answer.outcomes.filter(conditionOf(given[0], { globals: ['a'], threads: ['p', 'q'] })).length""", condition)
+        found = page.probe("holding", condition)
         assert found == count, (condition, found)
     assert ask(page, "a.bal == 1").startswith("Yes, in 1 of 2."), page.text("#verdict")
     assert len(page.texts(".outcomes tr.holds")) == 1
@@ -37,7 +68,7 @@ def a_witness_opens_as_a_schedule(page):
     page.example("lost_update", "outcomes")
     ask(page, "a.bal == 1")
     page.browser.click("#verdict button", "show how")
-    page.browser.until("page.view.key === 'schedule' && page.views[3].turns.moments.length > 1 && page.views[3].turns.running().length === 0")
+    page.replayed()
     assert page.run("return String(page.views[3].turns.moment.objects[0].fields[0].value)") == "1"
 
 
@@ -55,34 +86,40 @@ def without_sections_stands_beside(page):
     assert page.texts(".apart tr.wrong td:first-child") == ["1"], page.texts(".apart td")
     assert "1 outcome more that the sections keep away." in page.text(".apart")
     page.browser.click(".apart tr.wrong button", "replay")
-    page.browser.until("page.view.key === 'schedule' && page.views[3].turns.moments.length > 1 && page.views[3].turns.running().length === 0")
-    assert "atomic { t = a.bal; }" in page.source() and page.run("return String(page.views[3].turns.moment.objects[0].fields[0].value)") == "1"
+    page.replayed()
+    assert (
+        "atomic { t = a.bal; }" in page.source()
+        and page.run("return String(page.views[3].turns.moment.objects[0].fields[0].value)") == "1"
+    )
 
 
 def every_example_is_taken_apart(page):
     for name, text in page.examples.items():
-        found = page.run("""const { takenApart } = await import('./apart.js');
-          const text = takenApart(given[0]);
-          const answer = await page.sectc.ask(['inspect'], text);
-          const sections = answer.status ? [] : JSON.parse(answer.text).sections;
-          return [answer.status, Math.max(0, ...sections.map((it) => it.nodes.length - 1)), answer.status ? text + answer.text : '']""", text)
-        assert found[0] == 0 and found[1] <= 1, (name, found)
+        status, longest = page.probe("apart", text)
+        assert status == 0 and longest <= 1, (name, status, longest)
 
 
 def too_many_are_told_in_words(page):
     page.write(wide(6, 3))
     page.view("outcomes")
-    page.browser.until("document.getElementById('panel-outcomes').textContent.includes('too many to go through')", seconds=40)
-    assert "refused" not in page.text("#panel-outcomes") and page.texts("#panel-outcomes button")[0] == "go through 100,000"
+    page.browser.until(
+        "document.getElementById('panel-outcomes').textContent.includes('too many to go through')", seconds=40
+    )
+    assert (
+        "refused" not in page.text("#panel-outcomes")
+        and page.texts("#panel-outcomes button")[0] == "go through 100,000"
+    )
 
 
 def variants_are_compared(page):
-    page.write("record Node { int val; Node next; }\nglobal Node head; global Node two;\n"
-               "thread r { Node p; int v; atomic { p = head.next; v = p.val; } }\nthread w { Node q; q = two; atomic { q.val = 1; } }\nthread s { atomic { head.next = two; } }\n")
+    page.write(READERS)
     page.view("compare")
     assert page.texts(".variants .gone") and "R class" in page.texts(".variants .gone")[0], page.text("#panel-compare")
     assert "sections 0 and 1" in page.text(".changes"), page.text("#panel-compare")
-    assert page.texts(".measures tbody tr:first-child td") == ["1 of 3 pairs together", "1 of 3 pairs together, 1 sometimes"], page.texts(".measures td")
+    assert page.texts(".measures tbody tr:first-child td") == [
+        "1 of 3 pairs together",
+        "1 of 3 pairs together, 1 sometimes",
+    ], page.texts(".measures td")
 
 
 def before_and_after_an_edit(page):
@@ -90,16 +127,30 @@ def before_and_after_an_edit(page):
     page.run("page.rewrite((text) => text.replace(' protected_by g', ''))")
     page.ready()
     page.view("compare")
-    assert page.texts(".variants .gone") == ["W g"] and page.texts(".variants .new") == ["W c", "R d"], page.text("#panel-compare")
+    assert page.texts(".variants .gone") == ["W g"] and page.texts(".variants .new") == ["W c", "R d"], page.text(
+        "#panel-compare"
+    )
 
 
 def a_cell_tells_by_what_they_exclude(page):
     page.example("linked_list", "pairs")
     page.browser.click("td.exclude button")
-    assert "class 1" in page.text("#panel-pairs .told") and page.texts("#panel-pairs .told .term") == ["S", "IX"], page.text("#panel-pairs .told")
+    assert "class 1" in page.text("#panel-pairs .told") and page.texts("#panel-pairs .told .term") == [
+        "S",
+        "IX",
+    ], page.text("#panel-pairs .told")
     assert page.texts("#code .lit") == ["atomic", "atomic"]
 
 
-TESTS = [conditions_are_answered, wrong_conditions_are_told_where, a_witness_opens_as_a_schedule, outcomes_are_grouped_by_what_differs,
-         without_sections_stands_beside, every_example_is_taken_apart, too_many_are_told_in_words, variants_are_compared, before_and_after_an_edit,
-         a_cell_tells_by_what_they_exclude]
+TESTS = [
+    conditions_are_answered,
+    wrong_conditions_are_told_where,
+    a_witness_opens_as_a_schedule,
+    outcomes_are_grouped_by_what_differs,
+    without_sections_stands_beside,
+    every_example_is_taken_apart,
+    too_many_are_told_in_words,
+    variants_are_compared,
+    before_and_after_an_edit,
+    a_cell_tells_by_what_they_exclude,
+]

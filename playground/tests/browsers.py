@@ -11,9 +11,21 @@ import time
 
 SECONDS = 20
 ELEMENT = "element-6066-11e4-a52e-4f735466cecf"
-KEYS = {"Tab": "\ue004", "Enter": "\ue007", "Escape": "\ue00c", "Left": "\ue012", "Up": "\ue013", "Right": "\ue014",
-        "Down": "\ue015", "Home": "\ue011", "End": "\ue010", "Space": " ", "Backspace": "\ue003", "Shift": "\ue008",
-        "Control": "\ue009"}
+KEYS = {
+    "Tab": "\ue004",
+    "Enter": "\ue007",
+    "Escape": "\ue00c",
+    "Left": "\ue012",
+    "Up": "\ue013",
+    "Right": "\ue014",
+    "Down": "\ue015",
+    "Home": "\ue011",
+    "End": "\ue010",
+    "Space": " ",
+    "Backspace": "\ue003",
+    "Shift": "\ue008",
+    "Control": "\ue009",
+}
 
 
 def free_port():
@@ -36,8 +48,10 @@ class Browser:
 
     def run(self, script, *words):
         """What an `async` function with this body answers."""
-        script = f"const done = arguments[arguments.length - 1]; const given = [...arguments].slice(0, -1); " \
-                 f"(async (...given) => {{ {script} }})(...given).then(done, (e) => done('FAILED ' + e + e.stack))"
+        script = (
+            f"const done = arguments[arguments.length - 1]; const given = [...arguments].slice(0, -1); "
+            f"(async (...given) => {{ {script} }})(...given).then(done, (e) => done('FAILED ' + e + e.stack))"
+        )
         found = self.command("execute", {"script": script, "args": list(words)})
         if isinstance(found, str) and found.startswith("FAILED"):
             raise AssertionError(found)
@@ -63,17 +77,32 @@ class Browser:
 
     def click(self, selector, text=None):
         """Clicks on the middle of an element, as a mouse does."""
-        place = self.run("""
-            const it = [...document.querySelectorAll(given[0])].find((it) => given[1] === null || it.textContent.trim() === given[1]);
+        place = self.run(
+            """
+            const found = [...document.querySelectorAll(given[0])];
+            const it = found.find(({ textContent }) => given[1] === null || textContent.trim() === given[1]);
             if (!it) return null;
             it.scrollIntoView({ block: "center", behavior: "instant" });
             const { x, y, width, height } = it.getBoundingClientRect();
-            return [Math.round(x + width / 2), Math.round(y + height / 2)];""", selector, text)
+            return [Math.round(x + width / 2), Math.round(y + height / 2)];""",
+            selector,
+            text,
+        )
         if place is None:
             raise AssertionError(f"nothing to click: {selector} {text or ''}")
         move = {"type": "pointerMove", "duration": 0, "x": place[0], "y": place[1], "origin": "viewport"}
-        self.command("actions", {"actions": [{"type": "pointer", "id": "mouse", "actions": [
-            move, {"type": "pointerDown", "button": 0}, {"type": "pointerUp", "button": 0}]}]})
+        self.command(
+            "actions",
+            {
+                "actions": [
+                    {
+                        "type": "pointer",
+                        "id": "mouse",
+                        "actions": [move, {"type": "pointerDown", "button": 0}, {"type": "pointerUp", "button": 0}],
+                    }
+                ]
+            },
+        )
 
 
 class Chromium(Browser):
@@ -85,7 +114,9 @@ class Chromium(Browser):
         self.port, self.session = port, ""
         options = {"args": ["--headless=new", "--no-sandbox", "--disable-gpu", "--window-size=1280,860", *flags]}
         wanted = {"browserName": "chrome", "goog:chromeOptions": options, "goog:loggingPrefs": {"browser": "ALL"}}
-        answer = retried(lambda: self.ask("POST", "/session", {"capabilities": {"alwaysMatch": wanted}}), "chromedriver")
+        answer = retried(
+            lambda: self.ask("POST", "/session", {"capabilities": {"alwaysMatch": wanted}}), "chromedriver"
+        )
         self.session = f"/session/{answer['sessionId']}"
 
     def ask(self, method, path, body=None):
@@ -111,7 +142,9 @@ class Chromium(Browser):
 
     def window(self, width, height):
         """The size of the page, in its own pixels."""
-        self.devtools("Emulation.setDeviceMetricsOverride", width=width, height=height, deviceScaleFactor=1, mobile=False)
+        self.devtools(
+            "Emulation.setDeviceMetricsOverride", width=width, height=height, deviceScaleFactor=1, mobile=False
+        )
 
     def media(self, **features):
         """As `dark` or `forced colours` of the system would make it: `prefers_color_scheme="dark"`."""
@@ -154,7 +187,7 @@ class Firefox(Browser):
         length, _, rest = self.rest.partition(b":")
         while len(rest) < int(length):
             rest += self.line.recv(1 << 20)
-        self.rest = rest[int(length):]
+        self.rest = rest[int(length) :]
         return json.loads(rest[: int(length)])
 
     def ask(self, name, words):
@@ -167,8 +200,14 @@ class Firefox(Browser):
         return value.get("value", value) if isinstance(value, dict) else value
 
     def command(self, name, words):
-        return self.ask({"execute": "WebDriver:ExecuteAsyncScript", "actions": "WebDriver:PerformActions",
-                         "url": "WebDriver:Navigate"}[name], words)
+        return self.ask(
+            {
+                "execute": "WebDriver:ExecuteAsyncScript",
+                "actions": "WebDriver:PerformActions",
+                "url": "WebDriver:Navigate",
+            }[name],
+            words,
+        )
 
     def go(self, url):
         self.command("url", {"url": "about:blank"})

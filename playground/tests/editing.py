@@ -1,12 +1,12 @@
 """The text: what is typed, selected and undone, and what is said in it and below it."""
 
 TWO_ON_A_LINE = "lost_update"
-CONTRAST = """
-  const rgb = (text) => { const it = document.createElement('canvas').getContext('2d'); it.fillStyle = text; it.fillRect(0, 0, 1, 1);
-    return [...it.getImageData(0, 0, 1, 1).data].slice(0, 3); };
-  const light = (c) => c.map((v) => v / 255).map((v) => v <= 0.03928 ? v / 12.92 : ((v + 0.055) / 1.055) ** 2.4)
-    .reduce((sum, v, i) => sum + v * [0.2126, 0.7152, 0.0722][i], 0);
-  const contrast = (one, other) => { const [a, b] = [light(rgb(one)), light(rgb(other))].sort((x, y) => y - x); return (a + 0.05) / (b + 0.05); };
+GUARDED = """record Gate { int n; }
+record Node { int val; Node next; }
+global Gate gate; global Node head;
+thread u { Node n; atomic { n = new Node; n.next = n; head.next = n; } }
+thread t { Node p; int v;
+  atomic { p = head.next; while (p != null) { v = p.val; p = p.next; } v = gate.n; } }
 """
 
 
@@ -14,22 +14,26 @@ def selection_is_seen(page):
     page.example("walk")
     page.browser.click("#code .CodeMirror-line")
     page.browser.keys("a", held="Control")
-    found = page.run(CONTRAST + """
-      const behind = getComputedStyle(document.querySelector('.CodeMirror-selected')).backgroundColor;
-      const words = [...document.querySelectorAll('.CodeMirror-line span[class^=cm-]')];
-      const selection = getComputedStyle(words[0], '::selection');
-      return [words.length, Math.min(...words.map((it) => contrast(getComputedStyle(it).color, behind))), selection.color, page.editor.code.getSelection().length];""")
-    assert found[0] > 20 and found[1] >= 4.5 and "0, 0, 0, 0" not in found[2] and found[3] == len(page.examples["walk"]), found
+    found = page.probe("selection")
+    assert found["words"] > 20 and found["least"] >= 4.5 and "0, 0, 0, 0" not in found["ink"], found
+    assert found["letters"] == len(page.examples["walk"]), found
 
 
 def sections_on_a_line_have_their_locks(page):
     page.example(TWO_ON_A_LINE)
-    chips = page.run("""return [...document.querySelectorAll('.inlay .lock')].map((it) => { const { x, y, width, height } = it.getBoundingClientRect();
-      return { text: it.textContent, x, y, right: x + width, below: y + height, seen: document.elementFromPoint(x + width / 2, y + height / 2)?.closest('.lock') === it }; })""")
+    chips = page.probe("chips")
     assert [it["text"] for it in chips] == ["R a", "W a", "R a", "W a"], chips
-    assert all(it["seen"] for it in chips), chips
-    apart = [(one, other) for one in chips for other in chips if one is not other
-             and one["x"] < other["right"] and other["x"] < one["right"] and one["y"] < other["below"] and other["y"] < one["below"]]
+    assert all(it["isSeen"] for it in chips), chips
+    apart = [
+        (one, other)
+        for one in chips
+        for other in chips
+        if one is not other
+        and one["x"] < other["right"]
+        and other["x"] < one["right"]
+        and one["y"] < other["bottom"]
+        and other["y"] < one["bottom"]
+    ]
     assert not apart, apart
 
 
@@ -81,7 +85,10 @@ def escape_and_tab_leave_the_text(page):
 
 def warnings_are_underlined(page):
     page.example("linked_list")
-    assert page.texts("#code .doubt") == ["v", "=", "p", ".", "val"] or "".join(page.texts("#code .doubt")).replace(" ", "") == "v=p.val", page.texts("#code .doubt")
+    assert (
+        page.texts("#code .doubt") == ["v", "=", "p", ".", "val"]
+        or "".join(page.texts("#code .doubt")).replace(" ", "") == "v=p.val"
+    ), page.texts("#code .doubt")
     title = page.run("return document.querySelector('#code .doubt').title")
     assert title.startswith("section 0 locks all of class 1 for reading"), title
     assert page.run("const it = document.querySelector('#reports'); return it.scrollWidth <= it.clientWidth") is True
@@ -100,9 +107,7 @@ def remedies_are_done(page):
     page.browser.click("#reports .remedy", "remove all")
     page.ready()
     assert "atomic {" in page.source() and page.texts(".inlay .lock") == ["R a", "W a"], page.source()
-    page.write("record Gate { int n; }\nrecord Node { int val; Node next; }\nglobal Gate gate; global Node head;\n"
-               "thread u { Node n; atomic { n = new Node; n.next = head.next; } }\n".replace("n.next = head.next;", "n.next = n; head.next = n;")
-               + "thread t { Node p; int v; atomic { p = head.next; while (p != null) { v = p.val; p = p.next; } v = gate.n; } }\n")
+    page.write(GUARDED)
     page.browser.click("#reports .remedy", "protect Node by gate")
     page.ready()
     assert "record Node protected_by gate {" in page.source(), page.source()
@@ -110,8 +115,10 @@ def remedies_are_done(page):
 
 
 def refusals_are_words(page):
-    for text, words in (("record A { int v; }\nthread t { atomic { x = = 1; } }\n", "unexpected token"),
-                        ("thread " + "x" * 40 + " { }", "name")):
+    for text, words in (
+        ("record A { int v; }\nthread t { atomic { x = = 1; } }\n", "unexpected token"),
+        ("thread " + "x" * 40 + " { }", "name"),
+    ):
         page.write(text)
         for key in ("locks", "graph", "pairs", "schedule", "outcomes", "compare"):
             page.view(key)
@@ -136,6 +143,18 @@ def text_is_never_markup(page):
     assert page.run("return globalThis.bad === undefined && !document.querySelector('#code img')") is True
 
 
-TESTS = [selection_is_seen, sections_on_a_line_have_their_locks, chip_tells_why, typing_is_undone, brackets_are_closed_and_lines_indented,
-         text_is_searched, escape_and_tab_leave_the_text, warnings_are_underlined, fault_is_underlined, remedies_are_done,
-         refusals_are_words, messages_speak_unicode, text_is_never_markup]
+TESTS = [
+    selection_is_seen,
+    sections_on_a_line_have_their_locks,
+    chip_tells_why,
+    typing_is_undone,
+    brackets_are_closed_and_lines_indented,
+    text_is_searched,
+    escape_and_tab_leave_the_text,
+    warnings_are_underlined,
+    fault_is_underlined,
+    remedies_are_done,
+    refusals_are_words,
+    messages_speak_unicode,
+    text_is_never_markup,
+]

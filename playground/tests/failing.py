@@ -16,12 +16,14 @@ def without(page, **server):
 
 def restored(test):
     """A test after which the server serves as before; the console may complain of what it didn't serve."""
+
     def tried(page):
         try:
             test(page)
         finally:
             page.server.missing, page.server.types = set(), {}
             page.browser.complaints()
+
     tried.__name__ = test.__name__
     tried.may_complain = True
     return tried
@@ -42,7 +44,9 @@ def another_type_of_content_is_taken(page):
 
 @restored
 def an_old_browser_is_told_which_ones_can(page):
-    script = page.browser.devtools("Page.addScriptToEvaluateOnNewDocument", source="WebAssembly.validate = () => false;")
+    script = page.browser.devtools(
+        "Page.addScriptToEvaluateOnNewDocument", source="WebAssembly.validate = () => false;"
+    )
     try:
         without(page)
         told = said(page)
@@ -56,8 +60,10 @@ def a_broken_module_is_said(page):
     without(page, types={".wasm": "text/plain"})
     page.ready()
     page.run("return 1")
-    script = page.browser.devtools("Page.addScriptToEvaluateOnNewDocument",
-                                   source="WebAssembly.compileStreaming = WebAssembly.compile = async () => { throw new WebAssembly.CompileError('no'); };")
+    script = page.browser.devtools(
+        "Page.addScriptToEvaluateOnNewDocument",
+        source="WebAssembly.compileStreaming = async () => { throw new WebAssembly.CompileError('no'); };",
+    )
     try:
         without(page, types={})
         assert "can't run" in said(page), said(page)
@@ -70,5 +76,10 @@ def without_scripts_it_is_said(page):
     assert "<noscript>" in text and "needs JavaScript" in text
 
 
-TESTS = [a_missing_module_is_said, another_type_of_content_is_taken, an_old_browser_is_told_which_ones_can, a_broken_module_is_said,
-         without_scripts_it_is_said]
+TESTS = [
+    a_missing_module_is_said,
+    another_type_of_content_is_taken,
+    an_old_browser_is_told_which_ones_can,
+    a_broken_module_is_said,
+    without_scripts_it_is_said,
+]

@@ -130,5 +130,16 @@ def colours_are_kept(page):
     assert page.run("return getComputedStyle(document.body).backgroundColor") == dark
 
 
-TESTS = [an_example_doesnt_eat_ones_text, a_draft_survives_reload, a_link_holds_all, a_link_is_short, copying_is_told,
-         what_cant_be_copied_is_offered, back_brings_back, a_link_of_old_opens, a_broken_link_is_said, lines_of_windows_are_taken, colours_are_kept]
+TESTS = [
+    an_example_doesnt_eat_ones_text,
+    a_draft_survives_reload,
+    a_link_holds_all,
+    a_link_is_short,
+    copying_is_told,
+    what_cant_be_copied_is_offered,
+    back_brings_back,
+    a_link_of_old_opens,
+    a_broken_link_is_said,
+    lines_of_windows_are_taken,
+    colours_are_kept,
+]

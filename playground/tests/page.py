@@ -15,6 +15,7 @@ READY = "!!globalThis.page?.isSettled"
 
 class Server(socketserver.ThreadingTCPServer):
     """Serves the folder. `missing` are names that it says aren't there, `types` other types of content by ending."""
+
     daemon_threads = True
     allow_reuse_address = True
 
@@ -34,6 +35,9 @@ class Handler(http.server.SimpleHTTPRequestHandler):
     def guess_type(self, path):
         ending = os.path.splitext(path)[1]
         return self.server.types.get(ending) or self.TYPES.get(ending) or super().guess_type(path)
+
+    def translate_path(self, path):
+        return f"{HERE}/probes.js" if path == "/probes.js" else super().translate_path(path)
 
     def do_GET(self):
         name = self.path.split("?")[0].lstrip("/")
@@ -84,13 +88,20 @@ class Page:
         self.run("page.tour.leave(); await page.openExample(given[0], given[1])", name, view)
         self.ready()
 
+    def probe(self, name, *words):
+        """What a function of `probes.js` answers."""
+        return self.run("return (await import('./probes.js'))[given[0]](...given.slice(1))", name, *words)
+
     def view(self, key):
         self.browser.click(f"#tab-{key}")
         self.ready()
 
     def texts(self, selector):
-        return self.run("return [...document.querySelectorAll(given[0])].filter((it) => it.getClientRects().length)"
-                        ".map((it) => it.textContent.trim())", selector)
+        return self.run(
+            "return [...document.querySelectorAll(given[0])].filter((it) => it.getClientRects().length)"
+            ".map((it) => it.textContent.trim())",
+            selector,
+        )
 
     def text(self, selector):
         return " ".join(self.texts(selector))
@@ -99,6 +110,13 @@ class Page:
         for name in names:
             self.browser.click("#panel-schedule button", f"turn of {name}")
             self.ready()
+
+    def replayed(self):
+        """Waits until the schedule shows a run that has come to its end."""
+        self.browser.until(
+            "page.view.key === 'schedule' && page.isSettled && page.view.turns.list.length > 0"
+            " && page.view.turns.running().length === 0"
+        )
 
     def source(self):
         return self.run("return page.editor.text")
@@ -119,10 +137,22 @@ def many(statements):
 def wide(threads, sections):
     """Threads with sections that multiply and add, so that each order comes to another end."""
     section = "atomic {{ x = a.v; x = x * 3; x = x + {n}; a.v = x; b.v = x; }} "
-    bodies = "".join(f"thread t{thread} {{ int x; " + "".join(section.format(n=thread * sections + number + 1) for number in range(sections))
-                     + "}\n" for thread in range(threads))
+    bodies = "".join(
+        f"thread t{thread} {{ int x; "
+        + "".join(section.format(n=thread * sections + number + 1) for number in range(sections))
+        + "}\n"
+        for thread in range(threads)
+    )
     return f"record A {{ int v; }}\nglobal A a; global A b;\n{bodies}"
 
 
-ENDLESS = "record A { int v; }\nglobal A a;\nthread p { int x; while (0 == 0) { x = 1; } }\nthread q { atomic { a.v = 1; } }\n"
-ENDLESS_INSIDE = "record A { int v; }\nglobal A a; global A b;\nthread p { int x; atomic { a.v = 1; while (0 == 0) { x = 1; } } }\nthread q { atomic { b.v = 1; } }\n"
+ENDLESS = """record A { int v; }
+global A a;
+thread p { int x; while (0 == 0) { x = 1; } }
+thread q { atomic { a.v = 1; } }
+"""
+ENDLESS_INSIDE = """record A { int v; }
+global A a; global A b;
+thread p { int x; atomic { a.v = 1; while (0 == 0) { x = 1; } } }
+thread q { atomic { b.v = 1; } }
+"""

@@ -9,11 +9,13 @@ DOCS = f"{TOP}/docs"
 
 def shot(page, name, width=1280, height=800):
     page.browser.window(width, height)
-    page.run("window.dispatchEvent(new Event('resize')); page.editor.refresh(); document.activeElement.blur(); scrollTo(0, 0)")
+    page.run("page.editor.refresh(); document.activeElement.blur(); scrollTo(0, 0)")
     page.rest(0.5)
     path = f"{DOCS}/{name}.png"
     page.browser.shot(path)
-    subprocess.run(["pngquant", "--force", "--skip-if-larger", "--speed", "1", "--output", path, "128", path], check=False)
+    subprocess.run(
+        ["pngquant", "--force", "--skip-if-larger", "--speed", "1", "--output", path, "128", path], check=False
+    )
     subprocess.run(["optipng", "-quiet", "-o5", path], check=True)
     print(f"docs/{name}.png: {os.path.getsize(path) // 1024} KB")
 
@@ -30,9 +32,9 @@ def take(page):
     shot(page, "page-locks")
     page.run("await page.openView('graph'); page.view.choose(0)")
     shot(page, "page-graph")
-    page.run("await page.openView('schedule'); await page.view.type('sum sum sum sum sum sum push push push push push')")
+    page.run("await page.tour.go(1); await page.view.type('p p p p p q q q q')")
     shot(page, "page-schedule")
-    page.run("await page.tour.go(1); await page.openView('outcomes')")
+    page.run("await page.openView('outcomes')")
     page.browser.until("!!document.querySelector('.apart table')")
     page.browser.media(prefers_color_scheme="dark")
     shot(page, "page-outcomes", 1920, 1080)

@@ -10,7 +10,9 @@ def a_late_answer_stays_in_its_view(page):
     page.browser.until("!page.sectc.isBusy")
     page.rest(0.3)
     assert page.texts("[role=tab][aria-selected=true]") == ["Locks"]
-    assert page.texts("[role=tabpanel]") and "takes these locks" in page.texts("[role=tabpanel]")[0], page.texts("[role=tabpanel]")
+    assert page.texts("[role=tabpanel]") and "takes these locks" in page.texts("[role=tabpanel]")[0], page.texts(
+        "[role=tabpanel]"
+    )
     assert len(page.texts("[role=tabpanel]")) == 1
 
 
@@ -26,7 +28,9 @@ def a_long_run_stays_in_its_view(page):
 def a_run_ends_with_its_program(page):
     page.write(ENDLESS)
     page.view("schedule")
-    page.run("page.views[3].deed((turns) => turns.toTheEnd()); page.openText(given[0], null)", page.examples["two_threads"])
+    page.run(
+        "page.views[3].deed((turns) => turns.toTheEnd()); page.openText(given[0], null)", page.examples["two_threads"]
+    )
     page.ready()
     page.rest(0.5)
     assert page.run("return page.views[3].turns.list.length") == 0
@@ -76,7 +80,12 @@ def one_module_serves_all_workers(page):
     page.write(page.examples["two_threads"])
     page.ready()
     assert page.run("return page.sectc.started") >= 2
-    assert page.run("return performance.getEntriesByType('resource').filter((it) => it.name.endsWith('sectc.wasm')).length") == 1
+    assert (
+        page.run(
+            "return performance.getEntriesByType('resource').filter((it) => it.name.endsWith('sectc.wasm')).length"
+        )
+        == 1
+    )
 
 
 def focus_stays_at_what_was_pressed(page):
@@ -102,13 +111,20 @@ def focus_stays_at_what_was_pressed(page):
 
 def six_quick_clicks_are_six_turns(page):
     page.example("two_threads", "schedule")
-    page.run("""const it = [...document.querySelectorAll('#panel-schedule button')].find((it) => it.textContent === 'turn of p');
-      for (let click = 0; click < 6; click++) it.click();""")
+    page.probe("clicks", "turn of p", 6)
     page.ready()
     page.rest(0.2)
     assert page.run("return page.views[3].turns.list.length") == 6, page.run("return page.views[3].turns.list")
 
 
-TESTS = [a_late_answer_stays_in_its_view, a_long_run_stays_in_its_view, a_run_ends_with_its_program, stop_stops_what_a_view_asks,
-         an_edit_ends_what_is_at_work_without_a_complaint, young_workers_are_left_to_answer, one_module_serves_all_workers,
-         focus_stays_at_what_was_pressed, six_quick_clicks_are_six_turns]
+TESTS = [
+    a_late_answer_stays_in_its_view,
+    a_long_run_stays_in_its_view,
+    a_run_ends_with_its_program,
+    stop_stops_what_a_view_asks,
+    an_edit_ends_what_is_at_work_without_a_complaint,
+    young_workers_are_left_to_answer,
+    one_module_serves_all_workers,
+    focus_stays_at_what_was_pressed,
+    six_quick_clicks_are_six_turns,
+]

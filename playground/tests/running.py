@@ -10,8 +10,10 @@ def a_turn_shows_its_statement(page):
     page.example("lost_update", "schedule")
     page.turns(*["p"] * 6)
     assert page.text("#told") == "p act: t = a.bal", page.text("#told")
-    assert "next:" in page.texts(".thread-card")[1] and "section 2" in page.texts(".thread-card .next")[1], page.texts(".thread-card")
-    lit = page.run("return [...document.querySelectorAll('#code .at')].map((it) => it.className.match(/thread-\\d/)[0] + ' ' + it.textContent)")
+    assert "next:" in page.texts(".thread-card")[1] and "section 2" in page.texts(".thread-card .next")[1], page.texts(
+        ".thread-card"
+    )
+    lit = page.probe("litForThreads")
     assert any(it == "thread-1 atomic" for it in lit), lit
     page.turns("p", "p")
     assert page.texts(".locals .changed") == ["t1"], page.texts(".locals div")
@@ -21,10 +23,12 @@ def who_waits_is_told(page):
     page.example("two_threads", "schedule")
     page.turns("p", "q", "p", "p", "p", "q", "q", "q")
     wait = page.text(".thread-card.waits .wait")
-    assert wait.replace(" ", "") == "waitsforXa,pholdsX", wait
-    assert "waits, wants" in page.text("td.waits") and page.run(
-        "return getComputedStyle(document.querySelector('#panel-schedule td.waits')).backgroundColor !== 'rgba(0, 0, 0, 0)'"), page.texts("td.waits")
-    page.write("record A { int v; }\nglobal A a;\n" + "".join(f"thread {name} {{ atomic {{ a.v = 1; }} }}\n" for name in "pqr"))
+    assert wait.replace(" ", "") == "waitsforXapholdsX", wait
+    assert "waits, wants" in page.text("td.waits"), page.texts("td.waits")
+    assert page.probe("background", "#panel-schedule td.waits") != "rgba(0, 0, 0, 0)"
+    page.write(
+        "record A { int v; }\nglobal A a;\n" + "".join(f"thread {name} {{ atomic {{ a.v = 1; }} }}\n" for name in "pqr")
+    )
     page.view("schedule")
     page.run("await page.views[3].type('p p p p q q q q r r r r')")
     assert "behind q" in page.texts(".thread-card.waits .wait")[1], page.texts(".thread-card.waits .wait")
@@ -32,8 +36,10 @@ def who_waits_is_told(page):
 
 def the_statement_of_a_procedure_is_lit(page):
     page.example("procedure", "schedule")
-    page.run("await page.views[3].deed((turns) => turns.until((moment) => moment.threads[0].text === 't#0 = x#0.bal', () => [0]))")
-    lit = page.run("return [...document.querySelectorAll('#code .at.thread-0')].map((it) => it.textContent).join('').replaceAll(' ', '')")
+    page.run(
+        "await page.view.deed((turns) => turns.until(({ threads }) => threads[0].text === 't#0 = x#0.bal', () => [0]))"
+    )
+    lit = "".join(page.texts("#code .at.thread-0")).replace(" ", "")
     assert "t=x.bal" in lit and "callmove(a,b,3)" in lit, lit
 
 
@@ -43,21 +49,14 @@ def moments_come_to_what_the_program_says(page):
         page.write(text)
         count = page.run("return page.program.threads.length")
         turns = [chance.randrange(count) for _ in range(70)]
-        found = page.run("""const { momentsOf } = await import('./trace.js');
-          const words = ['schedule', ...given[0].map(String)];
-          const { document } = await page.askDocument(words);
-          const chart = (await page.ask(['schedule', '--chart', ...given[0].map(String)])).text;
-          const last = momentsOf(page.program, document, chart, given[0]).at(-1);
-          const text = (objects) => JSON.stringify(objects.map(({ name, fields }) => [name, fields.map((it) => [it.name, it.value === null ? null : String(it.value)])]));
-          return [text(last.objects), text(document.outcome.objects), last.output.map(String), document.outcome.output.map(String),
-            last.threads.map((it) => it.standing), document.outcome.threads.map((it) => it.state)];""", turns)
-        assert found[0] == found[1] and found[2] == found[3] and found[4] == found[5], (name, turns, found)
+        found, told = page.probe("trace", turns)
+        assert found == told, (name, turns, found, told)
 
 
 def the_slider_and_keys_go_back_and_forth(page):
     page.example("two_threads", "schedule")
     page.browser.click("#panel-schedule button", "until all have ended")
-    page.browser.until("page.views[3].turns.moments.length > 1 && page.views[3].turns.running().length === 0")
+    page.replayed()
     count = page.run("return page.views[3].turns.list.length")
     assert count == 18, count
     page.browser.click("#panel-schedule button", "|◂")
@@ -76,7 +75,7 @@ def it_runs_until_a_thread_waits(page):
     page.run("document.getElementById('waiter').value = '1'")
     page.browser.click("#panel-schedule button", "until")
     page.browser.until("page.views[3].turns.moment.threads[1].waits !== null")
-    assert page.text(".thread-card.waits .thread") .startswith("q")
+    assert page.text(".thread-card.waits .thread").startswith("q")
 
 
 def it_stops_at_a_marked_line(page):
@@ -107,7 +106,7 @@ def turns_are_a_command(page):
 def an_outcome_is_replayed(page):
     page.example("lost_update", "outcomes")
     page.browser.click("#panel-outcomes .outcomes tbody tr:first-child button", "replay")
-    page.browser.until("page.view.key === 'schedule' && page.views[3].turns.moments.length > 1 && page.views[3].turns.running().length === 0")
+    page.replayed()
     page.ready()
     found = page.run(MOMENT + "return String(moment.objects[0].fields[0].value)")
     assert found == "1", found
@@ -119,7 +118,10 @@ def an_endless_thread_is_replayed_too(page):
     page.browser.until("!!document.getElementById('count')")
     page.run("await page.replay([0, 1], 1000)")
     page.ready()
-    found = page.run(MOMENT + "return [moment.threads.map((it) => it.standing), page.views[3].turns.list.includes(0), page.views[3].turns.command.slice(0, 34)]")
+    found = page.run(
+        MOMENT + "const { list, command } = page.view.turns;"
+        "return [moment.threads.map((it) => it.standing), list.includes(0), command.slice(0, 34)]"
+    )
     assert found == [["fuel", "done"], True, "sectc schedule --k 2 --fuel 1000 0"], found
 
 
@@ -135,11 +137,24 @@ def an_endless_run_is_given_up_with_a_word(page):
 
 def changes_of_the_store_are_marked(page):
     page.example("linked_list", "schedule")
-    page.run("await page.views[3].deed((turns) => turns.until((moment) => moment.done[0]?.text === 'n.val = v', () => [1]))")
+    page.run(
+        "await page.views[3].deed((turns) => turns.until((moment) => moment.done[0]?.text === 'n.val = v', () => [1]))"
+    )
     assert page.texts(".store .value.strong") == ["5"], page.texts(".store .value")
     assert page.run("return document.querySelectorAll('.store .changed').length") == 1
 
 
-TESTS = [a_turn_shows_its_statement, who_waits_is_told, the_statement_of_a_procedure_is_lit, moments_come_to_what_the_program_says,
-         the_slider_and_keys_go_back_and_forth, it_runs_until_a_thread_waits, it_stops_at_a_marked_line, turns_are_a_command,
-         an_outcome_is_replayed, an_endless_thread_is_replayed_too, an_endless_run_is_given_up_with_a_word, changes_of_the_store_are_marked]
+TESTS = [
+    a_turn_shows_its_statement,
+    who_waits_is_told,
+    the_statement_of_a_procedure_is_lit,
+    moments_come_to_what_the_program_says,
+    the_slider_and_keys_go_back_and_forth,
+    it_runs_until_a_thread_waits,
+    it_stops_at_a_marked_line,
+    turns_are_a_command,
+    an_outcome_is_replayed,
+    an_endless_thread_is_replayed_too,
+    an_endless_run_is_given_up_with_a_word,
+    changes_of_the_store_are_marked,
+]

@@ -23,7 +23,10 @@ def all_views_answer(page):
     assert page.texts("td.exclude") == ["✕ never together"] * 2, page.texts("td.exclude")
     page.view("schedule")
     page.turns("sum", "sum", "push", "push")
-    assert page.texts("#turns + button") == ["copy"] and page.run("return document.getElementById('turns').value") == "sectc schedule --k 2 0 0 1 1"
+    assert (
+        page.texts("#turns + button") == ["copy"]
+        and page.run("return document.getElementById('turns').value") == "sectc schedule --k 2 0 0 1 1"
+    )
     page.view("outcomes")
     page.browser.until("document.getElementById('count')?.textContent === '2 outcomes of 5 states'")
     page.browser.click("#condition")

@@ -2,6 +2,7 @@
 // each of them on, and the chain of a lock drawn in.
 import { lockText, setText } from "./answers.js";
 import { laidOut, layoutReady, lineThrough, tip } from "./layout.js";
+import { led } from "./lines.js";
 import { lockClass, lockParts, setSigns } from "./signs.js";
 import { View } from "./tab.js";
 import { button, drawn, element } from "./view.js";
@@ -9,8 +10,6 @@ import { button, drawn, element } from "./view.js";
 /** A box shows this many statements, and more at a click; a graph of more boxes is drawn at a click. */
 const LONG = 60;
 const MANY = 400;
-/** How far a line at the side is from the boxes. */
-const ASIDE = 24;
 const ZOOMS = [0.25, 0.35, 0.5, 0.7, 0.85, 1, 1.2, 1.5, 2, 3];
 
 /** The nodes of a graph in boxes: each begins where control comes together or parts. */
@@ -29,46 +28,6 @@ export function boxesOf(nodes) {
   const edges = boxes.flatMap((box, from) => nodes[box.at(-1)].next.map((to, way, all) =>
     ({ from, to: boxOf[to], way, isTest: all.length > 1, isLoop: boxOf[to] <= from })));
   return { boxes, edges };
-}
-
-/** How far down or up the boxes reach that stand in a row with one. */
-function reach(box, boxes) {
-  const middle = ({ y, height }) => y + height / 2;
-  const tall = Math.max(...boxes.filter((it) => Math.abs(middle(it) - middle(box)) < 1).map(({ height }) => height));
-  return [middle(box) - tall / 2, middle(box) + tall / 2];
-}
-
-/** Where a line leaves or enters a box: towards the point where it goes on. */
-function port({ x, width }, point) {
-  const middle = x + width / 2;
-  return middle + Math.min(Math.max((point.x - middle) / 2, -width / 3), width / 3);
-}
-
-/** A line as dagre leads it, but out of a box below and into one above, past the boxes beside them. */
-function led(line, edge, boxes) {
-  if (edge.isLoop) return besides(line, edge, boxes);
-  const [from, to] = [boxes[edge.from], boxes[edge.to]];
-  const inner = line.points.slice(1, -1);
-  const [leaves, enters] = [port(from, inner[0]), port(to, inner.at(-1))];
-  return {
-    ...line,
-    points: [
-      { x: leaves, y: from.y + from.height }, { x: leaves, y: reach(from, boxes)[1] + 2 }, ...inner,
-      { x: enters, y: reach(to, boxes)[0] - 2 }, { x: enters, y: to.y }
-    ]
-  };
-}
-
-/** A line back to the box right above goes at the side; dagre has led longer ones there already. */
-function besides(line, { from, to }, boxes) {
-  if (line.points.length > 3) return line;
-  const [low, high] = [boxes[from], boxes[to]];
-  const left = Math.max(Math.min(low.x, high.x) - ASIDE, 2);
-  const [start, end] = [low, high].map(({ x, y, height }) => ({ x, y: y + height / 2 }));
-  const isInTheWay = (box) => box !== low && box !== high && box.x < Math.max(low.x, high.x) && box.x + box.width > left
-    && box.y < start.y && box.y + box.height > end.y;
-  if (boxes.some(isInTheWay)) return line;
-  return { ...line, points: [start, { x: left, y: start.y }, { x: left, y: end.y }, end] };
 }
 
 export class Graph extends View {
@@ -133,7 +92,7 @@ export class Graph extends View {
     this.draw(this.controls(),
       element("div",
         { class: "canvas", tabindex: 0, role: "group", "aria-label": "Control-flow graph", "data-key": "canvas" },
-        element("div", { class: "sheet" }, picture)));
+        element("div", { class: "sheet" }, picture)), this.zooms());
     this.place(edges, steps, boxes);
   }
 
@@ -145,9 +104,6 @@ export class Graph extends View {
       this.page.remember();
       this.redraw();
     };
-    const zoom = (label, title, to) => button(label, () => this.zoomTo(to()), { title, "aria-label": title });
-    const next = (step) =>
-      ZOOMS[Math.min(Math.max(ZOOMS.findIndex((it) => it >= this.zoom) + step, 0), ZOOMS.length - 1)];
     return element("div", { class: "controls", "data-key": "controls" },
       element("label", {}, "Graph of ",
         element("select", { id: "section", onchange: choose },
@@ -155,10 +111,16 @@ export class Graph extends View {
                          this.program.titleOf(number))))),
       element("div", { class: "chips", role: "group", "aria-label": "Draw the chain of a lock in" },
         this.known.chains.map(({ steps }, number) => button(lockParts(steps[0].lock), () => this.choose(number),
-                                { class: lockClass(steps[0].lock), "aria-pressed": String(this.lock === number) }))),
-      element("span", { class: "pair zoom" }, zoom("−", "smaller", () => next(-1)),
-        zoom("1:1", "as large as text", () => 1), zoom("+", "larger", () => next(1)),
-        zoom("fit", "the whole graph", () => this.fitting())));
+                                { class: lockClass(steps[0].lock), "aria-pressed": String(this.lock === number) }))));
+  }
+
+  zooms() {
+    const zoom = (label, title, to) => button(label, () => this.zoomTo(to()), { title, "aria-label": title });
+    const next = (step) =>
+      ZOOMS[Math.min(Math.max(ZOOMS.findIndex((it) => it >= this.zoom) + step, 0), ZOOMS.length - 1)];
+    return element("div", { class: "pair zoom", "data-key": "zoom" }, zoom("−", "smaller", () => next(-1)),
+      zoom("1:1", "as large as text", () => 1), zoom("+", "larger", () => next(1)),
+      zoom("fit", "the whole graph", () => this.fitting()));
   }
 
   choose(lock) {
@@ -228,15 +190,20 @@ export class Graph extends View {
     svg.setAttribute("width", this.size.width);
     svg.setAttribute("height", this.size.height);
     svg.replaceChildren(tip("graph-tip"), ...edges.flatMap(({ from, to, way, isTest, isLoop }, number) => {
-      const { points, x, y } = lines[number];
+      const { points, isLeft } = lines[number];
       const isLit = lit.has(`${from} ${to}`);
       const line = drawn("path", {
         class: `edge${isTest && way ? " otherwise" : ""}${isLoop ? " loop" : ""}${isLit ? " lit" : ""}`,
-        d: lineThrough(points),
-        "marker-end": "url(#graph-tip)"
+        d: lineThrough(points), "marker-end": "url(#graph-tip)",
       });
-      return isTest ? [line, drawn("text", { class: "way", x: x - 5, y: y + 4 }, way ? "no" : "yes")] : [line];
+      return isTest ? [line, this.way(points[0], isLeft, way)] : [line];
     }));
+  }
+
+  /** Beside the beginning of a line: whether it goes on where the test holds. */
+  way({ x, y }, isLeft, way) {
+    const side = isLeft ? { x: x - 8, "text-anchor": "end" } : { x: x + 8 };
+    return drawn("text", { class: "way", y: y + 15, ...side }, way ? "no" : "yes");
   }
 
   fitting() {

@@ -5,6 +5,10 @@ import { lockClass, lockParts, lockSign, threadSign } from "./signs.js";
 import { View } from "./tab.js";
 import { button, element, prose } from "./view.js";
 
+/** More steps than this in a row under one name are shown by so few at either end. */
+const LONG = 24;
+const FEW = 4;
+
 /** Why a lock is called otherwise behind a statement than before it. */
 function reasonOf(before, text, after) {
   if (lockText(before) === lockText(after)) return null;
@@ -15,6 +19,24 @@ function reasonOf(before, text, after) {
   if (before.kind === "path" && after.kind === "path")
     return `Before \`${text}\` the object of \`${after.path}\` is called \`${before.path}\`.`;
   return `Before \`${text}\` the lock \`${lockText(after)}\` is \`${lockText(before)}\`.`;
+}
+
+/**
+ * The numbers of the steps that are shown; of many in a row under one name the first and the last few are, and how many
+ * are left out stands between them, below zero.
+ */
+function shownSteps(steps) {
+  const shown = [];
+  for (let first = 0; first < steps.length;) {
+    const name = lockText(steps[first].lock);
+    let end = first;
+    while (end < steps.length && lockText(steps[end].lock) === name) end++;
+    const numbers = Array.from({ length: end - first }, (_, place) => first + place);
+    if (numbers.length > LONG) shown.push(...numbers.slice(0, FEW), 2 * FEW - numbers.length, ...numbers.slice(-FEW));
+    else shown.push(...numbers);
+    first = end;
+  }
+  return shown;
 }
 
 export class Locks extends View {
@@ -98,11 +120,15 @@ export class Locks extends View {
       element("p", {},
         prose(`Read from below: \`${last.text}\` needs \`${
           lockText(last.lock)}\`. Each step up says what that object is called there.`)),
-      element("ol", { start: 0 }, steps.map(({ node, text, lock }, number) => {
-        const reason = steps[number + 1] && reasonOf(lock, text, steps[number + 1].lock);
-        return element("li", { class: number === steps.length - 1 ? "needs" : "" },
-          button(text, () => this.page.light(this.program.spansOf(section, [node])), { class: "step" }), lockSign(lock),
-          reason ? element("p", { class: "reason" }, prose(reason)) : null);
-      })));
+      element("ol", { start: 0 }, shownSteps(steps).map((number) => this.step(section, steps, number))));
+  }
+
+  step(section, steps, number) {
+    if (number < 0) return element("li", { class: "quiet" }, `${-number} steps more, under the same name`);
+    const { node, text, lock } = steps[number];
+    const reason = steps[number + 1] && reasonOf(lock, text, steps[number + 1].lock);
+    return element("li", { class: number === steps.length - 1 ? "needs" : "" },
+      button(text, () => this.page.light(this.program.spansOf(section, [node])), { class: "step" }), lockSign(lock),
+      reason ? element("p", { class: "reason" }, prose(reason)) : null);
   }
 }

@@ -169,12 +169,18 @@ export class Page {
     this.views.forEach((it) => it.anew());
     this.opened = text;
     this.editor.text = text;
+    this.nameProgram();
     if (view) this.choose(view);
     await this.refresh();
   }
 
+  /** Says which example the text is, or that it is none. */
+  nameProgram() {
+    const { text } = this.editor;
+    byId("examples").value = Object.keys(this.examples).find((name) => this.examples[name] === text) ?? "";
+  }
+
   async openExample(name, view) {
-    byId("examples").value = name;
     await this.openText(this.examples[name], view);
   }
 
@@ -291,7 +297,7 @@ export class Page {
     this.tour.show(tour ?? null);
     this.choose(view);
     if (words !== undefined) this.view.linked = words;
-    byId("examples").value = Object.keys(this.examples).find((name) => this.examples[name] === text) ?? "";
+    this.nameProgram();
     await this.refresh();
   }
 

@@ -106,7 +106,7 @@ def answers_are_those_of_the_program(page):
 def examples_have_titles(page):
     titles = page.run("const { TITLES } = await import('./titles.js'); return Object.keys(TITLES).sort()")
     assert titles == sorted(page.examples), titles
-    shown = page.run("return [...document.querySelectorAll('#examples option')].map((it) => it.value).sort()")
+    shown = page.run("return [...document.querySelectorAll('#examples option')].map((it) => it.value).filter(Boolean).sort()")
     assert shown == sorted(page.examples), shown
 
 

@@ -48,6 +48,9 @@ def stop_stops_what_a_view_asks(page):
     page.browser.until("!page.sectc.isBusy", seconds=2)
     assert "No answer: it was stopped." in page.text("#panel-outcomes"), page.text("#panel-outcomes")
     assert page.text("#toast") == "Stopped."
+    page.rest(0.4)
+    page.example("two_threads", "outcomes")
+    assert page.text("#count") == "1 outcome of 4 states", page.text("#panel-outcomes")
     page.view("locks")
     assert "takes these locks" in page.text("#panel-locks")
 

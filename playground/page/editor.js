@@ -2,9 +2,6 @@
 import { defineLanguage } from "./syntax.js";
 import { element } from "./view.js";
 
-const { CodeMirror } = globalThis;
-defineLanguage(CodeMirror);
-
 /** A place of the program, with line and column from 1, as CodeMirror has it. */
 function position({ line, column }) {
   return { line: line - 1, ch: column - 1 };
@@ -12,7 +9,7 @@ function position({ line, column }) {
 
 /** Wrapped lines go on below the beginning of their text. */
 function hang(editor, line, node) {
-  const offset = (CodeMirror.countColumn(line.text, null, 4) + 2) * editor.defaultCharWidth();
+  const offset = (globalThis.CodeMirror.countColumn(line.text, null, 4) + 2) * editor.defaultCharWidth();
   node.style.textIndent = `-${offset}px`;
   node.style.paddingLeft = `${4 + offset}px`;
 }
@@ -20,6 +17,8 @@ function hang(editor, line, node) {
 export class Editor {
   /** `changed` is called after each change of the text, `stops` after each change of the lines to stop at. */
   constructor(place, { changed, stops }) {
+    const { CodeMirror } = globalThis;
+    defineLanguage(CodeMirror);
     this.layers = new Map();
     this.code = CodeMirror(place, {
       mode: "sect",

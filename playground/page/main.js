@@ -81,6 +81,7 @@ async function begin() {
     const sectc = new Sectc(module);
     const [examples] = await Promise.all([json("examples.json"), module]);
     fillExamples(examples);
+    byId("starting").remove();
     const page = new Page(sectc, examples);
     connect(page);
     globalThis.page = page;

@@ -141,12 +141,13 @@ export class Tour {
       return;
     }
     const { example, view, text, question, trial } = STEPS[this.step];
-    const move = (label, to) => button(
-      label, () => this.go(to), { "aria-disabled": String(!STEPS[to]), "data-key": label, disabled: !STEPS[to] });
+    const isAnswered = this.answers.get(this.step) === STEPS[this.step].right;
+    const move = (label, to, isNext) => button(label, () => STEPS[to] && this.go(to),
+      { "aria-disabled": String(!STEPS[to]), "data-key": label, class: isNext && STEPS[to] ? "main" : "" });
     update(this.place,
       element("header", {}, element("span", { class: "count" }, `Tour ${this.step + 1} of ${STEPS.length}`),
         element("h2", {}, TITLES[example]), element("span", { class: "spring" }), move("Back", this.step - 1),
-        move("Next", this.step + 1),
+        move("Next", this.step + 1, isAnswered),
         button("✕", () => this.go(null), { "aria-label": "end the tour", title: "end the tour" })),
       element("p", {}, prose(text)),
       element("p", { class: "asks" }, element("strong", {}, prose(question)), " ",

@@ -1,4 +1,5 @@
 """What is said where the program can't be had."""
+from page import OUT
 
 
 def said(page, wait=None):
@@ -71,6 +72,16 @@ def a_broken_module_is_said(page):
         page.browser.devtools("Page.removeScriptToEvaluateOnNewDocument", identifier=script["identifier"])
 
 
+def what_isnt_served_is_told(page):
+    page.browser.go(f"file://{OUT}/index.html")
+    page.rest(2)
+    assert "isn't served over http" in " ".join(page.text("#starting").split()), page.text("#starting")
+    page.browser.complaints()
+
+
+what_isnt_served_is_told.may_complain = True
+
+
 def without_scripts_it_is_said(page):
     text = page.run("return (await (await fetch('index.html')).text())")
     assert "<noscript>" in text and "needs JavaScript" in text
@@ -81,5 +92,6 @@ TESTS = [
     another_type_of_content_is_taken,
     an_old_browser_is_told_which_ones_can,
     a_broken_module_is_said,
+    what_isnt_served_is_told,
     without_scripts_it_is_said,
 ]

@@ -75,12 +75,10 @@ export function takenApart(text) {
 
 /** Whether a program has a section of more than one statement, so that it differs from what is taken apart. */
 export function canBeTakenApart(text) {
-  const counts = (part) => part.reduce((sum, it) => sum
-      + (it.kind === "simple"  ? 1
-          : it.kind === "call" ? 2
-                               : counts(it.part) + counts(it.other ?? [])),
-    0);
-  const hasLong = (part) => part.some(
-    (it) => (it.kind === "atomic" ? counts(it.part) > 1 : it.part && (hasLong(it.part) || hasLong(it.other))));
+  const count = (it) => ({ simple: 1, call: 2 })[it.kind] ?? counts(it.part) + counts(it.other ?? []);
+  const counts = (part) => part.reduce((sum, it) => sum + count(it), 0);
+  const isLong = ({ kind, part, other }) =>
+    (kind === "atomic" ? counts(part) > 1 : part && (hasLong(part) || hasLong(other)));
+  const hasLong = (part) => part.some(isLong);
   return treeOf(text).threads.some(({ statements }) => hasLong(statements));
 }

@@ -109,9 +109,8 @@ export class Compare extends View {
     const rows = Array.from({ length: count }, (_, number) => {
       const [one, other] = [old.sections[number]?.locks ?? [], now.sections[number]?.locks ?? []];
       const texts = [one, other].map((locks) => new Set(locks.map(lockText)));
-      const chips = (locks, others, kind) =>
-        locks.map((lock) => element("span",
-                    { class: `${lockClass(lock)}${others.has(lockText(lock)) ? "" : ` ${kind}`}` }, lockParts(lock)));
+      const chips = (locks, others, kind) => locks.map((lock) =>
+        element("span", { class: `${lockClass(lock)} ${others.has(lockText(lock)) ? "" : kind}` }, lockParts(lock)));
       const program = now.sections[number] ? now : old;
       return element("tr", {},
         element("th", { scope: "row" },

@@ -22,11 +22,9 @@ export function meeting(pair) {
   if (pair.meet === "exclude")
     return [element("code", {}, keyText(pair.key)), " ", term(pair.modes[0]), term(pair.modes[1])];
   if (pair.meet === "together") return [];
-  return [
-    "where ",
-    pair.paths.map(({ first, second },
-                     place) => [place ? " or " : "", element("code", {}, first), " is ", element("code", {}, second)])
-  ];
+  const place = ({ first, second }, number) =>
+    [number ? " or " : "", element("code", {}, first), " is ", element("code", {}, second)];
+  return ["where ", pair.paths.map(place)];
 }
 
 export class Conflicts extends View {

@@ -104,14 +104,14 @@ export class Graph extends View {
       this.page.remember();
       this.redraw();
     };
+    const option = (_, number) =>
+      element("option", { value: number, selected: number === this.section }, this.program.titleOf(number));
+    const chip = ({ steps: [{ lock }] }, number) => button(lockParts(lock), () => this.choose(number),
+      { class: lockClass(lock), "aria-pressed": String(this.lock === number) });
     return element("div", { class: "controls", "data-key": "controls" },
-      element("label", {}, "Graph of ",
-        element("select", { id: "section", onchange: choose },
-          sections.map((_, number) => element("option", { value: number, selected: number === this.section },
-                         this.program.titleOf(number))))),
+      element("label", {}, "Graph of ", element("select", { id: "section", onchange: choose }, sections.map(option))),
       element("div", { class: "chips", role: "group", "aria-label": "Draw the chain of a lock in" },
-        this.known.chains.map(({ steps }, number) => button(lockParts(steps[0].lock), () => this.choose(number),
-                                { class: lockClass(steps[0].lock), "aria-pressed": String(this.lock === number) }))));
+        this.known.chains.map(chip)));
   }
 
   zooms() {

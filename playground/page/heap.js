@@ -25,10 +25,9 @@ export class Heap {
   /** The address of a block of at least `size` bytes, or 0 where the memory can't grow. */
   take(size) {
     const whole = size + HEADER;
-    const power = whole <= 2 ** LEAST ? LEAST
-      : whole < 2 ** 31               ? 32 - Math.clz32(whole - 1)
-                                      : Math.ceil(Math.log2(whole));
-    return this.free[power].pop() ?? this.extend(power);
+    const power = whole < 2 ** 31 ? 32 - Math.clz32(whole - 1) : Math.ceil(Math.log2(whole));
+    const kept = Math.max(power, LEAST);
+    return this.free[kept].pop() ?? this.extend(kept);
   }
 
   extend(power) {

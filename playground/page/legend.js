@@ -7,7 +7,7 @@ const WORDS = {
     + "takes all its locks when it begins, and gives them back when it ends."],
   R: ["R · read", "`R a` lets the section read the object `a`. Other threads may read it too, and none may write it."],
   W: ["W · write", "`W a` lets the section read and write the object `a`. Nobody else may touch it meanwhile."],
-  M: ["M · make", "`M class 1` lets the section make objects of class 1 with `new`. Several threads may do so at once."],
+  M: ["M · make", "`M class 1` lets the section make objects of class 1 with `new`, as several threads may."],
   class: ["class", "Objects that the compiler can't tell apart, since one local or one field may refer to any of them. "
     + "A lock on a class is taken where a path to an object would be too long."],
   all: ["all", "`W all`, the lock of a section that is marked `all`, keeps out every other section with locks."],

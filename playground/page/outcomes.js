@@ -16,6 +16,10 @@ const SHOWN = 100;
 /** A longer text isn't taken apart, in letters: it has more moments than can be listed. */
 const LONG = 20_000;
 
+function whichWay(count) {
+  return `Whatever the interleaving, every run comes to ${count === 1 ? "this" : "one of these"}.`;
+}
+
 export class Outcomes extends View {
   constructor(page) {
     super(page, "Outcomes", "outcomes");
@@ -90,9 +94,7 @@ export class Outcomes extends View {
     const apart = this.apart?.document?.outcomes ?? [];
     const difference = differences([...outcomes, ...apart], this.names);
     this.draw(element("h2", { id: "count" }, `${counted(outcomes.length, "outcome")} of ${counted(states, "state")}`),
-      element("p", { class: "lead" },
-        outcomes.length === 1 ? "Whatever the interleaving, every run comes to this."
-                              : "Whatever the interleaving, every run comes to one of these."),
+      element("p", { class: "lead" }, whichWay(outcomes.length)),
       this.question(outcomes, difference.columns),
       element("div", { class: "beside" },
         element("section", { "aria-label": "With its sections" }, element("h3", {}, "With its sections"),
@@ -149,9 +151,9 @@ export class Outcomes extends View {
     if (typeof test === "string") return element("span", { class: "trouble" }, prose(test));
     const holds = outcomes.filter(test);
     if (!holds.length) return element("strong", { class: "no" }, "No, in no outcome.");
-    const word = holds.length === outcomes.length
-      ? `Yes, always: in ${outcomes.length === 1 ? "the one outcome" : `all ${outcomes.length}`}.`
-                                                                     : `Yes, in ${holds.length} of ${outcomes.length}.`;
+    const all = outcomes.length === 1 ? "the one outcome" : `all ${outcomes.length}`;
+    const some = `${holds.length} of ${outcomes.length}`;
+    const word = holds.length === outcomes.length ? `Yes, always: in ${all}.` : `Yes, in ${some}.`;
     return [
       element("strong", { class: "yes" }, word),
       button("show how", () => this.page.replay(holds[0].order, FUEL), { class: "witness" })
@@ -172,8 +174,7 @@ export class Outcomes extends View {
         isOld ? element("td", {}, isNew ? "never" : "yes") : null,
         element("td", {}, this.orderSigns(outcome.order)), element("td", {}, this.replayButton(outcome, isOld)));
     });
-    const heads =
-      [...columns, ...(isOld ? ["with sections"] : []), isOld ? "order of statements" : "order of sections", ""];
+    const heads = [...columns, ...(isOld ? ["with sections"] : []), "order", ""];
     const more = order.length - shown.length;
     return element("div", {
       class: "scroll",

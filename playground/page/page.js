@@ -119,10 +119,10 @@ export class Page {
   /** The locks behind a section's `atomic`. */
   inlay(section, locks) {
     const choose = (lock) => this.openView("locks").then(() => this.views[0].choose(section, lock));
-    const chips = locks.length ? locks.map((lock, number) => button(lockParts(lock), () => choose(number),
-                                             { class: lockClass(lock), title: "why?", tabindex: -1 }))
-                               : element("span", { class: "quiet" }, "no lock");
-    return element("span", { class: "inlay" }, chips);
+    const chip = (lock, number) =>
+      button(lockParts(lock), () => choose(number), { class: lockClass(lock), title: "why?", tabindex: -1 });
+    const chips = locks.map(chip);
+    return element("span", { class: "inlay" }, chips.length ? chips : element("span", { class: "quiet" }, "no lock"));
   }
 
   /** Lights pieces of the text up, and brings the first into sight. */

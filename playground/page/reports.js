@@ -43,14 +43,13 @@ export function marksOf(reports) {
 
 function item(report, page) {
   const { severity, message, span, labels } = report;
-  const jump = span && button(`${span.start.line}:${span.start.column}`, () => page.editor.select(span),
+  const jumpTo = (place) => button(`${place.start.line}:${place.start.column}`, () => page.editor.select(place),
     { class: "place", title: "go there" });
   const remedies = remediesOf(report, page).map(([label, deed]) => button(label, deed, { class: "remedy" }));
-  const elsewhere = labels.filter((label) => label.span && label.span.start.offset !== span?.start.offset)
-                      .map((label) => button(`${label.span.start.line}:${label.span.start.column}`,
-                             () => page.editor.select(label.span), { class: "place" }));
+  const elsewhere = labels.map((label) => label.span).filter((it) => it && it.start.offset !== span?.start.offset);
   return element("li", { class: severity },
-    element("span", { class: "severity" }, severity === "error" ? "error" : "warning"), jump, elsewhere,
+    element("span", { class: "severity" }, severity === "error" ? "error" : "warning"),
+    span ? jumpTo(span) : null, elsewhere.map(jumpTo),
     element("strong", {}, message),
     detailsOf(report).map((text) => element("p", {}, prose(text))), remedies);
 }
@@ -59,9 +58,7 @@ const MOST = 50;
 
 /** The list of all that is told. */
 export function reportList(reports, page) {
-  if (!reports.length)
-    return element(
-      "p", { class: "quiet", "data-key": "none" }, "No mistake, and nothing that is worth a second look.");
+  if (!reports.length) return element("p", { class: "quiet" }, "No mistake, and nothing that is worth a second look.");
   const more = reports.length > MOST ? element("li", { class: "quiet" }, `and ${reports.length - MOST} more`) : null;
   return element("ul", { class: "reports" }, reports.slice(0, MOST).map((report) => item(report, page)), more);
 }

@@ -207,29 +207,34 @@ export class Schedule extends View {
   card(thread, number) {
     const { name, standing, text, waits, held, locals, isInside } = thread;
     const isTurn = this.turns.moment.turn === number;
-    const state = standing !== "running" ? ENDS[standing]
-      : waits                            ? "waits"
-      : isInside                         ? "in its section"
-                                         : "between sections";
-    return element("article", {
-      class: `card thread-card ${threadColour(number)}${isTurn ? " turn" : ""}${waits ? " waits" : ""}`,
-      "data-key": `card-${number}`
-    },
-      element("header", {}, threadSign(name, number), element("span", { class: "state" }, state)),
-      text ? element("p", { class: "next" }, "next: ", element("code", {}, text)) : null,
-      waits ? this.wait(waits) : null,
-      locals.length ? element("dl", { class: "locals" },
-        locals.map(({ name: local, value, hasChanged }) => element("div", { class: hasChanged ? "changed" : "" },
-                     element("dt", {}, local), element("dd", {}, value === null ? "null" : String(value)))))
-                    : null,
-      held.size ? element("p", { class: "held" }, "holds ",
-        [...held].map(([key, how]) => element("span", { class: "key" }, mode(how), key)))
-                : null);
+    const running = waits ? "waits" : isInside ? "in its section" : "between sections";
+    const kinds = ["card", "thread-card", threadColour(number), isTurn ? "turn" : "", waits ? "waits" : ""];
+    const next = text.replace(/^section/, "enter section");
+    return element("article", { class: kinds.join(" "), "data-key": `card-${number}` },
+      element("header", {}, threadSign(name, number),
+        element("span", { class: "state" }, standing === "running" ? running : ENDS[standing])),
+      text ? element("p", { class: "next" }, "next: ", element("code", {}, next)) : null,
+      waits ? this.wait(waits) : null, locals.length ? this.locals(locals) : null,
+      held.size ? this.held([...held]) : null);
+  }
+
+  held(held) {
+    return element("p", { class: "held" }, "holds ", held.map(([key, how]) => this.heldKey(key, how)));
+  }
+
+  locals(locals) {
+    return element("dl", { class: "locals" }, locals.map(({ name, value, hasChanged }) =>
+      element("div", { class: hasChanged ? "changed" : "" }, element("dt", {}, name),
+        element("dd", {}, value === null ? "null" : String(value)))));
+  }
+
+  heldKey(key, how) {
+    return element("span", { class: "key" }, mode(how), key);
   }
 
   wait({ key, mode: wanted, holders, behind }) {
     const sign = (name) => threadSign(name, this.program.threads.findIndex((thread) => thread.name === name));
-    return element("p", { class: "wait" }, "waits for ", element("span", { class: "key" }, mode(wanted), key),
+    return element("p", { class: "wait" }, "waits for ", this.heldKey(key, wanted),
       holders.map(({ name, mode: held }) => [sign(name), " holds ", mode(held)]),
       behind.map((name) => ["behind ", sign(name)]));
   }

@@ -38,14 +38,15 @@ function box(object) {
 /** An arrow from the row of a field to the object that stands in it. */
 function arrow(from, number, to, points) {
   const start = { x: from.x + from.width, y: from.y + (number + 1) * ROW + 13 };
-  const line = from === to
-    ? `M${start.x} ${start.y} C${start.x + 44} ${start.y}, ${start.x + 44} ${from.y + 8}, ${start.x + 2} ${from.y + 12}`
-    : to.x > from.x ? lineThrough([start, ...points.slice(1, -1), { x: to.x, y: to.y + 12 }])
-                    : lineThrough([
-                        start, { x: start.x + 18, y: start.y }, ...points.slice(1, -1),
-                        { x: to.x + to.width / 2, y: to.y + to.height }
-                      ]);
-  return drawn("path", { class: "edge", d: line, "marker-end": "url(#store-tip)" });
+  const draw = (line) => drawn("path", { class: "edge", d: line, "marker-end": "url(#store-tip)" });
+  const inner = points.slice(1, -1);
+  if (from === to) {
+    const aside = start.x + 44;
+    return draw(`M${start.x} ${start.y} C${aside} ${start.y}, ${aside} ${from.y + 8}, ${start.x + 2} ${from.y + 12}`);
+  }
+  if (to.x > from.x) return draw(lineThrough([start, ...inner, { x: to.x, y: to.y + 12 }]));
+  const end = { x: to.x + to.width / 2, y: to.y + to.height };
+  return draw(lineThrough([start, { x: start.x + 18, y: start.y }, ...inner, end]));
 }
 
 /** Objects without references stand in rows below the others. */

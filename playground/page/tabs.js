@@ -1,19 +1,14 @@
 // The tabs above the views: one is chosen, and arrows go from one to the next.
-import { element } from "./view.js";
+import { button } from "./view.js";
 
 export class Tabs {
   /** `open` is called with the view whose tab is chosen. */
   constructor(list, panels, views, open) {
     this.views = views;
-    this.tabs = views.map((view) => element("button", {
-      type: "button",
-      role: "tab",
-      id: `tab-${view.key}`,
-      "aria-controls": `panel-${view.key}`,
-      onclick: () => open(view),
+    this.tabs = views.map((view) => button(view.name, () => open(view), {
+      role: "tab", id: `tab-${view.key}`, "aria-controls": `panel-${view.key}`,
       onkeydown: (event) => this.key(event, open),
-    },
-                            view.name));
+    }));
     list.append(...this.tabs);
     panels.append(...views.map(({ panel }) => panel));
     this.choose(views[0]);

@@ -29,13 +29,8 @@ export function timeline({ moments, at }, program, look) {
   if (!shown.length) return element("p", { class: "quiet", "data-key": "timeline" }, "None.");
   const rows = shown.map((moment, place) => {
     const number = first + place;
-    return element("tr", {
-      class: number === at ? "now"
-        : number > at       ? "later"
-                            : "",
-      "data-key": `turn-${number}`,
-      ...(number === at ? { "aria-current": "step" } : {})
-    },
+    const when = number === at ? { class: "now", "aria-current": "step" } : { class: number > at ? "later" : "" };
+    return element("tr", { "data-key": `turn-${number}`, ...when },
       element("th", { scope: "row" },
         button(String(number - 1), () => look(number), { title: `look at the moment behind turn ${number - 1}` })),
       program.threads.map((_, thread) => cellOf(moment, thread)));

@@ -31,12 +31,6 @@ export function keyText(key) {
   return subject(key);
 }
 
-/** By which key or where two sections exclude each other; nothing where they go together. */
-export function meetingText({ meet, key, modes, paths }) {
-  if (meet === "exclude") return `${keyText(key)} ${modes.join(", ")}`;
-  return meet === "where" ? paths.map(({ first, second }) => `${first} is ${second}`).join(", or ") : "";
-}
-
 /** How a thread has ended, in words. */
 export const ENDS = {
   done: "done", running: "still running", null: "stopped at null", overflow: "stopped by overflow", fuel: "out of fuel",

@@ -12,7 +12,7 @@ const SHORT = { exclude: "✕", where: "◐", together: "○" };
 const WIDE = 10;
 
 /** How many pairs go together, sometimes or always, of all. */
-export function freedom(pairs) {
+function freedom(pairs) {
   const count = (meet) => pairs.filter((pair) => pair.meet === meet).length;
   return { together: count("together"), where: count("where"), all: pairs.length };
 }

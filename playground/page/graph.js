@@ -13,7 +13,7 @@ const MANY = 400;
 const ZOOMS = [0.25, 0.35, 0.5, 0.7, 0.85, 1, 1.2, 1.5, 2, 3];
 
 /** The nodes of a graph in boxes: each begins where control comes together or parts. */
-export function boxesOf(nodes) {
+function boxesOf(nodes) {
   const before = nodes.map(() => []);
   nodes.forEach(({ next }, node) => next.forEach((to) => before[to].push(node)));
   const goesOn = (node) => before[node].length === 1 && nodes[before[node][0]].next.length === 1

@@ -6,7 +6,7 @@ function valueText(value) {
 }
 
 /** What an outcome is, by the names of its parts. */
-export function partsOf({ threads, output, objects }, names) {
+function partsOf({ threads, output, objects }, names) {
   const parts = new Map();
   for (const { name, fields } of objects)
     for (const field of fields) parts.set(`${name}.${field.name}`, valueText(field.value));

@@ -26,7 +26,7 @@ def only_its_own_files_are_fetched(page):
     assert others == [], others
     policy = page.run("return document.querySelector('meta[http-equiv=Content-Security-Policy]').content")
     assert "default-src 'none'" in policy, policy
-    assert not any(word in policy for word in ("unsafe-inline", "http", "*")), policy
+    assert not any(word in policy for word in ("unsafe-inline", "http", "data:", "*")), policy
     page.run(
         "const it = new Image(); const done = new Promise((end) => { it.onerror = end; });"
         "it.src = given[0]; document.body.append(it); await done",

@@ -15,8 +15,11 @@ function hang(editor, line, node) {
 }
 
 export class Editor {
-  /** `changed` is called after each change of the text, `stops` after each change of the lines to stop at. */
-  constructor(place, { changed, stops }) {
+  /**
+   * `changed` is called after each change of the text, `stops` after each change of the lines to stop at, and `moved`
+   * with the place of the cursor after each move.
+   */
+  constructor(place, { changed, stops, moved }) {
     const { CodeMirror } = globalThis;
     defineLanguage(CodeMirror);
     this.layers = new Map();
@@ -42,6 +45,7 @@ export class Editor {
     });
     this.code.on("renderLine", hang);
     this.code.on("change", () => changed());
+    this.code.on("cursorActivity", () => moved(this.cursor));
     this.code.on("gutterClick", (_editor, line) => {
       this.toggleStop(line);
       stops();
@@ -59,6 +63,12 @@ export class Editor {
     };
     editor.on("blur", back);
     editor.on("change", back);
+  }
+
+  /** Where the cursor is, with line and column from 1. */
+  get cursor() {
+    const { line, ch } = this.code.getCursor();
+    return { line: line + 1, column: ch + 1 };
   }
 
   get text() {

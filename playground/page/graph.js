@@ -149,14 +149,19 @@ export class Graph extends View {
     const { text, needs } = this.known.nodes[node];
     const light = () => this.page.light(this.program.spansOf(this.section, [node]));
     const called = chain && element("span", { class: "called" }, chain.join(" ← "));
-    return element("button", {
-      type: "button",
-      class: `step${chain ? " lit" : ""}`,
-      onclick: light,
-      title: `from here on: ${setText(needs)}`
-    },
-      element("span", { class: "text" }, text),
-      called ?? element("span", { class: "needs" }, needs.length ? setSigns(needs) : null));
+    return button([element("span", { class: "text" }, text),
+      called ?? element("span", { class: "needs" }, needs.length ? setSigns(needs) : null)], light, {
+      class: `step${chain ? " lit" : ""}`, title: `from here on: ${setText(needs)}`, "data-node": node,
+      ...this.page.pointing(() => this.program.spansOf(this.section, [node])),
+    });
+  }
+
+  /** Marks the steps of the statement at a place of the text. */
+  pointAt({ line, column }) {
+    const isAt = ({ start, end }) => (start.line < line || (start.line === line && start.column <= column))
+      && (line < end.line || (line === end.line && column <= end.column));
+    this.panel.querySelectorAll(".step").forEach((step) => step.classList.toggle("here",
+      this.program.spansOf(this.section, [step.dataset.node]).some(isAt)));
   }
 
   /** Puts the boxes where dagre wants them, and draws the lines between them. */

@@ -128,7 +128,9 @@ export class Locks extends View {
     const { node, text, lock } = steps[number];
     const reason = steps[number + 1] && reasonOf(lock, text, steps[number + 1].lock);
     return element("li", { class: number === steps.length - 1 ? "needs" : "" },
-      button(text, () => this.page.light(this.program.spansOf(section, [node])), { class: "step" }), lockSign(lock),
+      button(text, () => this.page.light(this.program.spansOf(section, [node])), {
+        class: "step", ...this.page.pointing(() => this.program.spansOf(section, [node])),
+      }), lockSign(lock),
       reason ? element("p", { class: "reason" }, prose(reason)) : null);
   }
 }

@@ -33,7 +33,9 @@ export class Page {
     this.examples = examples;
     this.sectc = sectc;
     sectc.changed = () => this.showWork();
-    this.editor = new Editor(byId("code"), { changed: () => this.changed(), stops: () => this.remember() });
+    this.editor = new Editor(byId("code"), {
+      changed: () => this.changed(), stops: () => this.remember(), moved: (place) => this.moved(place),
+    });
     this.views = [Locks, Graph, Conflicts, Schedule, Outcomes, Compare].map((View) => new View(this));
     this.tabs = new Tabs(byId("tabs"), byId("panels"), this.views, (view) => this.openView(view.key));
     this.tour = new Tour(this, byId("tour"));
@@ -131,10 +133,21 @@ export class Page {
     if (spans.length) this.editor.reveal(spans[0]);
   }
 
+  /** Listeners that mark pieces of the text while the pointer is at what they belong to. */
+  pointing(spans) {
+    const mark = (pieces) => this.editor.show("pointed", pieces.map((span) => ({ span, name: "pointed" })));
+    return { onpointerenter: () => mark(spans()), onpointerleave: () => mark([]) };
+  }
+
   /** Lights up where threads are; `shown` is brought into sight. */
   lightThreads(pieces, shown) {
     this.editor.show("threads", pieces);
     if (shown) this.editor.reveal(shown);
+  }
+
+  /** The cursor has moved: the view may mark what belongs to its place. */
+  moved(place) {
+    if (this.program?.version === this.version && !this.program.isRefused) this.view.pointAt(place);
   }
 
   toFirstReport() {

@@ -1,7 +1,7 @@
 // A run turn by turn: what each thread does, knows and holds, who waits for whom, and the store.
 import { ENDS, counted } from "./answers.js";
 import { term } from "./legend.js";
-import { mode, threadColour, threadSign } from "./signs.js";
+import { keySign, mode, threadColour, threadSign } from "./signs.js";
 import { storePicture } from "./store.js";
 import { View } from "./tab.js";
 import { timeline } from "./timeline.js";
@@ -219,7 +219,7 @@ export class Schedule extends View {
   }
 
   held(held) {
-    return element("p", { class: "held" }, "holds ", held.map(([key, how]) => this.heldKey(key, how)));
+    return element("p", { class: "held" }, "holds ", held.map(([key, how]) => keySign(key, how)));
   }
 
   locals(locals) {
@@ -228,13 +228,9 @@ export class Schedule extends View {
         element("dd", {}, value === null ? "null" : String(value)))));
   }
 
-  heldKey(key, how) {
-    return element("span", { class: "key" }, mode(how), key);
-  }
-
   wait({ key, mode: wanted, holders, behind }) {
     const sign = (name) => threadSign(name, this.program.threads.findIndex((thread) => thread.name === name));
-    return element("p", { class: "wait" }, "waits for ", this.heldKey(key, wanted),
+    return element("p", { class: "wait" }, "waits for ", keySign(key, wanted),
       holders.map(({ name, mode: held }) => [sign(name), " holds ", mode(held)]),
       behind.map((name) => ["behind ", sign(name)]));
   }

@@ -31,6 +31,12 @@ export function mode(name) {
   return element("span", { class: "mode" }, shape(name), name);
 }
 
+/** A key and the mode in which it is held or wanted, with the border that a lock on it would have. */
+export function keySign(key, how) {
+  const kind = key === "all" ? "all" : key.startsWith("class ") ? "class" : "object";
+  return element("span", { class: `key of-${kind}` }, mode(how), key);
+}
+
 /** The class that has a thread's colour. */
 export function threadColour(thread) {
   return `thread-${thread % COLOURS}`;

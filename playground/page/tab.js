@@ -18,6 +18,9 @@ export class View {
   /** The text has changed. What hangs on the old one is of no use. */
   forget() {}
 
+  /** The cursor has come to a place of the text, with line and column from 1. */
+  pointAt() {}
+
   /** Another program is opened. What was chosen in the old one isn't kept. */
   anew() {}
 

@@ -1,5 +1,6 @@
 // The turns of a run as a table: a row for each turn, a column for each thread.
-import { mode, threadColour, threadSign } from "./signs.js";
+import { keyText } from "./answers.js";
+import { keySign, threadColour, threadSign } from "./signs.js";
 import { button, element } from "./view.js";
 
 const BEFORE = 60;
@@ -9,8 +10,7 @@ function happening(moment, thread, cell) {
   const own = moment.events.find((event) => event.thread === thread);
   if (!own) return cell;
   const done = moment.turn === thread ? moment.done[0]?.text : null;
-  if (own.deed === "take")
-    return ["takes ", mode(own.mode), " ", element("code", {}, cell.replace(/^take /, "").replace(/ \w+$/, ""))];
+  if (own.deed === "take") return ["takes ", keySign(keyText(own.key), own.mode)];
   return done ? [element("code", {}, done), cell.replace(/^(act|local)/, "")] : cell;
 }
 

@@ -75,8 +75,8 @@ class Browser:
             actions = [{"type": "keyDown", "value": KEYS[held]}, *actions, {"type": "keyUp", "value": KEYS[held]}]
         self.command("actions", {"actions": [{"type": "key", "id": "keyboard", "actions": actions}]})
 
-    def click(self, selector, text=None):
-        """Clicks on the middle of an element, as a mouse does."""
+    def middle(self, selector, text):
+        """The middle of an element, which is brought into sight."""
         place = self.run(
             """
             const found = [...document.querySelectorAll(given[0])];
@@ -89,20 +89,22 @@ class Browser:
             text,
         )
         if place is None:
-            raise AssertionError(f"nothing to click: {selector} {text or ''}")
-        move = {"type": "pointerMove", "duration": 0, "x": place[0], "y": place[1], "origin": "viewport"}
-        self.command(
-            "actions",
-            {
-                "actions": [
-                    {
-                        "type": "pointer",
-                        "id": "mouse",
-                        "actions": [move, {"type": "pointerDown", "button": 0}, {"type": "pointerUp", "button": 0}],
-                    }
-                ]
-            },
-        )
+            raise AssertionError(f"nothing there: {selector} {text or ''}")
+        return place
+
+    def pointer(self, selector, text, *presses):
+        x, y = self.middle(selector, text)
+        move = {"type": "pointerMove", "duration": 0, "x": x, "y": y, "origin": "viewport"}
+        deeds = [move, *({"type": press, "button": 0} for press in presses)]
+        self.command("actions", {"actions": [{"type": "pointer", "id": "mouse", "actions": deeds}]})
+
+    def hover(self, selector, text=None):
+        """Moves a mouse to the middle of an element."""
+        self.pointer(selector, text)
+
+    def click(self, selector, text=None):
+        """Clicks on the middle of an element, as a mouse does."""
+        self.pointer(selector, text, "pointerDown", "pointerUp")
 
 
 class Chromium(Browser):

@@ -83,11 +83,14 @@ def axe_finds_nothing(page):
     if found.returncode:
         sys.exit("axe-core isn't among the resources of this Chromium")
     library = f"window.axe || (() => {{ {found.stdout.decode()}\n }})()"
-    for view in VIEWS:
-        prepared(page, view)
-        page.browser.devtools("Runtime.evaluate", expression=library)
-        bad = page.probe("violations")
-        assert bad == [], (view, bad)
+    page.browser.devtools("Runtime.evaluate", expression=library)
+    for scheme in ("light", "dark"):
+        page.browser.media(prefers_color_scheme=scheme)
+        for view in VIEWS:
+            prepared(page, view)
+            bad = page.probe("violations")
+            assert bad == [], (scheme, view, bad)
+    page.browser.media()
 
 
 def branching(count):
@@ -120,6 +123,14 @@ def the_chain_is_drawn_in(page):
     assert page.texts(".block .called")[1] == "R p.next.next ← R p.next ← R p", page.texts(".block .called")
 
 
+def text_and_graph_point_at_each_other(page):
+    page.example("linked_list", "graph")
+    page.browser.hover(".block .step:nth-child(1)", "p = head.nextR class 1R head")
+    assert "".join(page.texts("#code .pointed")).replace(" ", "") == "p=head.next", page.texts("#code .pointed")
+    page.run("page.editor.code.setCursor({ line: 6, ch: 6 })")
+    assert page.texts(".block .step.here .text") == ["print s"], page.texts(".block .step.here")
+
+
 def many_sections_have_a_matrix(page):
     page.write(wide(8, 4))
     page.view("pairs")
@@ -143,6 +154,7 @@ TESTS = [
     axe_finds_nothing,
     a_graph_is_readable,
     the_chain_is_drawn_in,
+    text_and_graph_point_at_each_other,
     many_sections_have_a_matrix,
     long_code_is_drawn_in_part,
 ]

@@ -10,8 +10,8 @@ count n = number (unsigned n)
 abbrev pub list : List Data → Data
 list values = array (items_of values)
 
--- a place: lines and columns are counted from 0. A token stands behind ASCII alone on its line, so that bytes and units
--- of UTF-16 are the same there
+-- a place: lines are counted from 0, and columns in bytes. A token stands behind ASCII alone on its line, so that bytes
+-- and units of UTF-16 are the same there; the end of a text that ends early may stand in a comment, where they aren't
 abbrev pub place_json : List ℕ → ℕ → Data
 place_json source at =
     object (member (codes "character") (count (column_of source at - 1)) (member (codes "line")

@@ -1,7 +1,7 @@
 //! The tables of lock modes, pair by pair.
 
 use Mode::{Exclusive, IntentionExclusive, IntentionShared, Shared, SharedIntentionExclusive};
-use sect_modes::{Mode, at_least, compatible, intention, join};
+use sect_modes::{Mode, admits, at_least, compatible, intention, join, unit};
 use std::process::Abort;
 
 /// All modes, in the order of the tables.
@@ -32,6 +32,33 @@ fn all_pairs_of_modes(rt: HostRuntime) {
     for (left, row) in MODES.iter().zip(sharing.iter()) {
         is_compatible(&rt, *left, row);
     }
+}
+
+/// The word of a key that is held so, and for which somebody waits, admits the modes that the row tells.
+fn admits_beside(rt: &impl Abort, held: Mode, row: &[bool]) {
+    let word = unit(held) | 1 << 60;
+    for (wanted, want) in MODES.iter().zip(row.iter()) {
+        assert_eq!(rt; admits(word, *wanted), *want, "{wanted:?} beside {held:?}");
+    }
+}
+
+#[test]
+fn words_of_holders(rt: HostRuntime) {
+    let admitted = [
+        [true, true, true, true, false],
+        [true, true, false, false, false],
+        [true, false, true, false, false],
+        [true, false, false, false, false],
+        [false, false, false, false, false],
+    ];
+    for (held, row) in MODES.iter().zip(admitted.iter()) {
+        admits_beside(&rt, *held, row);
+    }
+    // of 63 who hold it in IS, and one in IX, no SIX is admitted and one more IX is
+    let word = 63 + 4096;
+    assert!(rt; admits(word, IntentionExclusive));
+    assert!(rt; !admits(word, SharedIntentionExclusive));
+    assert!(rt; admits(0, Exclusive));
 }
 
 /// The mode is at least as strong as those that the row tells.

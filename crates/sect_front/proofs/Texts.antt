@@ -1,25 +1,19 @@
 -- How far a text has been read, and what its end or a fault says of it.
-use Rattle.std.proofs.Common.{◌≡◌, ℕ, suc, ◌+◌, ◌-◌, ◌<◌, ◌≤◌, List, [], ◌∷◌, ◌++◌, Option, Some, None, length, take}
-use Rattle.std.proofs.Common.{drop, refl, sym, ◌∙◌, ap, subst, arith, append_assoc, append-nil, length-drop}
+use Rattle.std.proofs.Common.{◌≡◌, ℕ, suc, ◌+◌, ◌-◌, ◌<◌, ◌≤◌, false, true, List, [], ◌∷◌, ◌++◌, Some, length, take, drop}
+use Rattle.std.proofs.Common.{refl, sym, ◌∙◌, ap, subst, arith, append_assoc, append-nil, length-drop}
 use Rattle.std.proofs.lemmas.List.{length-take-le}
-use Rattle.std.specs.{List.{slice_get}, Option.{ok_or}, Prelude.{option_and_then}}
-use Rattle.sect_front.specs.{TreeView.{TreeView}, TokenAt.{TokenAt}, Braces.{brace}, Gaps.{after_gap}, Lexing.{Spells}}
+use Rattle.std.specs.List.{slice_get}
+use Rattle.sect_front.specs.{TreeView.{TreeView}, TokenAt.{TokenAt}, Braces.{brace, open_after}, Gaps.{after_gap}}
+use Rattle.sect_front.specs.{Lexing.{Spells}, Limits.{most_depth}, Tokens.{source_tokens}}
 use Rattle.sect_front.specs.{Spelling.{spelling_of}, FaultPlaces.{span_from, token_span}}
-use Rattle.sect_front.specs.{Faults.{tokens_in, IsUnexpectedAt, IsTooDeepAt}, declared.token.Token.{Token}}
-use Rattle.sect_front.specs.steps.{Lexeme.{lexeme_of}, ReaderView.{ReaderView}, Read.{read_one, after, finish_of}}
-use Rattle.sect_front.specs.steps.Standing.{AreStanding, AreCalm, IsPassed}
-use Rattle.sect_front.specs.steps.Verdicts.{Reached, SpellingAt, JudgesText}
-use Rattle.sect_front.proofs.{Reach.{reached_more}, Lexemes.{lexeme_first}}
-use Rattle.sect_front.proofs.Verdict.{ReadsTo, reads_more, unexpected, too_deep, finished, unfinished}
+use Rattle.sect_front.specs.{Faults.{tokens_in, IsUnexpectedAt, IsTooDeepAt, IsUnfinished}, declared.token.Token.{Token}}
+use Rattle.sect_front.specs.{Faults.{IsTree}, declared.expected.Expected.{Expected}}
+use Rattle.sect_front.specs.steps.{Lexeme.{lexeme_of}, Places.{takes, after}, Verdicts.{Reached, Spelling, SpellingAt}}
+use Rattle.sect_front.specs.steps.Passing.{CursorView, Passes, ArePassed, text_start}
+use Rattle.sect_front.proofs.{Reach.{reached_none, reached_more, lexed}, Lexemes.{lexeme_first}}
+use Rattle.sect_front.proofs.Verdict.{start, unexpected, too_deep, unfinished, is_tree}
+use Rattle.sect_front.proofs.Peaks.{peak, peak_from, peak_append, peak_cons}
 use Rattle.sect_front.proofs.shared.Lexings.{gap_fits}
-use Rattle.sect_lemmas.proofs.Options.{some_injective, none_or_some}
-use Rattle.sect_front.specs.declared.reading.ReadFault.TheVariants as fault
-
--- so far the text has been read
-pub record ReadHere (bytes here : List ℕ) (r : ReaderView) (k : ℕ) : Type 0 where
-  pub places : List TokenAt
-  pub reached : Reached bytes places here
-  pub reads : ReadsTo (tokens_in places) r k
 
 -- the token at the front of what is left of a text
 abbrev pub token_here : List ℕ → List ℕ → Token → TokenAt
@@ -76,57 +70,63 @@ tokens_push : (ps : List TokenAt) (p : TokenAt) → tokens_in (ps ++ p ∷ []) �
 tokens_push [] p = refl
 tokens_push (q ∷ ps) p = ap (λ w. q.token ∷ w) (tokens_push ps p)
 
--- the token at the front has been read too
-pub passed : (bytes here : List ℕ) (r : ReaderView) (k : ℕ) (t : Token) (n : ℕ) (h : ReadHere bytes here r k)
-    → lexeme_of here ≡ Some (t, n) → Reached bytes (h.places ++ token_here bytes here t ∷ []) (after_gap (drop n here))
-passed bytes here r k t n h e =
-    reached_more bytes h.places here (token_here bytes here t) n h.reached (omega (arith, h.reached.fits)) e
+-- these tokens of the text have been read
+pub record ReadTo (bytes : List ℕ) (here : CursorView) (front : List Token) : Type 0 where
+  pub places : List TokenAt
+  pub reached : Reached bytes places here.here
+  pub same : tokens_in places ≡ front
+  pub level : here.braces ≡ open_after 0 front
+  pub low : here.braces ≤ most_depth
+  pub shallow : peak 0 front ≤ 32
 
--- one more token has been taken
-pub reads_on : (bytes here : List ℕ) (r m : ReaderView) (k : ℕ) (t : Token) (n : ℕ) → ReadHere bytes here r k
-    → lexeme_of here ≡ Some (t, n) → read_one r t ≡ Some m → brace k t ≤ 32
-    → ReadHere bytes (after_gap (drop n here)) m (brace k t)
-reads_on bytes here r m k t n h e some low =
-    record {
-      places = h.places ++ token_here bytes here t ∷ [];
-      reached = passed bytes here r k t n h e;
-      reads = subst (λ w. ReadsTo w m (brace k t)) (sym (tokens_push h.places (token_here bytes here t)))
-          (reads_more (tokens_in h.places) r m k t h.reads some low);
-    }
+read_none : (bytes : List ℕ) → ReadTo bytes (text_start bytes) []
+read_none bytes = record {
+  places = [];
+  reached = reached_none bytes;
+  same = refl;
+  level = refl;
+  low = omega arith;
+  shallow = omega arith;
+}
 
--- what follows some tokens is shorter than what begins with them
-standing_shorter : (here there : List ℕ) (ts : List Token) → AreStanding here ts there → length there ≤ length here
-standing_shorter here there [] h = omega (arith, ap length h)
-standing_shorter here there (t ∷ ts) (rest, s, h) =
-    omega (arith, standing_shorter rest there ts h, ap length s.behind, shorter here t s.count s.lexed)
+open_append : (k : ℕ) (v : List Token) (t : Token) → open_after k (v ++ t ∷ []) ≡ brace (open_after k v) t
+open_append k [] t = refl
+open_append k (u ∷ v) t = open_append (brace k u) v t
 
-pub passed_shorter : (here there : List ℕ) (r m : ReaderView) → IsPassed here r there m → length there < length here
-passed_shorter here there r m (t, ts, (rest, s, h), calm, e) =
-    omega (arith, standing_shorter rest there ts h, ap length s.behind, shorter here t s.count s.lexed)
+read_more : (bytes : List ℕ) (here there : CursorView) (front : List Token) (t : Token) → ReadTo bytes here front
+    → Passes here t there → ReadTo bytes there (front ++ t ∷ [])
+read_more bytes here there front t h p = record {
+  places = h.places ++ token_here bytes here.here t ∷ [];
+  reached = subst (Reached bytes (h.places ++ token_here bytes here.here t ∷ [])) (sym p.stands.behind)
+      (reached_more bytes h.places here.here (token_here bytes here.here t) p.stands.count h.reached
+      (omega (arith, h.reached.fits)) p.stands.lexed);
+  same = tokens_push h.places (token_here bytes here.here t) ∙ ap (λ w. w ++ t ∷ []) h.same;
+  level = p.braces ∙ (ap (λ k. brace k t) h.level ∙ sym (open_append 0 front t));
+  low = p.low h.low;
+  shallow = omega (
+    arith,
+    h.shallow,
+    h.low,
+    p.low h.low,
+    peak_append 0 front (t ∷ []),
+    ap (λ j. peak j (t ∷ [])) (sym h.level),
+    peak_cons t here.braces [],
+    p.braces,
+  );
+}
 
--- some tokens that are no braces have been taken
-standing_reads : (bytes here there : List ℕ) (r m : ReaderView) (k : ℕ) (ts : List Token) → k ≤ 32
-    → ReadHere bytes here r k → AreStanding here ts there → AreCalm ts → after r ts ≡ Some m
-    → ReadHere bytes there m k
-standing_reads bytes here there r m k [] low h standing calm e =
-    rw (← standing, ← some_injective r m e) h
-standing_reads bytes here there r m k (t ∷ ts) low h (rest, s, standing) (calm, others) e =
-    go (λ next read all. standing_reads bytes rest there next m k ts low read standing others all) (read_one r t) refl e
-  where
-    go : ((next : ReaderView) → ReadHere bytes rest next k → after next ts ≡ Some m → ReadHere bytes there m k)
-        → (o : Option ReaderView) → read_one r t ≡ o → option_and_then (λ x. after x ts) o ≡ Some m
-        → ReadHere bytes there m k
-    go on None same all = absurd (none_or_some m all)
-    go on (Some next) same all =
-        on next
-        (subst (λ j. ReadHere bytes rest next j) (calm k)
-        (subst (λ x. ReadHere bytes x next (brace k t)) (sym s.behind)
-        (reads_on bytes here r next k t s.count h s.lexed same (omega (arith, calm k, low))))) all
+read_all : (bytes : List ℕ) (here there : CursorView) (front ts : List Token) → ReadTo bytes here front
+    → ArePassed here ts there → ReadTo bytes there (front ++ ts)
+read_all bytes here there front [] h k =
+    subst (λ w. ReadTo bytes there w) (sym (append-nil front)) (subst (λ c. ReadTo bytes c front) k h)
+read_all bytes here there front (t ∷ ts) h (next, p, k) =
+    subst (ReadTo bytes there) (append_assoc front (t ∷ []) ts)
+    (read_all bytes next there (front ++ t ∷ []) ts (read_more bytes here next front t h p) k)
 
-pub passed_reads : (bytes here there : List ℕ) (r m : ReaderView) (k : ℕ) → k ≤ 32 → ReadHere bytes here r k
-    → IsPassed here r there m → ReadHere bytes there m k
-passed_reads bytes here there r m k low h (t, ts, standing, calm, e) =
-    standing_reads bytes here there r m k (t ∷ ts) low h standing calm e
+-- what is passed from the text's start on has been read
+pub read_so : (bytes : List ℕ) (there : CursorView) (ts : List Token) → ArePassed (text_start bytes) ts there
+    → ReadTo bytes there ts
+read_so bytes there ts h = read_all bytes (text_start bytes) there [] ts (read_none bytes) h
 
 -- the token behind these has their number
 record Numbered (ps : List TokenAt) (p : TokenAt) (all : List TokenAt) : Type 0 where
@@ -145,12 +145,14 @@ numbered (q ∷ ps) p qs = let n = numbered ps p qs in record {
 }
 
 -- no tree goes on with this token
-pub unexpected_at : (bytes here : List ℕ) (r : ReaderView) (k : ℕ) (p : TokenAt) (h : ReadHere bytes here r k)
-    → read_one r p.token ≡ None → (token_span p).end ≤ length bytes → (behind : List TokenAt)
+pub unexpected_at : (bytes : List ℕ) (here : CursorView) (front : List Token) (e : Expected) (ps : List Expected)
+    (p : TokenAt) (h : ReadTo bytes here front) → after start front ≡ Some (e ∷ ps) → takes e p.token ≡ false
+    → (token_span p).end ≤ length bytes → (behind : List TokenAt)
     → Spells bytes ((h.places ++ p ∷ []) ++ behind) → SpellingAt bytes (token_span p) IsUnexpectedAt
-unexpected_at bytes here r k p h none within behind spells =
+unexpected_at bytes here front e ps p h leads none within behind spells =
     let all = (h.places ++ p ∷ []) ++ behind in
     let n = numbered h.places p behind in
+    let first : take (length h.places) (tokens_in all) ≡ front = n.front ∙ h.same in
     let next : suc (length h.places) ≡ length h.places + 1 = omega arith in
     record {
       places = all;
@@ -158,8 +160,8 @@ unexpected_at bytes here r k p h none within behind spells =
       index = length h.places;
       token = p;
       found = n.found;
-      is = unexpected (tokens_in all) (length h.places) r k p.token
-          (subst (λ w. ReadsTo w r k) (sym n.front) h.reads) n.within
+      is = unexpected (tokens_in all) (length h.places) e ps p.token
+          (ap (after start) first ∙ leads) (subst (λ w. peak 0 w ≤ 32) (sym first) h.shallow) n.within
           (subst (λ j. take j (tokens_in all) ≡ take (length h.places) (tokens_in all) ++ p.token ∷ []) next
           (n.more ∙ ap (λ w. w ++ p.token ∷ []) (sym n.front))) none;
       place = refl;
@@ -167,12 +169,14 @@ unexpected_at bytes here r k p h none within behind spells =
     }
 
 -- this token opens a brace too many
-pub too_deep_at : (bytes here : List ℕ) (r m : ReaderView) (k : ℕ) (p : TokenAt) (h : ReadHere bytes here r k)
-    → read_one r p.token ≡ Some m → brace k p.token ≡ 33 → (token_span p).end ≤ length bytes → (behind : List TokenAt)
+pub too_deep_at : (bytes : List ℕ) (here : CursorView) (front : List Token) (e : Expected) (ps : List Expected)
+    (p : TokenAt) (h : ReadTo bytes here front) → after start front ≡ Some (e ∷ ps) → takes e p.token ≡ true
+    → brace here.braces p.token ≡ 33 → (token_span p).end ≤ length bytes → (behind : List TokenAt)
     → Spells bytes ((h.places ++ p ∷ []) ++ behind) → SpellingAt bytes (token_span p) IsTooDeepAt
-too_deep_at bytes here r m k p h some deep within behind spells =
+too_deep_at bytes here front e ps p h leads some deep within behind spells =
     let all = (h.places ++ p ∷ []) ++ behind in
     let n = numbered h.places p behind in
+    let first : take (length h.places) (tokens_in all) ≡ front = n.front ∙ h.same in
     let next : suc (length h.places) ≡ length h.places + 1 = omega arith in
     record {
       places = all;
@@ -180,18 +184,31 @@ too_deep_at bytes here r m k p h some deep within behind spells =
       index = length h.places;
       token = p;
       found = n.found;
-      is = too_deep (tokens_in all) (length h.places) r m k p.token
-          (subst (λ w. ReadsTo w r k) (sym n.front) h.reads) n.within
+      is = too_deep (tokens_in all) (length h.places) e ps p.token
+          (ap (after start) first ∙ leads) (subst (λ w. peak 0 w ≤ 32) (sym first) h.shallow) n.within
           (subst (λ j. take j (tokens_in all) ≡ take (length h.places) (tokens_in all) ++ p.token ∷ []) next
-          (n.more ∙ ap (λ w. w ++ p.token ∷ []) (sym n.front))) some deep;
+          (n.more ∙ ap (λ w. w ++ p.token ∷ []) (sym n.front))) some
+          (ap (λ w. brace (open_after 0 w) p.token) first ∙ (ap (λ k. brace k p.token) (sym h.level) ∙ deep));
       place = refl;
       within = within;
     }
 
--- at the end of the text
-pub text_ends : (bytes : List ℕ) (ps : List TokenAt) (r : ReaderView) (k : ℕ) → Spells bytes ps
-    → ReadsTo (tokens_in ps) r k → (o : Option TreeView) → o ≡ finish_of r
-    → JudgesText bytes (ok_or o fault.Unfinished)
-text_ends bytes ps r k s h None e = record { places = ps; spells = s; is = unfinished (tokens_in ps) r k h (sym e) }
-text_ends bytes ps r k s h (Some tree) e =
-    record { places = ps; spells = s; is = finished (tokens_in ps) r k tree h (sym e) }
+-- the text ends where more would have to stand
+pub unfinished_at : (bytes : List ℕ) (here : CursorView) (front : List Token) (e d : Expected) (ps : List Expected)
+    → ReadTo bytes here front → after start front ≡ Some (e ∷ (ps ++ d ∷ [])) → here.here ≡ []
+    → Spelling bytes IsUnfinished
+unfinished_at bytes here front e d ps h leads none = record {
+  places = h.places;
+  spells = lexed bytes h.places here.here h.reached none;
+  is = unfinished (tokens_in h.places) e d ps (ap (after start) h.same ∙ leads)
+      (subst (λ w. peak 0 w ≤ 32) (sym h.same) h.shallow);
+}
+
+-- the text ends behind the tokens of a tree
+pub tree_at : (bytes : List ℕ) (here : CursorView) (tree : TreeView) → ReadTo bytes here (source_tokens tree [])
+    → here.here ≡ [] → Spelling bytes (λ list. IsTree list tree)
+tree_at bytes here tree h none = record {
+  places = h.places;
+  spells = lexed bytes h.places here.here h.reached none;
+  is = is_tree (tokens_in h.places) tree h.same (subst (λ w. peak 0 w ≤ 32) (sym h.same) h.shallow);
+}

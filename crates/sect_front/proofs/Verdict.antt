@@ -1,157 +1,117 @@
--- What the end of a reading says of its tokens.
-use Rattle.std.proofs.Common.{◌≡◌, ℕ, ◌+◌, ◌<◌, ◌≤◌, List, [], ◌∷◌, ◌++◌, Option, Some, None, Result, Ok, Err}
-use Rattle.std.proofs.Common.{option_and_then, length, take, drop, refl, sym, ◌∙◌, ap, subst, arith, append_assoc}
-use Rattle.std.proofs.{Common.{append-nil}, lemmas.List.{take-append-drop}}
+-- What the places that are left say of the tokens before them.
+use Rattle.std.proofs.Common.{◌≡◌, ◌≢◌, ℕ, ◌+◌, ◌<◌, ◌≤◌, Bool, true, false, List, [], ◌∷◌, ◌++◌, Option, Some, None}
+use Rattle.std.proofs.Common.{Result, Ok, Err, option_and_then, length, take, drop, refl, sym, ◌∙◌, ap, subst, arith}
+use Rattle.std.proofs.{Common.{append-nil, append_assoc, is_some}, lemmas.List.{take-append-drop}}
 use Rattle.sect_front.specs.{Limits.{most_depth}, TreeView.{TreeView}, Grammar.{tokens_of}, Tokens.{source_tokens}}
 use Rattle.sect_front.specs.Braces.{brace, open_after}
 use Rattle.sect_front.specs.Faults.{IsViable, IsTree, IsUnexpectedAt, IsTooDeepAt, IsUnfinished}
-use Rattle.sect_front.specs.{declared.token.Token.{Token}, declared.reader.Stage.{Stage}}
-use Rattle.sect_front.specs.steps.ReaderView.{ReaderView, reading, empty}
-use Rattle.sect_front.specs.steps.Read.{read_one, after, finish_of, finish_at}
-use Rattle.sect_front.proofs.{TokenFaults.{TokenFault, JudgesTokens}, Keeps.{reading_tokens}}
-use Rattle.sect_front.proofs.{Finish.{start, finishes, kept_from}, Passes.{source_passes, last_part}}
-use Rattle.sect_front.proofs.Peaks.{peak, peak_from, peak_append, peak_cons, depth_peak, shallow_from}
+use Rattle.sect_front.specs.{declared.token.Token.{Token}, declared.expected.Expected.{Expected}}
+use Rattle.sect_front.specs.steps.Places.{follows, takes, after}
+use Rattle.sect_front.proofs.{TokenFaults.{TokenFault, JudgesTokens}, Places.{ReadAll, read_behind, all_end}}
+use Rattle.sect_front.proofs.{Leading.{after_then, source_after}, OneTree.{one_tree}}
+use Rattle.sect_front.proofs.Peaks.{peak, peak_from, peak_append, depth_peak, shallow_from}
 use Rattle.sect_front.proofs.shared.Listed.{tokens_same}
 use Rattle.sect_lemmas.proofs.Options.{some_injective, none_or_some}
-use Rattle.sect_front.specs.declared.token.Token.TheVariants as token
-use Rattle.sect_front.specs.declared.reader.Outside.TheVariants as outside
-use Rattle.sect_front.specs.declared.reader.Stage.TheVariants as stage
+use Rattle.sect_front.specs.declared.expected.Expected.TheVariants as expected
 use Rattle.sect_front.proofs.TokenFaults as fault
 
--- the tokens of a tree lead to it
-tree_passes : (tree : TreeView) → after start (tokens_of tree) ≡ Some (reading tree (outside.Between (last_part tree)))
-tree_passes tree = ap (after start) (tokens_same tree) ∙ source_passes tree
+-- where a text begins
+abbrev pub start : List Expected
+start = expected.Records ∷ []
 
--- what is read from the start on is viable
-pub viable : (front : List Token) (r : ReaderView) → after start front ≡ Some r → IsViable front
-viable front r h = let e = finishes front r h in (e.0, e.1, tokens_same e.0 ∙ e.2)
+-- what leads from the start on is viable
+pub viable : (front : List Token) (ps : List Expected) → after start front ≡ Some ps → IsViable front
+viable front ps h =
+    let e = all_end ps [] in
+    let r = read_behind start front ps e.0 [] h e.1 in
+    let t = r.1 in
+    let tree : TreeView = record { records = t.0; globals = t.1; procedures = t.2; threads = t.3 } in
+    (tree, e.0, tokens_same tree ∙ (ap (source_tokens tree) (sym r.2) ∙ sym t.4))
 
--- these tokens have been read, and so many braces are open
-pub record ReadsTo (front : List Token) (r : ReaderView) (k : ℕ) : Type 0 where
-  pub is : after start front ≡ Some r
-  pub level : k ≡ open_after 0 front
-  pub shallow : peak 0 front ≤ 32
+-- one more token
+pub after_one : (ps : List Expected) (front : List Token) (t : Token) (rest : List Token) → after start front ≡ Some ps
+    → after start (front ++ t ∷ rest) ≡ after ps (t ∷ rest)
+after_one ps front t rest h = after_then start ps front (t ∷ rest) h
 
-after_append : (r : ReaderView) (v w : List Token) → after r (v ++ w) ≡ option_and_then (λ m. after m w) (after r v)
-after_append r [] w = refl
-after_append r (t ∷ v) w = go v w (λ m. after_append m v w) (read_one r t)
+taken_one : (e : Expected) (ps : List Expected) (t : Token) → takes e t ≡ true
+    → (qs : List Expected) × (after (e ∷ ps) (t ∷ []) ≡ Some qs)
+taken_one e ps t h = go (follows e t) h
   where
-    go : (v w : List Token) → ((m : ReaderView) → after m (v ++ w) ≡ option_and_then (λ x. after x w) (after m v))
-        → (o : Option ReaderView) →
-        option_and_then (λ m. after m (v ++ w)) o ≡ option_and_then (λ x. after x w)
-        (option_and_then (λ m. after m v) o)
-    go v w h None = refl
-    go v w h (Some m) = h m
+    go : (o : Option (List Expected)) → is_some o ≡ true
+        → (qs : List Expected) × (option_and_then (λ list. after (list ++ ps) []) o ≡ Some qs)
+    go None h = absurd cc
+    go (Some list) h = (list ++ ps, refl)
 
-pub after_one : (front : List Token) (r : ReaderView) (t : Token) (rest : List Token) → after start front ≡ Some r →
-    after start (front ++ t ∷ rest) ≡ option_and_then (λ m. after m rest) (read_one r t)
-after_one front r t rest h =
-    after_append start front (t ∷ rest) ∙ ap (option_and_then (λ m. after m (t ∷ rest))) h
+-- a token that may stand there
+pub viable_with : (front : List Token) (e : Expected) (ps : List Expected) (t : Token) → after start front ≡ Some (e ∷ ps)
+    → takes e t ≡ true → IsViable (front ++ t ∷ [])
+viable_with front e ps t h k =
+    let one = taken_one e ps t k in viable (front ++ t ∷ []) one.0 (after_one (e ∷ ps) front t [] h ∙ one.1)
+
+refused_one : (e : Expected) (ps : List Expected) (t : Token) (rest : List Token) → takes e t ≡ false
+    → after (e ∷ ps) (t ∷ rest) ≡ None
+refused_one e ps t rest h = go (follows e t) h
+  where
+    go : (o : Option (List Expected)) → is_some o ≡ false
+        → option_and_then (λ list. after (list ++ ps) rest) o ≡ None
+    go None h = refl
+    go (Some list) h = absurd cc
+
+pub not_viable : (front : List Token) (e : Expected) (ps : List Expected) (t : Token) → after start front ≡ Some (e ∷ ps)
+    → takes e t ≡ false → IsViable (front ++ t ∷ []) → ⊥
+not_viable front e ps t h k v =
+    let one : after start (front ++ t ∷ v.1) ≡ None = after_one (e ∷ ps) front t v.1 h ∙ refused_one e ps t v.1 k in
+    let tree = source_after v.0 in
+    let all : after start (front ++ t ∷ v.1) ≡ Some (tree.0 ∷ []) =
+    ap (after start) (sym (append_assoc front (t ∷ []) v.1) ∙ (sym v.2 ∙ tokens_same v.0)) ∙ tree.2 in
+    none_or_some (tree.0 ∷ []) (sym one ∙ all)
+
+pub unexpected : (list : List Token) (i : ℕ) (e : Expected) (ps : List Expected) (t : Token)
+    → after start (take i list) ≡ Some (e ∷ ps) → peak 0 (take i list) ≤ 32 → i < length list
+    → take (i + 1) list ≡ take i list ++ t ∷ [] → takes e t ≡ false → IsUnexpectedAt list i
+unexpected list i e ps t h low within same none = record {
+  within = within;
+  before = viable (take i list) (e ∷ ps) h;
+  here = λ v. not_viable (take i list) e ps t h none (subst IsViable same v);
+  shallow = shallow_from (take i list) low;
+}
 
 open_append : (k : ℕ) (v : List Token) (t : Token) → open_after k (v ++ t ∷ []) ≡ brace (open_after k v) t
 open_append k [] t = refl
 open_append k (u ∷ v) t = open_append (brace k u) v t
 
-pub reads_nothing : ReadsTo [] start 0
-reads_nothing = record { is = refl; level = refl; shallow = omega arith }
-
-pub reads_more : (front : List Token) (r m : ReaderView) (k : ℕ) (t : Token) → ReadsTo front r k → read_one r t ≡ Some m
-    → brace k t ≤ most_depth →
-    ReadsTo (front ++ t ∷ []) m (brace k t)
-reads_more front r m k t h e low = record {
-  is = after_one front r t [] h.is ∙ ap (option_and_then (λ x. after x [])) e;
-  level = ap (λ j. brace j t) h.level ∙ sym (open_append 0 front t);
-  shallow = omega (
-    arith,
-    h.shallow,
-    peak_append 0 front (t ∷ []),
-    ap (λ j. peak j (t ∷ [])) h.level,
-    peak_cons t k [],
-    peak_append 0 front [],
-    peak_from (open_after 0 front) [],
-    ap (peak 0) (append-nil front),
-  );
-}
-
-pub not_viable : (front : List Token) (r : ReaderView) (t : Token) → after start front ≡ Some r → read_one r t ≡ None
-    → IsViable (front ++ t ∷ []) → ⊥
-not_viable front r t h e v =
-    let one : after start (front ++ t ∷ v.1) ≡ None = after_one front r t v.1 h
-    ∙ ap (option_and_then (λ m. after m v.1)) e in
-    let all : after start (front ++ t ∷ v.1) ≡ Some (reading v.0 (outside.Between (last_part v.0))) =
-    ap (after start) (sym (append_assoc front (t ∷ []) v.1) ∙ sym v.2) ∙ tree_passes v.0 in
-    cc
-
-pub unexpected : (list : List Token) (i : ℕ) (r : ReaderView) (k : ℕ) (t : Token) → ReadsTo (take i list) r k
-    → i < length list →
-    take (i + 1) list ≡ take i list ++ t ∷ [] → read_one r t ≡ None → IsUnexpectedAt list i
-unexpected list i r k t h within e none = record {
+pub too_deep : (list : List Token) (i : ℕ) (e : Expected) (ps : List Expected) (t : Token)
+    → after start (take i list) ≡ Some (e ∷ ps) → peak 0 (take i list) ≤ 32 → i < length list
+    → take (i + 1) list ≡ take i list ++ t ∷ [] → takes e t ≡ true
+    → brace (open_after 0 (take i list)) t ≡ most_depth + 1 → IsTooDeepAt list i
+too_deep list i e ps t h low within same some deep = record {
   within = within;
-  before = viable (take i list) r h.is;
-  here = λ v. not_viable (take i list) r t h.is none (subst IsViable e v);
-  shallow = shallow_from (take i list) h.shallow;
+  here = subst IsViable (sym same) (viable_with (take i list) e ps t h some);
+  deep = ap (open_after 0) same ∙ (open_append 0 (take i list) t ∙ deep);
+  shallow = shallow_from (take i list) low;
 }
 
-pub too_deep : (list : List Token) (i : ℕ) (r m : ReaderView) (k : ℕ) (t : Token) → ReadsTo (take i list) r k
-    → i < length list →
-    take (i + 1) list ≡ take i list ++ t ∷ [] → read_one r t ≡ Some m → brace k t ≡ most_depth + 1 → IsTooDeepAt list i
-too_deep list i r m k t h within e some deep = record {
-  within = within;
-  here = subst IsViable (sym e) (viable (take i list ++ t ∷ []) m
-      (after_one (take i list) r t [] h.is ∙ ap (option_and_then (λ x. after x [])) some));
-  deep = ap (open_after 0) e ∙ (open_append 0 (take i list) t ∙ (ap (λ j. brace j t) (sym h.level) ∙ deep));
-  shallow = shallow_from (take i list) h.shallow;
+-- a declaration that is begun is followed by more than one place
+pub unfinished : (list : List Token) (e d : Expected) (ps : List Expected)
+    → after start list ≡ Some (e ∷ (ps ++ d ∷ [])) → peak 0 list ≤ 32 → IsUnfinished list
+unfinished list e d ps h low = record {
+  viable = viable list (e ∷ (ps ++ d ∷ [])) h;
+  none = λ tree same.
+      let k = source_after tree in
+      let one : e ∷ (ps ++ d ∷ []) ≡ k.0 ∷ [] = some_injective (e ∷ (ps ++ d ∷ [])) (k.0 ∷ [])
+      (sym h ∙ (ap (after start) (sym same ∙ tokens_same tree) ∙ k.2)) in
+      some_behind ps (ap (drop 1) one);
+  shallow = shallow_from list low;
 }
+  where
+    some_behind : (ps : List Expected) → ps ++ d ∷ [] ≡ [] → ⊥
+    some_behind [] e = cc
+    some_behind (p ∷ ps) e = cc
 
-pub unfinished : (list : List Token) (r : ReaderView) (k : ℕ) → ReadsTo list r k → finish_of r ≡ None
-    → IsUnfinished list
-unfinished list r k h e = record {
-  viable = viable list r h.is;
-  none = λ tree same. let one : Some r ≡ Some (reading tree (outside.Between (last_part tree))) =
-      sym h.is ∙ (ap (after start) (sym same) ∙ tree_passes tree) in
-      let two : finish_of r ≡ Some tree = ap (λ o. option_and_then finish_of o) one in none_or_some tree (sym e ∙ two);
-  shallow = shallow_from list h.shallow;
-}
-
-finished_at : (s : TreeView) (g : Stage) (tree : TreeView) → finish_at s g ≡ Some tree
-    → reading_tokens (record { source = s; stage = g }) [] ≡ source_tokens tree []
-finished_at s (stage.Outside (outside.Between p)) tree e = ap (λ x. source_tokens x []) (some_injective s tree e)
-finished_at s (stage.Outside (outside.Record r)) tree e = absurd (none_or_some tree e)
-finished_at s (stage.Outside (outside.Global g)) tree e = absurd (none_or_some tree e)
-finished_at s (stage.Outside (outside.Procedure p)) tree e = absurd (none_or_some tree e)
-finished_at s (stage.Outside (outside.Thread t)) tree e = absurd (none_or_some tree e)
-finished_at s (stage.Outside (outside.Body o ls l)) tree e = absurd (none_or_some tree e)
-finished_at s (stage.Inside o ls x) tree e = absurd (none_or_some tree e)
-
-kept : (list : List Token) (r : ReaderView) → after start list ≡ Some r → list ≡ reading_tokens r []
-kept list r h = sym (append-nil list) ∙ (kept_from list [] r h).is
-
-pub finished : (list : List Token) (r : ReaderView) (k : ℕ) (tree : TreeView) → ReadsTo list r k
-    → finish_of r ≡ Some tree → IsTree list tree
-finished list r k tree h e =
-    let same : tokens_of tree ≡ list =
-    tokens_same tree ∙ (sym (finished_at r.source r.stage tree e) ∙ sym (kept list r h.is)) in
-    record { tokens = same; shallow = omega (arith, depth_peak tree, ap (peak 0) same, h.shallow) }
-
-abbrev source_in : Option ReaderView → TreeView
-source_in None = empty
-source_in (Some r) = r.source
-
-pub is_low : (front : List Token) (r : ReaderView) (k : ℕ) → ReadsTo front r k → k ≤ 32
-is_low front r k h =
-    omega (
-      arith,
-      h.level,
-      h.shallow,
-      peak_append 0 front [],
-      peak_from (open_after 0 front) [],
-      ap (peak 0) (append-nil front),
-    )
-
-pub brace_most : (k : ℕ) (t : Token) → brace k t ≤ k + 1
-brace_most k token.OpenBrace = omega arith
-brace_most k token.CloseBrace = omega arith
-brace_most k _ = omega arith
+-- the tokens of a tree are no more than so deep
+pub is_tree : (list : List Token) (tree : TreeView) → list ≡ source_tokens tree [] → peak 0 list ≤ 32 → IsTree list tree
+is_tree list tree e low = let same : tokens_of tree ≡ list = tokens_same tree ∙ sym e in
+    record { tokens = same; shallow = omega (arith, depth_peak tree, ap (peak 0) same, low) }
 
 -- only this tree
 abbrev pub IsGiven : TreeView → Result TreeView TokenFault → Type 0
@@ -162,9 +122,7 @@ IsGiven tree (Err _) = ⊥
 pub given : (list : List Token) (result : Result TreeView TokenFault) → JudgesTokens list result → (tree : TreeView)
     → IsTree list tree → IsGiven tree result
 given list (Ok found) h tree p =
-    let e : Some (reading found (outside.Between (last_part found))) ≡ Some
-    (reading tree (outside.Between (last_part tree))) =
-    sym (tree_passes found) ∙ (ap (after start) (h.tokens ∙ sym p.tokens) ∙ tree_passes tree) in ap source_in e
+    one_tree found tree (sym (tokens_same found) ∙ (h.tokens ∙ (sym p.tokens ∙ tokens_same tree)))
 given list (Err (fault.Unexpected i)) h tree p =
     h.here (tree, drop (i + 1) list, p.tokens ∙ sym (take-append-drop (i + 1) list))
 given list (Err (fault.TooDeep i)) h tree p =

@@ -1,14 +1,12 @@
 -- What the contracts of private functions speak of.
-pub mod Advance
-pub mod WithinView
-pub mod Step
-pub mod ReaderView
-pub mod Read
 pub mod Recognition
 pub mod Writes
 pub mod Spread
 pub mod Verdicts
 pub mod Lexeme
 pub mod Below
-pub mod Taking
-pub mod Standing
+pub mod Places
+pub mod Kinds
+pub mod Signs
+pub mod Passing
+pub mod Declaring

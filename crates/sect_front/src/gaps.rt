@@ -3,17 +3,13 @@
 ghost use Rattle.std.specs.Prelude.{◌≡◌, [], IfOk};
 ghost use Rattle.sect_front.specs.{Gaps.{after_gap as gap_of}, LongGaps.{IsRestOf, AreGaps}};
 
-use crate::lexer::{after_gap, is_tight};
+use crate::lexer::{after_gap, is_tight, put_lexeme};
 use crate::span::Span;
-use memchr::memchr;
+use crate::token::Token;
 use std::alloc::AllocError;
 
 /// A gap of so many bytes is long.
 const LONG_GAP: usize = 12;
-
-/// A statement without a block and the gap behind it may have a long gap at the end from so many bytes on; most that
-/// are shorter have none.
-const LONG_STATEMENT: usize = 32;
 
 /// A text, and gaps of it, that is blanks and comments between its tokens, in the order of the text. Any may be left
 /// out, and is then passed byte by byte.
@@ -54,11 +50,7 @@ impl<'a> GappedText<'a> {
 /// What follows the blanks and comments at the front of a rest of a text. If they are many bytes, they are added to the
 /// text's gaps.
 #[inline(always)]
-pub fn pass_gap<'a>(
-    bytes: &[u8],
-    here: &'a [u8],
-    gaps: &mut Vec<Span>,
-) -> Result<&'a [u8], AllocError>
+fn pass_gap<'a>(bytes: &[u8], here: &'a [u8], gaps: &mut Vec<Span>) -> Result<&'a [u8], AllocError>
     requires gaps { AreGaps bytes.now gaps.old.items }
     requires rest { IsRestOf bytes.now here.now }
     ensures after { IfOk result (λ after. after.now ≡ gap_of here.now) }
@@ -102,44 +94,20 @@ fn keep(bytes: &[u8], here: &[u8], after: &[u8], gaps: &mut Vec<Span>) -> Result
     Ok(())
 }
 
-/// Adds the gap behind a statement without a block, which stands at the front and behind which `there` follows, to the
-/// text's gaps, if it is many bytes.
-#[inline(always)]
-pub fn keep_gap(
-    bytes: &[u8],
-    here: &[u8],
-    there: &[u8],
-    gaps: &mut Vec<Span>,
-) -> Result<(), AllocError>
-    requires gaps { AreGaps bytes.now gaps.old.items }
-    requires rest { IsRestOf bytes.now here.now }
+/// Adds the long gaps of a text to these, up to the first place at which no token stands.
+pub fn put_gaps(bytes: &[u8], gaps: &mut Vec<Span>) -> Result<(), AllocError>
+    requires { AreGaps bytes.now gaps.old.items }
     ensures { AreGaps bytes.now gaps.new.items }
 {
-    if here.len() < there.len() + LONG_STATEMENT {
-        return Ok(());
-    }
-    keep_gap_behind(bytes, here, there, gaps)
-}
-
-/// The same, where both are many bytes. A statement in which a comment has a `;` is left out.
-#[inline(never)]
-fn keep_gap_behind(
-    bytes: &[u8],
-    here: &[u8],
-    there: &[u8],
-    gaps: &mut Vec<Span>,
-) -> Result<(), AllocError>
-    requires gaps { AreGaps bytes.now gaps.old.items }
-    requires rest { IsRestOf bytes.now here.now }
-    ensures { AreGaps bytes.now gaps.new.items }
-{
-    let Some(at) = memchr(b';', here) else {
-        return Ok(());
-    };
-    let (_, behind) = here.split_at(at + 1);
-    let after = after_gap(behind);
-    if after.len() == there.len() {
-        keep(bytes, behind, after, gaps)?;
+    let mut token = Token::Class;
+    let mut here = pass_gap(bytes, bytes, gaps)?;
+    while !here.is_empty() {
+        let length = put_lexeme(here, &mut token);
+        if length == 0 {
+            return Ok(());
+        }
+        let (_, after) = here.split_at(length);
+        here = pass_gap(bytes, after, gaps)?;
     }
     Ok(())
 }

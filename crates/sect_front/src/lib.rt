@@ -1,7 +1,8 @@
 //! The front end: bytes to tokens, tokens to a tree, and a tree back to text.
 #![tactic(auto)]
 
-mod expecting;
+mod cursor;
+mod expected;
 mod gaps;
 mod innermost;
 mod items;
@@ -11,10 +12,7 @@ mod listing;
 mod literal;
 mod name;
 mod parsing;
-mod partial;
-mod passing;
 mod printing;
-mod reader;
 mod reading;
 mod room;
 mod same;
@@ -22,7 +20,6 @@ mod span;
 mod token;
 mod token_kind;
 mod tree;
-mod within;
 mod words;
 
 pub use gaps::GappedText;

@@ -1,14 +1,15 @@
 //! A source text as a tree.
 //!
-//! The text is read by a machine that takes one token at a time and keeps the open blocks in a `Vec`: it calls nothing
-//! by recursion on the text, so no text makes it use more stack. What walks over a tree, as its `Drop` and `print` do,
-//! goes as deep as its blocks stand in one another, at most 32.
+//! The text is read by one function for each rule of the grammar. These call one another as deep as blocks stand in one
+//! another, as what walks over a tree does, its `Drop` and `print` among them: at most 32, and a deeper block is refused
+//! where it opens.
 
 ghost use Rattle.std.specs.Prelude.{◌≡◌, ◌≢◌, ◌≤◌, [], IfOk, IfErr, length};
 ghost use Rattle.sect_front.specs.Front.{IsSpelled, IsFault, Judges, Gives, Refuses, line_of as line};
 ghost use Rattle.sect_front.specs.{FaultPlaces.{IsFaultSpan, IsWithin, AreKindsFor, word_span}, Lexing.{IsBadAt}};
 ghost use Rattle.sect_front.specs.{TreeView.{TreeView}, Limits.{most_bytes}, LongGaps.{AreGaps}};
 
+use crate::gaps::put_gaps;
 use crate::limits::MOST_BYTES;
 use crate::reading::{ReadFault, read};
 use crate::span::Span;
@@ -149,32 +150,11 @@ pub fn parse_placed(alloc: Global, bytes: &[u8]) -> Result<Tree, PlacedFault>
     // In place of a token that can't stand where it does, one of these kinds may.
     ensures expected { IfErr result (λ placed. AreKindsFor bytes.now placed.fault placed.span placed.expected.items) }
 {
-    let mut gaps = Vec::new(alloc);
-    parse_gapped(alloc, bytes, &mut gaps)
-}
-
-/// What `parse_placed` gives. With it long gaps that the reading passes are added to these, in the order of the text,
-/// but for those in a statement that is read whole: what reads the text again passes each at once.
-pub fn parse_gapped(alloc: Global, bytes: &[u8], gaps: &mut Vec<Span>) -> Result<Tree, PlacedFault>
-    requires { AreGaps bytes.now gaps.old.items }
-    // A tree that is given is spelled so.
-    ensures tree { IfOk result (λ tree. IsSpelled bytes.now tree) }
-    // A fault is the first one, on its line.
-    ensures fault { IfErr result (λ placed. IsFault bytes.now placed.fault) }
-    // It stands at these bytes, which are the text's.
-    ensures span { IfErr result (λ placed. IsFaultSpan bytes.now placed.fault placed.span) }
-    ensures within { IfErr result (λ placed. (placed.fault ≢ FrontFault.Memory)
-        → IsWithin (length bytes.now) placed.span) }
-    // In place of a token that can't stand where it does, one of these kinds may.
-    ensures expected { IfErr result (λ placed. AreKindsFor bytes.now placed.fault placed.span placed.expected.items) }
-    // What is added are gaps of the text.
-    ensures gaps { AreGaps bytes.now gaps.new.items }
-{
     if bytes.len() > MOST_BYTES {
         let span = Span { start: 0, end: 1 };
         return Err(placed(alloc, FrontFault::TooLarge, span));
     }
-    match read(alloc, bytes, gaps) {
+    match read(alloc, bytes) {
         Ok(tree) => Ok(tree),
         Err(ReadFault::Memory) => {
             let span = Span { start: 0, end: 0 };
@@ -203,4 +183,28 @@ pub fn parse_gapped(alloc: Global, bytes: &[u8], gaps: &mut Vec<Span>) -> Result
             Err(placed(alloc, FrontFault::UnexpectedEnd { line }, span))
         }
     }
+}
+
+/// What `parse_placed` gives. With it the long gaps of the text are added to these, in the order of the text, up to the
+/// first place at which no token stands: what reads the text again passes each at once.
+pub fn parse_gapped(alloc: Global, bytes: &[u8], gaps: &mut Vec<Span>) -> Result<Tree, PlacedFault>
+    requires { AreGaps bytes.now gaps.old.items }
+    // A tree that is given is spelled so.
+    ensures tree { IfOk result (λ tree. IsSpelled bytes.now tree) }
+    // A fault is the first one, on its line.
+    ensures fault { IfErr result (λ placed. IsFault bytes.now placed.fault) }
+    // It stands at these bytes, which are the text's.
+    ensures span { IfErr result (λ placed. IsFaultSpan bytes.now placed.fault placed.span) }
+    ensures within { IfErr result (λ placed. (placed.fault ≢ FrontFault.Memory)
+        → IsWithin (length bytes.now) placed.span) }
+    // In place of a token that can't stand where it does, one of these kinds may.
+    ensures expected { IfErr result (λ placed. AreKindsFor bytes.now placed.fault placed.span placed.expected.items) }
+    // What is added are gaps of the text.
+    ensures gaps { AreGaps bytes.now gaps.new.items }
+{
+    if bytes.len() <= MOST_BYTES && put_gaps(bytes, gaps).is_err() {
+        let span = Span { start: 0, end: 0 };
+        return Err(placed(alloc, FrontFault::Memory, span));
+    }
+    parse_placed(alloc, bytes)
 }

@@ -1,25 +1,16 @@
 //! The tree that a text spells.
 
-ghost use Rattle.std.specs.Prelude.{◌≡◌, ◌<◌, ◌≤◌, ◌++◌, length, List, Err, OnOk, IfErr, MatchOption};
-ghost use Rattle.std.specs.Option.{ForSome, ok_or};
-ghost use Rattle.sect_front.specs.{Braces.{brace}, TokenAt.{TokenAt}, Lexing.{Spells, IsBadAt}};
-ghost use Rattle.sect_front.specs.{declared.reading.ReadFault.TheVariants.{Unfinished}, Depth.{depth}};
-ghost use Rattle.sect_front.specs.{Limits.{most_depth}, LongGaps.{AreGaps}};
+ghost use Rattle.std.specs.Prelude.{◌≡◌, ◌≤◌, ◌++◌, length, List, ℕ, IfOk, MatchOption};
+ghost use Rattle.sect_front.specs.{TokenAt.{TokenAt}, Lexing.{Spells, IsBadAt}};
 ghost use Rattle.sect_front.specs.steps.Verdicts.{Reached, JudgesText, IsAnswerOf, IsReadFault};
-ghost use Rattle.sect_front.specs.steps.{ReaderView.{reading, empty}, Read.{finish_of}};
-ghost use Rattle.sect_front.specs.declared.reader.Outside.TheVariants as Outside;
-ghost use Rattle.sect_front.specs.declared.reader.Part.TheVariants as Part;
+ghost use Rattle.sect_front.specs.steps.{Passing.{text_start}, Declaring.{StopsText}};
 
-use crate::expecting::kinds_taken;
-use crate::gaps::{keep_gap, pass_gap};
-use crate::lexer::{behind, lexeme, put_lexeme};
-use crate::limits::MOST_DEPTH;
-use crate::reader::Reader;
+use crate::cursor::{Cursor, Source, Stop};
+use crate::expected::Expected;
+use crate::lexer::{after_gap, behind, lexeme};
 use crate::span::Span;
-use crate::token::Token;
 use crate::token_kind::TokenKind;
 use crate::tree::Tree;
-use crate::within::StepError;
 use std::alloc::{AllocError, Global};
 
 /// Why a text spells no tree. Places are offsets in the text.
@@ -45,18 +36,6 @@ impl From<AllocError> for ReadFault {
 
     fn from(_error: AllocError) -> ReadFault {
         ReadFault::Memory
-    }
-}
-
-/// The braces that are open after one more token.
-fn braces(level: usize, token: &Token) -> usize
-    requires { level < 1000 }
-    ensures { result ≡ brace level token.now }
-{
-    match token {
-        Token::OpenBrace => level + 1,
-        Token::CloseBrace => level.saturating_sub(1),
-        _ => level,
     }
 }
 
@@ -88,65 +67,67 @@ fn unless_bad(bytes: &[u8], here: &[u8], fault: ReadFault) -> ReadFault
     }
 }
 
-/// Has a new reader take all tokens of a text, unless there is a fault. Long gaps that are passed are kept, but for
-/// those in a statement that is read whole.
-fn take_all(
+/// The fault of a text of which this is left where a token would have to stand that this place takes.
+fn unexpected(
     alloc: Global,
     bytes: &[u8],
-    reader: &mut Reader,
-    gaps: &mut Vec<Span>,
-) -> Result<(), ReadFault>
-    requires reader { reader.old ≡ reading empty (Outside.Between Part.Records) }
-    requires gaps { AreGaps bytes.now gaps.old.items }
-    ensures ends { OnOk result (JudgesText bytes.now (ok_or (finish_of reader.new) Unfinished)) }
-    ensures shallow { OnOk result (ForSome (finish_of reader.new) (λ tree. depth tree ≤ most_depth)) }
-    ensures fault { IfErr result (IsReadFault bytes.now) }
-    ensures gaps { AreGaps bytes.now gaps.new.items }
+    here: &[u8],
+    expected: Expected,
+) -> Result<ReadFault, AllocError>
+    requires { length here.now ≤ length bytes.now }
+    ensures { IfOk result (λ fault. (k : ℕ) → StopsText (Stop.At expected) (text_start bytes.now)
+        (record { here = here.now; braces = k }) → IsReadFault bytes.now fault) }
 {
-    let mut level = 0;
-    let mut token = Token::Class;
-    let mut here = pass_gap(bytes, bytes, gaps)?;
-    while !here.is_empty() {
-        if let Some(there) = reader.pass_statement(alloc, here)? {
-            keep_gap(bytes, here, there, gaps)?;
-            here = there;
-            continue;
-        }
-        let at = bytes.len() - here.len();
-        let length = put_lexeme(here, &mut token);
-        if length == 0 {
-            return Err(ReadFault::Bad(at));
-        }
-        let span = Span {
-            start: at,
-            end: at + length,
-        };
-        let (_, after) = here.split_at(length);
-        here = pass_gap(bytes, after, gaps)?;
-        match reader.step(alloc, &token) {
-            Ok(()) => {}
-            Err(StepError::Memory) => return Err(ReadFault::Memory),
-            Err(StepError::Unexpected) => {
-                let kinds = kinds_taken(alloc, reader)?;
-                return Err(unless_bad(bytes, here, ReadFault::Unexpected(span, kinds)));
-            }
-        }
-        level = braces(level, &token);
-        if level > MOST_DEPTH {
-            return Err(unless_bad(bytes, here, ReadFault::TooDeep(span)));
-        }
+    if here.is_empty() {
+        return Ok(ReadFault::Unfinished);
     }
-    Ok(())
+    let start = bytes.len() - here.len();
+    let Some((_, length)) = lexeme(here) else {
+        return Ok(ReadFault::Bad(start));
+    };
+    let kinds = expected.kinds(alloc)?;
+    let span = Span {
+        start,
+        end: start + length,
+    };
+    let fault = ReadFault::Unexpected(span, kinds);
+    Ok(unless_bad(bytes, behind(here, length), fault))
 }
 
-/// The tree of a text, or the first place at which there is none: a bad lexeme comes before all other faults. Long gaps
-/// that are passed are kept, but for those in a statement that is read whole.
-pub fn read(alloc: Global, bytes: &[u8], gaps: &mut Vec<Span>) -> Result<Tree, ReadFault>
-    requires { AreGaps bytes.now gaps.old.items }
-    ensures judges { JudgesText bytes.now result }
-    ensures gaps { AreGaps bytes.now gaps.new.items }
+/// The fault of a text of which this is left where a block opens that is too deep.
+fn too_deep(bytes: &[u8], here: &[u8]) -> ReadFault
+    requires { length here.now ≤ length bytes.now }
+    ensures { (k : ℕ) → StopsText Stop.TooDeep (text_start bytes.now)
+        (record { here = here.now; braces = k }) → IsReadFault bytes.now result }
 {
-    let mut reader = Reader::new(alloc);
-    take_all(alloc, bytes, &mut reader, gaps)?;
-    reader.finish().ok_or(ReadFault::Unfinished)
+    let start = bytes.len() - here.len();
+    let Some((_, length)) = lexeme(here) else {
+        return ReadFault::Bad(start);
+    };
+    let span = Span {
+        start,
+        end: start + length,
+    };
+    unless_bad(bytes, behind(here, length), ReadFault::TooDeep(span))
+}
+
+/// The tree of a text, or the first place at which there is none: a bad lexeme comes before all other faults.
+pub fn read(alloc: Global, bytes: &[u8]) -> Result<Tree, ReadFault>
+    ensures { JudgesText bytes.now result }
+{
+    let mut cursor = Cursor::new(after_gap(bytes));
+    match cursor.program(alloc) {
+        Ok(source) => {
+            let Source {
+                records,
+                globals,
+                procedures,
+                threads,
+            } = source;
+            Ok(Tree::new(records, globals, procedures, threads))
+        }
+        Err(Stop::Memory) => Err(ReadFault::Memory),
+        Err(Stop::At(expected)) => Err(unexpected(alloc, bytes, cursor.rest(), expected)?),
+        Err(Stop::TooDeep) => Err(too_deep(bytes, cursor.rest())),
+    }
 }

@@ -127,8 +127,7 @@ impl Model for Block {
 }
 
 impl Block {
-    ghost use Rattle.std.specs.Prelude.{◌≢◌};
-    ghost use Rattle.sect_front.specs.{Syntax.{BlockView, StatementView}, Trees.{append, statement_of, block_of}};
+    ghost use Rattle.sect_front.specs.Trees.{append, statement_of, block_of};
 
     /// No statements.
     pub fn new(alloc: Global) -> Block
@@ -168,17 +167,6 @@ impl Block {
         if self.statements.len() < LONG_LIST {
             self.statements.shrink_to_fit();
         }
-    }
-
-    /// Adds a statement before the last one.
-    pub(crate) fn push_before_last(&mut self, statement: Statement) -> Result<(), AllocError>
-        requires { self.old ≢ End }
-        ensures { (b : BlockView) (last : StatementView) → self.old ≡ append b last
-            → OnOk result (self.new ≡ append (append b (statement_of statement)) last) }
-    {
-        let last = self.statements.len() - 1;
-        self.statements.insert(last, statement)?;
-        Ok(())
     }
 }
 

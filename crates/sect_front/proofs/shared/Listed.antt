@@ -65,7 +65,7 @@ mutual
   form_same (Atomic locking.All a) w = ap (λ x. token.Atomic ∷ token.All ∷ x) (block a (λ v. body_same a v) w)
   form_same (Call f vs) w = call_same f vs w
 
-  body_same : (b : BlockView) (w : List Token) → statements_list b ++ w ≡ block_tokens b w
+  pub body_same : (b : BlockView) (w : List Token) → statements_list b ++ w ≡ block_tokens b w
   body_same End w = refl
   body_same (Then s b) w = append_assoc (statement_list s) (statements_list b) w
       ∙ (ap (λ x. statement_list s ++ x) (body_same b w) ∙ form_same s (block_tokens b w))

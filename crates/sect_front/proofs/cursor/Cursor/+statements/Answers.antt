@@ -1,0 +1,505 @@
+use Rattle.std.proofs.Common.{◌≡◌, [], ◌∷◌, Some, length, true, false, refl, sym, ◌∙◌, ap, subst, arith}
+use Rattle.std.proofs.lemmas.Result.{IfOk-weaker, IfErr-weaker}
+use Rattle.sect_lemmas.proofs.Results.{given}
+use Rattle.sect_front.specs.{Syntax.{If, IfElse, While, Atomic}, Tokens.{test_tokens, block_tokens}}
+use Rattle.sect_front.specs.steps.Places.{test_places, after}
+use Rattle.sect_front.specs.steps.Passing.{Stands, ArePassed, IsAbsent, IsBare, IsAlike, StopsIn, HasAdded}
+use Rattle.sect_front.proofs.{Places.{body_tokens}, Texts.{shorter}, Leading.{test_after, body_after}}
+use Rattle.sect_front.proofs.{Growing.{block_behind}, Adding.{added_are, added_leads, added_shorter}}
+use Rattle.sect_front.proofs.Stopping.{stops_after, stops_here, stops_behind, stops_more, stops_at_brace, passed_append}
+use Rattle.sect_front.proofs.Stopping.{passed_shorter, passed_calm, no_longer, added_behind, refused_alike, refused_by}
+use Rattle.sect_front.proofs.Stopping.{refused_bare, refused_brace, alike_takes, alike_else, alike_all, not_start}
+use Rattle.sect_front.specs.declared.token.Token.TheVariants as token
+use Rattle.sect_front.specs.declared.tree.Locking.TheVariants as locking
+use Rattle.sect_front.specs.declared.expected.Expected.TheVariants as expected
+use Rattle.sect_front.specs.declared.cursor.Stop.TheVariants as stop
+use Rattle.sect_front.proofs.cursor.Cursor.+statements.Goals as goal
+
+pub block-returns-in_err-open_brace-clause-err : goal.block-returns-in_err-open_brace-clause-err
+block-returns-in_err-open_brace-clause-err t c =
+    given c.from_residual.result (λ s. StopsIn s (c.args.expected ∷ []) c.args.self.now c.open_brace.new.self)
+    c.in_err-open_brace.field-0.0
+    (stops_at_brace _ c.args.expected [] c.args.self.now c.open_brace.new.self c.in_err-open_brace.ensures.err
+    (λ absent. refused_alike c.args.expected expected.OpenBrace c.args.self.now c.requires.alike
+    (refused_brace c.args.self.now absent))
+    (λ rest s. alike_takes c.args.expected expected.OpenBrace token.OpenBrace (c.requires.alike token.OpenBrace rest s)))
+    c.from_residual.ensures.1
+
+pub block-statements-requires : goal.block-statements-requires
+block-statements-requires t c =
+    omega (arith, passed_shorter c.args.self.now c.open_brace.new.self token.OpenBrace c.in_ok-open_brace.ensures.ok)
+
+pub block-returns-clause-ok : goal.block-returns-clause-ok
+block-returns-clause-ok t c =
+    IfOk-weaker c.statements.result _
+    (λ b. ArePassed c.args.self.now (token.OpenBrace ∷ body_tokens b []) c.statements.new.self)
+    (λ b h. (c.open_brace.new.self, c.in_ok-open_brace.ensures.ok, h)) c.statements.ensures.ok
+
+pub block-returns-clause-err : goal.block-returns-clause-err
+block-returns-clause-err t c =
+    let p = c.in_ok-open_brace.ensures.ok in
+    IfErr-weaker c.statements.result _ (λ s. StopsIn s (c.args.expected ∷ []) c.args.self.now c.statements.new.self)
+    (λ s h. stops_behind s c.args.expected token.OpenBrace (expected.Start ∷ []) [] c.args.self.now
+    c.open_brace.new.self c.statements.new.self p
+    (c.requires.alike token.OpenBrace c.open_brace.new.self.here p.stands) h) c.statements.ensures.err
+
+pub branch-returns-in_err-test-clause-err : goal.branch-returns-in_err-test-clause-err
+branch-returns-in_err-test-clause-err t c =
+    let rest = expected.OpenBrace ∷ expected.StartOrElse ∷ [] in
+    given c.from_residual.result (λ s. StopsIn s (test_places rest) c.args.self.now c.test.new.self)
+    c.in_err-test.field-0.0
+    (stops_more _ (test_places []) rest c.args.self.now c.test.new.self c.in_err-test.ensures.err)
+    c.from_residual.ensures.1
+
+pub branch-block-requires : goal.branch-block-requires
+branch-block-requires t c = (
+  omega (arith, no_longer c.args.self.now (test_tokens c.in_ok-test.test []) c.test.new.self c.in_ok-test.ensures.ok),
+  λ t rest s. refl,
+)
+
+pub branch-returns-in_err-then-clause-err : goal.branch-returns-in_err-then-clause-err
+branch-returns-in_err-then-clause-err t c =
+    let rest = expected.OpenBrace ∷ expected.StartOrElse ∷ [] in
+    given c.from_residual-in_err-then.result (λ s. StopsIn s (test_places rest) c.args.self.now c.block.new.self)
+    c.in_err-then.field-0.0
+    (stops_after _ (test_places rest) rest (test_tokens c.in_ok-test.test []) c.args.self.now c.test.new.self
+    c.block.new.self c.in_ok-test.ensures.ok (test_after c.in_ok-test.test rest [])
+    (stops_more _ (expected.OpenBrace ∷ []) (expected.StartOrElse ∷ []) c.test.new.self c.block.new.self
+    c.in_err-then.ensures.err)) c.from_residual-in_err-then.ensures.1
+
+pub branch-block-requires-then-takes_keyword : goal.branch-block-requires-then-takes_keyword
+branch-block-requires-then-takes_keyword t c =
+    let q = c.in_ok-test.test in
+    let a = c.in_ok-then.then in
+    let begun = test_tokens q (token.OpenBrace ∷ body_tokens a []) in
+    let then = passed_append c.args.self.now (test_tokens q []) (token.OpenBrace ∷ body_tokens a []) c.test.new.self
+    c.block.new.self c.in_ok-test.ensures.ok c.in_ok-then.ensures.ok in (
+      omega (
+        arith,
+        no_longer c.args.self.now begun c.block.new.self then,
+        passed_shorter c.block.new.self c.takes_keyword.new.self token.Else
+            (c.takes_keyword.ensures.taken c.if-takes_keyword.true),
+      ),
+      λ t rest s. refl,
+    )
+
+pub branch-returns-in_err-other-clause-err : goal.branch-returns-in_err-other-clause-err
+branch-returns-in_err-other-clause-err t c =
+    let q = c.in_ok-test.test in
+    let a = c.in_ok-then.then in
+    let begun = test_tokens q (token.OpenBrace ∷ body_tokens a []) in
+    let then = passed_append c.args.self.now (test_tokens q []) (token.OpenBrace ∷ body_tokens a []) c.test.new.self
+    c.block.new.self c.in_ok-test.ensures.ok c.in_ok-then.ensures.ok in
+    let rest = expected.OpenBrace ∷ expected.StartOrElse ∷ [] in
+    given c.from_residual-in_err-other.result
+    (λ s. StopsIn s (test_places rest) c.args.self.now c.block-then-takes_keyword.new.self) c.in_err-other.field-0.0
+    (stops_after _ (test_places rest) (expected.StartOrElse ∷ []) begun c.args.self.now c.block.new.self
+    c.block-then-takes_keyword.new.self then
+    (test_after q rest (token.OpenBrace ∷ body_tokens a []) ∙ body_after a (expected.StartOrElse ∷ []) [])
+    (stops_behind _ expected.StartOrElse token.Else (expected.OpenBrace ∷ expected.Start ∷ []) [] c.block.new.self
+    c.takes_keyword.new.self c.block-then-takes_keyword.new.self
+    (c.takes_keyword.ensures.taken c.if-takes_keyword.true) refl
+    (stops_more _ (expected.OpenBrace ∷ []) (expected.Start ∷ []) c.takes_keyword.new.self
+    c.block-then-takes_keyword.new.self c.in_err-other.ensures.err))) c.from_residual-in_err-other.ensures.1
+
+pub branch-returns-then-takes_keyword-clause-ok : goal.branch-returns-then-takes_keyword-clause-ok
+branch-returns-then-takes_keyword-clause-ok t c =
+    let q = c.in_ok-test.test in
+    let a = c.in_ok-then.then in
+    let begun = test_tokens q (token.OpenBrace ∷ body_tokens a []) in
+    let then = passed_append c.args.self.now (test_tokens q []) (token.OpenBrace ∷ body_tokens a []) c.test.new.self
+    c.block.new.self c.in_ok-test.ensures.ok c.in_ok-then.ensures.ok in
+    let b = c.in_ok-other.other in
+    let rest = token.Else ∷ token.OpenBrace ∷ body_tokens b [] in
+    record {
+      statement = IfElse q a b;
+      tokens = test_tokens q (token.OpenBrace ∷ body_tokens a rest);
+      are = subst (λ x. ArePassed c.args.self.now (test_tokens q (token.OpenBrace ∷ x))
+          c.block-then-takes_keyword.new.self) (block_behind a (token.CloseBrace ∷ []) rest)
+          (passed_append c.args.self.now begun rest c.block.new.self c.block-then-takes_keyword.new.self then
+          (c.takes_keyword.new.self, c.takes_keyword.ensures.taken c.if-takes_keyword.true, c.in_ok-other.ensures.ok));
+      spelled = refl;
+      added = c.in_ok-push.ensures.ok;
+      behind = refl;
+    }
+
+pub branch-returns-then-takes_keyword-clause-alike : goal.branch-returns-then-takes_keyword-clause-alike
+branch-returns-then-takes_keyword-clause-alike t c = λ t rest s. refl
+
+pub branch-returns-clause-ok : goal.branch-returns-clause-ok
+branch-returns-clause-ok t c =
+    let q = c.in_ok-test.test in
+    let a = c.in_ok-then.then in
+    let begun = test_tokens q (token.OpenBrace ∷ body_tokens a []) in
+    let then = passed_append c.args.self.now (test_tokens q []) (token.OpenBrace ∷ body_tokens a []) c.test.new.self
+    c.block.new.self c.in_ok-test.ensures.ok c.in_ok-then.ensures.ok in
+    record {
+      statement = If q a;
+      tokens = begun;
+      are = subst (ArePassed c.args.self.now begun) (sym (c.takes_keyword.ensures.stays c.if-takes_keyword.false)) then;
+      spelled = refl;
+      added = c.in_ok-push-2.ensures.ok;
+      behind = refl;
+    }
+
+pub branch-returns-clause-alike : goal.branch-returns-clause-alike
+branch-returns-clause-alike t c =
+    subst (IsAlike expected.StartOrElse expected.Start) (sym (c.takes_keyword.ensures.stays c.if-takes_keyword.false))
+    (alike_else c.block.new.self (c.takes_keyword.ensures.none c.if-takes_keyword.false))
+
+pub repeated-returns-in_err-test-clause-err : goal.repeated-returns-in_err-test-clause-err
+repeated-returns-in_err-test-clause-err t c =
+    let rest = expected.OpenBrace ∷ [] in
+    given c.from_residual.result (λ s. StopsIn s (test_places rest) c.args.self.now c.test.new.self)
+    c.in_err-test.field-0.0
+    (stops_more _ (test_places []) rest c.args.self.now c.test.new.self c.in_err-test.ensures.err)
+    c.from_residual.ensures.1
+
+pub repeated-block-requires : goal.repeated-block-requires
+repeated-block-requires t c = (
+  omega (arith, no_longer c.args.self.now (test_tokens c.in_ok-test.test []) c.test.new.self c.in_ok-test.ensures.ok),
+  λ t rest s. refl,
+)
+
+pub repeated-returns-in_err-body-clause-err : goal.repeated-returns-in_err-body-clause-err
+repeated-returns-in_err-body-clause-err t c =
+    let rest = expected.OpenBrace ∷ [] in
+    given c.from_residual-in_err-body.result (λ s. StopsIn s (test_places rest) c.args.self.now c.block.new.self)
+    c.in_err-body.field-0.0
+    (stops_after _ (test_places rest) rest (test_tokens c.in_ok-test.test []) c.args.self.now c.test.new.self
+    c.block.new.self c.in_ok-test.ensures.ok (test_after c.in_ok-test.test rest []) c.in_err-body.ensures.err)
+    c.from_residual-in_err-body.ensures.1
+
+pub repeated-returns-clause-ok : goal.repeated-returns-clause-ok
+repeated-returns-clause-ok t c =
+    let q = c.in_ok-test.test in
+    let b = c.in_ok-body.body in
+    record {
+      statement = While q b;
+      tokens = test_tokens q (token.OpenBrace ∷ body_tokens b []);
+      are = passed_append c.args.self.now (test_tokens q []) (token.OpenBrace ∷ body_tokens b []) c.test.new.self
+          c.block.new.self c.in_ok-test.ensures.ok c.in_ok-body.ensures.ok;
+      spelled = refl;
+      added = c.in_ok-push.ensures.ok;
+      behind = refl;
+    }
+
+pub atomic-block-requires : goal.atomic-block-requires
+atomic-block-requires t c = (
+  omega (
+    arith,
+    passed_shorter c.args.self.now c.takes_keyword.new.self token.All
+        (c.takes_keyword.ensures.taken c.if-takes_keyword.true),
+  ),
+  λ t rest s. refl,
+)
+
+pub atomic-returns-in_err-body-clause-err : goal.atomic-returns-in_err-body-clause-err
+atomic-returns-in_err-body-clause-err t c =
+    given c.from_residual.result
+    (λ s. StopsIn s (expected.AllOrBrace ∷ []) c.args.self.now c.block.new.self) c.in_err-body.field-0.0
+    (stops_behind _ expected.AllOrBrace token.All (expected.OpenBrace ∷ []) [] c.args.self.now
+    c.takes_keyword.new.self c.block.new.self
+    (c.takes_keyword.ensures.taken c.if-takes_keyword.true) refl c.in_err-body.ensures.err) c.from_residual.ensures.1
+
+pub atomic-returns-then-takes_keyword-clause-ok : goal.atomic-returns-then-takes_keyword-clause-ok
+atomic-returns-then-takes_keyword-clause-ok t c = record {
+  statement = Atomic locking.All c.in_ok-body.body;
+  tokens = token.All ∷ token.OpenBrace ∷ body_tokens c.in_ok-body.body [];
+  are = (c.takes_keyword.new.self, c.takes_keyword.ensures.taken c.if-takes_keyword.true, c.in_ok-body.ensures.ok);
+  spelled = refl;
+  added = c.in_ok-push.ensures.ok;
+  behind = refl;
+}
+
+pub atomic-block-requires-2 : goal.atomic-block-requires-2
+atomic-block-requires-2 t c =
+    let stays = c.takes_keyword.ensures.stays c.if-takes_keyword.false in (
+      omega (arith, ap (λ x. length x.here) stays),
+      subst (IsAlike expected.AllOrBrace expected.OpenBrace) (sym stays)
+          (alike_all c.args.self.now (c.takes_keyword.ensures.none c.if-takes_keyword.false)),
+    )
+
+pub atomic-returns-in_err-body-2-clause-err : goal.atomic-returns-in_err-body-2-clause-err
+atomic-returns-in_err-body-2-clause-err t c =
+    given c.from_residual-in_err-body-2.result
+    (λ s. StopsIn s (expected.AllOrBrace ∷ []) c.args.self.now c.block-2.new.self) c.in_err-body-2.field-0.0
+    (subst (λ x. StopsIn c.in_err-body-2.field-0.0 (expected.AllOrBrace ∷ []) x c.block-2.new.self)
+    (c.takes_keyword.ensures.stays c.if-takes_keyword.false) c.in_err-body-2.ensures.err)
+    c.from_residual-in_err-body-2.ensures.1
+
+pub atomic-returns-clause-ok : goal.atomic-returns-clause-ok
+atomic-returns-clause-ok t c =
+    let b = c.in_ok-body-2.body in
+    let tokens = token.OpenBrace ∷ body_tokens b [] in
+    record {
+      statement = Atomic locking.Inferred b;
+      tokens = tokens;
+      are = subst (λ x. ArePassed x tokens c.block-2.new.self) (c.takes_keyword.ensures.stays c.if-takes_keyword.false)
+          c.in_ok-body-2.ensures.ok;
+      spelled = refl;
+      added = c.in_ok-push-2.ensures.ok;
+      behind = refl;
+    }
+
+pub statement-returns-in_default-clause-err : goal.statement-returns-in_default-clause-err
+statement-returns-in_default-clause-err t c =
+    let same : c.self.inside.here.now ≡ c.args.self.now.here = grind arith in
+    stops_here (stop.At c.args.expected) c.args.expected [] c.args.self.now _ (
+      refl,
+      grind arith,
+      refused_bare c.args.expected c.args.self.now (subst IsBare same (rw c.in_default.is at c.token_at.ensures.none)),
+    )
+
+pub statement-returns-in_default-token : goal.statement-returns-in_default-token
+statement-returns-in_default-token t c =
+    let same : c.self.inside.here.now ≡ c.args.self.now.here = grind arith in
+    let stands = subst (λ x. Stands x c.token_at.new.token c.in-Some.rest.now) same c.in-Some.ensures.some in
+    record {
+      ok = tt;
+      alike = tt;
+      err = stops_here (stop.At c.args.expected) c.args.expected [] c.args.self.now c.args.self.now (
+        refl,
+        refl,
+        refused_by c.args.expected c.args.self.now c.in-Some.rest.now c.token_at.new.token stands
+            (alike_takes c.args.expected expected.Start c.token_at.new.token
+            (c.requires.alike c.token_at.new.token c.in-Some.rest.now stands)
+            ∙ not_start c.token_at.new.token c.args.self.now c.in-Some.rest.now stands c.requires.brace
+            c.in_default-token.not-Name c.in_default-token.not-If c.in_default-token.not-While
+            c.in_default-token.not-Print c.in_default-token.not-Atomic c.in_default-token.not-Call),
+      );
+    }
+
+pub statement-returns-in_err-named-in-Name-clause-err : goal.statement-returns-in_err-named-in-Name-clause-err
+statement-returns-in_err-named-in-Name-clause-err t c =
+    let same : c.self.inside.here.now ≡ c.args.self.now.here = grind arith in
+    let stands = subst (λ u. Stands c.args.self.now.here u c.in-Some.rest.now) c.in-Name.is
+    (subst (λ x. Stands x c.token_at.new.token c.in-Some.rest.now) same c.in-Some.ensures.some) in
+    given c.from_residual.result (λ s. StopsIn s (c.args.expected ∷ []) c.args.self.now c.named.new.self)
+    c.in_err-named-in-Name.field-0.0
+    (stops_behind _ c.args.expected (token.Name c.in-Name.x) (expected.AfterName ∷ expected.Start ∷ []) [] c.args.self.now _ c.named.new.self
+    (passed_calm (token.Name c.in-Name.x) c.args.self.now _ (λ k. refl) stands (grind arith))
+    (c.requires.alike (token.Name c.in-Name.x) c.in-Some.rest.now stands)
+    (stops_more _ (expected.AfterName ∷ []) (expected.Start ∷ []) _ c.named.new.self c.in_err-named-in-Name.ensures.err))
+    c.from_residual.ensures.1
+
+pub statement-returns-in_ok-named-in-Name-clause-ok : goal.statement-returns-in_ok-named-in-Name-clause-ok
+statement-returns-in_ok-named-in-Name-clause-ok t c =
+    let same : c.self.inside.here.now ≡ c.args.self.now.here = grind arith in
+    let stands = subst (λ u. Stands c.args.self.now.here u c.in-Some.rest.now) c.in-Name.is
+    (subst (λ x. Stands x c.token_at.new.token c.in-Some.rest.now) same c.in-Some.ensures.some) in
+    added_behind expected.Start [] (token.Name c.in-Name.x) c.args.self.now _ c.named.new.self c.args.block.now c.named.new.block
+    (passed_calm (token.Name c.in-Name.x) c.args.self.now _ (λ k. refl) stands (grind arith)) c.in_ok-named-in-Name.ensures.ok
+
+pub statement-returns-in_ok-named-in-Name-clause-alike : goal.statement-returns-in_ok-named-in-Name-clause-alike
+statement-returns-in_ok-named-in-Name-clause-alike t c = λ t rest s. refl
+
+pub statement-repeated-requires : goal.statement-repeated-requires
+statement-repeated-requires t c =
+    let same : c.self.inside.here.now ≡ c.args.self.now.here = grind arith in
+    let stands = subst (λ u. Stands c.args.self.now.here u c.in-Some.rest.now) c.in-While.is
+    (subst (λ x. Stands x c.token_at.new.token c.in-Some.rest.now) same c.in-Some.ensures.some) in
+    omega (arith, shorter c.args.self.now.here _ stands.count stands.lexed, ap length stands.behind)
+
+pub statement-returns-in_err-repeated-in-While-clause-err : goal.statement-returns-in_err-repeated-in-While-clause-err
+statement-returns-in_err-repeated-in-While-clause-err t c =
+    let same : c.self.inside.here.now ≡ c.args.self.now.here = grind arith in
+    let stands = subst (λ u. Stands c.args.self.now.here u c.in-Some.rest.now) c.in-While.is
+    (subst (λ x. Stands x c.token_at.new.token c.in-Some.rest.now) same c.in-Some.ensures.some) in
+    given c.from_residual-in_err-repeated-in-While.result (λ s. StopsIn s (c.args.expected ∷ []) c.args.self.now c.repeated.new.self)
+    c.in_err-repeated-in-While.field-0.0
+    (stops_behind _ c.args.expected (token.While) (test_places (expected.OpenBrace ∷ expected.Start ∷ [])) [] c.args.self.now _ c.repeated.new.self
+    (passed_calm (token.While) c.args.self.now _ (λ k. refl) stands (grind arith))
+    (c.requires.alike (token.While) c.in-Some.rest.now stands)
+    (stops_more _ (test_places (expected.OpenBrace ∷ [])) (expected.Start ∷ []) _ c.repeated.new.self c.in_err-repeated-in-While.ensures.err))
+    c.from_residual-in_err-repeated-in-While.ensures.1
+
+pub statement-returns-in_ok-repeated-in-While-clause-ok : goal.statement-returns-in_ok-repeated-in-While-clause-ok
+statement-returns-in_ok-repeated-in-While-clause-ok t c =
+    let same : c.self.inside.here.now ≡ c.args.self.now.here = grind arith in
+    let stands = subst (λ u. Stands c.args.self.now.here u c.in-Some.rest.now) c.in-While.is
+    (subst (λ x. Stands x c.token_at.new.token c.in-Some.rest.now) same c.in-Some.ensures.some) in
+    added_behind expected.Start [] (token.While) c.args.self.now _ c.repeated.new.self c.args.block.now c.repeated.new.block
+    (passed_calm (token.While) c.args.self.now _ (λ k. refl) stands (grind arith)) c.in_ok-repeated-in-While.ensures.ok
+
+pub statement-returns-in_ok-repeated-in-While-clause-alike : goal.statement-returns-in_ok-repeated-in-While-clause-alike
+statement-returns-in_ok-repeated-in-While-clause-alike t c = λ t rest s. refl
+
+pub statement-returns-in_err-printed-in-Print-clause-err : goal.statement-returns-in_err-printed-in-Print-clause-err
+statement-returns-in_err-printed-in-Print-clause-err t c =
+    let same : c.self.inside.here.now ≡ c.args.self.now.here = grind arith in
+    let stands = subst (λ u. Stands c.args.self.now.here u c.in-Some.rest.now) c.in-Print.is
+    (subst (λ x. Stands x c.token_at.new.token c.in-Some.rest.now) same c.in-Some.ensures.some) in
+    given c.from_residual-in_err-printed-in-Print.result (λ s. StopsIn s (c.args.expected ∷ []) c.args.self.now c.printed.new.self)
+    c.in_err-printed-in-Print.field-0.0
+    (stops_behind _ c.args.expected (token.Print) (expected.Operand ∷ expected.Semicolon ∷ expected.Start ∷ []) [] c.args.self.now _ c.printed.new.self
+    (passed_calm (token.Print) c.args.self.now _ (λ k. refl) stands (grind arith))
+    (c.requires.alike (token.Print) c.in-Some.rest.now stands)
+    (stops_more _ (expected.Operand ∷ expected.Semicolon ∷ []) (expected.Start ∷ []) _ c.printed.new.self c.in_err-printed-in-Print.ensures.err))
+    c.from_residual-in_err-printed-in-Print.ensures.1
+
+pub statement-returns-in_ok-printed-in-Print-clause-ok : goal.statement-returns-in_ok-printed-in-Print-clause-ok
+statement-returns-in_ok-printed-in-Print-clause-ok t c =
+    let same : c.self.inside.here.now ≡ c.args.self.now.here = grind arith in
+    let stands = subst (λ u. Stands c.args.self.now.here u c.in-Some.rest.now) c.in-Print.is
+    (subst (λ x. Stands x c.token_at.new.token c.in-Some.rest.now) same c.in-Some.ensures.some) in
+    added_behind expected.Start [] (token.Print) c.args.self.now _ c.printed.new.self c.args.block.now c.printed.new.block
+    (passed_calm (token.Print) c.args.self.now _ (λ k. refl) stands (grind arith)) c.in_ok-printed-in-Print.ensures.ok
+
+pub statement-returns-in_ok-printed-in-Print-clause-alike : goal.statement-returns-in_ok-printed-in-Print-clause-alike
+statement-returns-in_ok-printed-in-Print-clause-alike t c = λ t rest s. refl
+
+pub statement-atomic-requires : goal.statement-atomic-requires
+statement-atomic-requires t c =
+    let same : c.self.inside.here.now ≡ c.args.self.now.here = grind arith in
+    let stands = subst (λ u. Stands c.args.self.now.here u c.in-Some.rest.now) c.in-Atomic.is
+    (subst (λ x. Stands x c.token_at.new.token c.in-Some.rest.now) same c.in-Some.ensures.some) in
+    omega (arith, shorter c.args.self.now.here _ stands.count stands.lexed, ap length stands.behind)
+
+pub statement-returns-in_err-atomic-in-Atomic-clause-err : goal.statement-returns-in_err-atomic-in-Atomic-clause-err
+statement-returns-in_err-atomic-in-Atomic-clause-err t c =
+    let same : c.self.inside.here.now ≡ c.args.self.now.here = grind arith in
+    let stands = subst (λ u. Stands c.args.self.now.here u c.in-Some.rest.now) c.in-Atomic.is
+    (subst (λ x. Stands x c.token_at.new.token c.in-Some.rest.now) same c.in-Some.ensures.some) in
+    given c.from_residual-in_err-atomic-in-Atomic.result (λ s. StopsIn s (c.args.expected ∷ []) c.args.self.now c.atomic.new.self)
+    c.in_err-atomic-in-Atomic.field-0.0
+    (stops_behind _ c.args.expected (token.Atomic) (expected.AllOrBrace ∷ expected.Start ∷ []) [] c.args.self.now _ c.atomic.new.self
+    (passed_calm (token.Atomic) c.args.self.now _ (λ k. refl) stands (grind arith))
+    (c.requires.alike (token.Atomic) c.in-Some.rest.now stands)
+    (stops_more _ (expected.AllOrBrace ∷ []) (expected.Start ∷ []) _ c.atomic.new.self c.in_err-atomic-in-Atomic.ensures.err))
+    c.from_residual-in_err-atomic-in-Atomic.ensures.1
+
+pub statement-returns-in_ok-atomic-in-Atomic-clause-ok : goal.statement-returns-in_ok-atomic-in-Atomic-clause-ok
+statement-returns-in_ok-atomic-in-Atomic-clause-ok t c =
+    let same : c.self.inside.here.now ≡ c.args.self.now.here = grind arith in
+    let stands = subst (λ u. Stands c.args.self.now.here u c.in-Some.rest.now) c.in-Atomic.is
+    (subst (λ x. Stands x c.token_at.new.token c.in-Some.rest.now) same c.in-Some.ensures.some) in
+    added_behind expected.Start [] (token.Atomic) c.args.self.now _ c.atomic.new.self c.args.block.now c.atomic.new.block
+    (passed_calm (token.Atomic) c.args.self.now _ (λ k. refl) stands (grind arith)) c.in_ok-atomic-in-Atomic.ensures.ok
+
+pub statement-returns-in_ok-atomic-in-Atomic-clause-alike : goal.statement-returns-in_ok-atomic-in-Atomic-clause-alike
+statement-returns-in_ok-atomic-in-Atomic-clause-alike t c = λ t rest s. refl
+
+pub statement-returns-in_err-called-in-Call-clause-err : goal.statement-returns-in_err-called-in-Call-clause-err
+statement-returns-in_err-called-in-Call-clause-err t c =
+    let same : c.self.inside.here.now ≡ c.args.self.now.here = grind arith in
+    let stands = subst (λ u. Stands c.args.self.now.here u c.in-Some.rest.now) c.in-Call.is
+    (subst (λ x. Stands x c.token_at.new.token c.in-Some.rest.now) same c.in-Some.ensures.some) in
+    given c.from_residual-in_err-called-in-Call.result (λ s. StopsIn s (c.args.expected ∷ []) c.args.self.now c.called.new.self)
+    c.in_err-called-in-Call.field-0.0
+    (stops_behind _ c.args.expected (token.Call) (expected.Name ∷ expected.OpenParen ∷ expected.Argument ∷ expected.Semicolon ∷ expected.Start ∷ []) [] c.args.self.now _ c.called.new.self
+    (passed_calm (token.Call) c.args.self.now _ (λ k. refl) stands (grind arith))
+    (c.requires.alike (token.Call) c.in-Some.rest.now stands)
+    (stops_more _ (expected.Name ∷ expected.OpenParen ∷ expected.Argument ∷ expected.Semicolon ∷ []) (expected.Start ∷ []) _ c.called.new.self c.in_err-called-in-Call.ensures.err))
+    c.from_residual-in_err-called-in-Call.ensures.1
+
+pub statement-returns-in_ok-called-in-Call-clause-ok : goal.statement-returns-in_ok-called-in-Call-clause-ok
+statement-returns-in_ok-called-in-Call-clause-ok t c =
+    let same : c.self.inside.here.now ≡ c.args.self.now.here = grind arith in
+    let stands = subst (λ u. Stands c.args.self.now.here u c.in-Some.rest.now) c.in-Call.is
+    (subst (λ x. Stands x c.token_at.new.token c.in-Some.rest.now) same c.in-Some.ensures.some) in
+    added_behind expected.Start [] (token.Call) c.args.self.now _ c.called.new.self c.args.block.now c.called.new.block
+    (passed_calm (token.Call) c.args.self.now _ (λ k. refl) stands (grind arith)) c.in_ok-called-in-Call.ensures.ok
+
+pub statement-returns-in_ok-called-in-Call-clause-alike : goal.statement-returns-in_ok-called-in-Call-clause-alike
+statement-returns-in_ok-called-in-Call-clause-alike t c = λ t rest s. refl
+
+pub statement-branch-self-requires : goal.statement-branch-self-requires
+statement-branch-self-requires t c =
+    let same : c.self.inside.here.now ≡ c.args.self.now.here = grind arith in
+    let stands = subst (λ u. Stands c.args.self.now.here u c.in-Some.rest.now) c.in-If.is
+    (subst (λ x. Stands x c.token_at.new.token c.in-Some.rest.now) same c.in-Some.ensures.some) in
+    omega (arith, shorter c.args.self.now.here _ stands.count stands.lexed, ap length stands.behind)
+
+pub statement-returns-in-If-clause-ok : goal.statement-returns-in-If-clause-ok
+statement-returns-in-If-clause-ok t c =
+    let same : c.self.inside.here.now ≡ c.args.self.now.here = grind arith in
+    let stands = subst (λ u. Stands c.args.self.now.here u c.in-Some.rest.now) c.in-If.is
+    (subst (λ x. Stands x c.token_at.new.token c.in-Some.rest.now) same c.in-Some.ensures.some) in
+    IfOk-weaker c.branch-self.result _
+    (λ e. HasAdded e [] c.args.self.now c.branch-self.new.self c.args.block.now c.branch-self.new.block)
+    (λ e h. added_behind e [] token.If c.args.self.now _ c.branch-self.new.self c.args.block.now c.branch-self.new.block
+    (passed_calm token.If c.args.self.now _ (λ k. refl) stands (grind arith)) h) c.branch-self.ensures.ok
+
+pub statement-returns-in-If-clause-alike : goal.statement-returns-in-If-clause-alike
+statement-returns-in-If-clause-alike t c = c.branch-self.ensures.alike
+
+pub statement-returns-in-If-clause-err : goal.statement-returns-in-If-clause-err
+statement-returns-in-If-clause-err t c =
+    let same : c.self.inside.here.now ≡ c.args.self.now.here = grind arith in
+    let stands = subst (λ u. Stands c.args.self.now.here u c.in-Some.rest.now) c.in-If.is
+    (subst (λ x. Stands x c.token_at.new.token c.in-Some.rest.now) same c.in-Some.ensures.some) in
+    IfErr-weaker c.branch-self.result _ (λ s. StopsIn s (c.args.expected ∷ []) c.args.self.now c.branch-self.new.self)
+    (λ s h. stops_behind s c.args.expected token.If (test_places (expected.OpenBrace ∷ expected.StartOrElse ∷ [])) []
+    c.args.self.now _ c.branch-self.new.self (passed_calm token.If c.args.self.now _ (λ k. refl) stands (grind arith))
+    (c.requires.alike token.If c.in-Some.rest.now stands) h) c.branch-self.ensures.err
+
+pub statements-read-init : goal.statements-read-init
+statements-read-init t c = record {
+  are = subst (λ b. ArePassed c.args.self.now (block_tokens b []) c.args.self.now) (sym c.new-block.ensures) refl;
+  next = subst (λ b. after (expected.Start ∷ []) (block_tokens b []) ≡ Some (expected.Start ∷ []))
+      (sym c.new-block.ensures) refl;
+  alike = λ t rest s. refl;
+}
+
+pub statements-statement-requires : goal.statements-statement-requires
+statements-statement-requires t c =
+    let going : c.takes_close.result ≡ false = grind arith in
+    let stays = c.takes_close.ensures.stays going in (
+      omega (
+        arith,
+        ap (λ x. length x.here) stays,
+        no_longer c.args.self.now (block_tokens c.read.block []) c.read.self c.read.invariant.are,
+      ),
+      (
+        subst (IsAlike c.read.expected expected.Start) (sym stays) c.read.invariant.alike,
+        subst (IsAbsent token.CloseBrace) (sym stays) (c.takes_close.ensures.none going),
+      ),
+    )
+
+pub statements-returns-in_err-expected-clause-err : goal.statements-returns-in_err-expected-clause-err
+statements-returns-in_err-expected-clause-err t c =
+    let going : c.takes_close.result ≡ false = grind arith in
+    let stays = c.takes_close.ensures.stays going in
+    given c.from_residual.result (λ s. StopsIn s (expected.Start ∷ []) c.args.self.now c.statement.new.self)
+    c.in_err-expected.field-0.0
+    (stops_after _ (expected.Start ∷ []) (c.read.expected ∷ []) (block_tokens c.read.block []) c.args.self.now
+    c.takes_close.new.self c.statement.new.self
+    (subst (ArePassed c.args.self.now (block_tokens c.read.block [])) (sym stays) c.read.invariant.are)
+    c.read.invariant.next c.in_err-expected.ensures.err) c.from_residual.ensures.1
+
+pub statements-read-smaller : goal.statements-read-smaller
+statements-read-smaller t c =
+    let going : c.takes_close.result ≡ false = grind arith in
+    omega (
+      arith,
+      ap (λ x. length x.here) (c.takes_close.ensures.stays going),
+      added_shorter c.in_ok-expected.expected c.takes_close.new.self c.statement.new.self c.read.block
+          c.statement.new.block c.in_ok-expected.ensures.ok,
+    )
+
+pub statements-read-preserved : goal.statements-read-preserved
+statements-read-preserved t c =
+    let going : c.takes_close.result ≡ false = grind arith in
+    let stays = c.takes_close.ensures.stays going in
+    let e = c.in_ok-expected.expected in
+    record {
+      are = added_are [] c.args.self.now c.takes_close.new.self c.statement.new.self c.read.block c.statement.new.block e
+          (subst (ArePassed c.args.self.now (block_tokens c.read.block [])) (sym stays) c.read.invariant.are)
+          c.in_ok-expected.ensures.ok;
+      next = added_leads (expected.Start ∷ []) [] c.takes_close.new.self c.statement.new.self c.read.block
+          c.statement.new.block c.read.expected e c.read.invariant.next
+          (subst (IsAlike c.read.expected expected.Start) (sym stays) c.read.invariant.alike)
+          c.in_ok-expected.ensures.ok;
+      alike = c.in_ok-expected.ensures.alike;
+    }
+
+pub statements-returns-clause-ok : goal.statements-returns-clause-ok
+statements-returns-clause-ok t c =
+    let done : c.takes_close.result ≡ true = grind arith in
+    subst (λ b. ArePassed c.args.self.now (body_tokens b []) c.takes_close.new.self) (sym c.fit.ensures)
+    (subst (λ ts. ArePassed c.args.self.now ts c.takes_close.new.self)
+    (block_behind c.read.block [] (token.CloseBrace ∷ []))
+    (passed_append c.args.self.now (block_tokens c.read.block []) (token.CloseBrace ∷ []) c.read.self
+    c.takes_close.new.self c.read.invariant.are
+    (c.takes_close.new.self, c.takes_close.ensures.taken done, refl)))

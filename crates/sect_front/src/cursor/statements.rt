@@ -1,0 +1,339 @@
+//! Statements, by one function for each rule of the grammar.
+
+ghost use Rattle.std.specs.Prelude.{◌∷◌, [], IfOk, IfErr};
+ghost use Rattle.sect_front.specs.{Grammar.{operand_token}, Tokens.{test_tokens, operands_tokens, block_tokens}};
+ghost use Rattle.sect_front.specs.declared.token.Token.{Token as AToken};
+ghost use Rattle.sect_front.specs.steps.Places.{test_places, store_places};
+ghost use Rattle.sect_front.specs.steps.Passing.{ArePassed, IsAbsent, IsAlike, StopsIn, HasAdded};
+
+use crate::cursor::{Cursor, Keyword, Stop, token_at};
+use crate::expected::Expected;
+use crate::items::Items;
+use crate::name::Name;
+use crate::token::Token;
+use crate::tree::{Block, Locking, Operand, Primitive, Statement, Test};
+use std::alloc::Global;
+
+impl<'a> Cursor<'a> {
+    /// test = "(" operand cmp operand ")"
+    fn test(&mut self) -> Result<Test, Stop>
+        ensures ok { IfOk result (λ t. ArePassed self.old (test_tokens t []) self.new) }
+        ensures err { IfErr result (λ stop. StopsIn stop (test_places []) self.old self.new) }
+    {
+        self.sign(b'(', Expected::OpenParen)?;
+        let left = self.operand()?;
+        let comparison = self.comparison()?;
+        let right = self.operand()?;
+        self.sign(b')', Expected::CloseParen)?;
+        Ok(Test {
+            left,
+            comparison,
+            right,
+        })
+    }
+
+    /// Reads the statement that has a target, `=`, a base and `.` before it.
+    fn load(&mut self, x: &Name, y: &Name, block: &mut Block) -> Result<(), Stop>
+        ensures ok { IfOk result (λ _. HasAdded Expected.Start
+            (AToken.Name x.now ∷ AToken.Equal ∷ AToken.Name y.now ∷ AToken.Dot ∷ [])
+            self.old self.new block.old block.new) }
+        ensures err { IfErr result (λ stop. StopsIn stop (Expected.Name ∷ Expected.Semicolon ∷ [])
+            self.old self.new) }
+    {
+        let f = self.name()?;
+        self.sign(b';', Expected::Semicolon)?;
+        block.push(Statement::Primitive(Primitive::Load(*x, *y, f)))?;
+        Ok(())
+    }
+
+    /// Reads the statement that has a target, `=` and `new` before it.
+    fn made(&mut self, x: &Name, block: &mut Block) -> Result<(), Stop>
+        ensures ok { IfOk result (λ _. HasAdded Expected.Start
+            (AToken.Name x.now ∷ AToken.Equal ∷ AToken.New ∷ []) self.old self.new block.old block.new) }
+        ensures err { IfErr result (λ stop. StopsIn stop (Expected.Name ∷ Expected.Semicolon ∷ [])
+            self.old self.new) }
+    {
+        let r = self.name()?;
+        self.sign(b';', Expected::Semicolon)?;
+        block.push(Statement::Primitive(Primitive::New(*x, r)))?;
+        Ok(())
+    }
+
+    /// Reads the statement that has a base and `.` before it.
+    pub fn store(&mut self, y: &Name, block: &mut Block) -> Result<(), Stop>
+        ensures ok { IfOk result (λ _. HasAdded Expected.Start (AToken.Name y.now ∷ AToken.Dot ∷ [])
+            self.old self.new block.old block.new) }
+        ensures err { IfErr result (λ stop. StopsIn stop (store_places []) self.old self.new) }
+    {
+        let f = self.name()?;
+        if !self.takes_equal() {
+            return Err(Stop::At(Expected::Equal));
+        }
+        let v = self.operand()?;
+        self.sign(b';', Expected::Semicolon)?;
+        block.push(Statement::Primitive(Primitive::Store(*y, f, v)))?;
+        Ok(())
+    }
+
+    /// Reads the statement that has a target, `=` and an operand before it, where this may stand.
+    #[inline(always)]
+    fn computed(
+        &mut self,
+        x: &Name,
+        v: &Operand,
+        expected: Expected,
+        block: &mut Block,
+    ) -> Result<(), Stop>
+        requires alike { IsAlike expected Expected.AfterFirst self.old }
+        ensures ok { IfOk result (λ _. HasAdded Expected.Start
+            (AToken.Name x.now ∷ AToken.Equal ∷ operand_token v.now ∷ []) self.old self.new block.old block.new) }
+        ensures err { IfErr result (λ stop. StopsIn stop (expected ∷ []) self.old self.new) }
+    {
+        if self.takes(b';') {
+            block.push(Statement::Primitive(Primitive::Assign(*x, *v)))?;
+            return Ok(());
+        }
+        let Some(o) = self.takes_operator() else {
+            return Err(Stop::At(expected));
+        };
+        let w = self.operand()?;
+        self.sign(b';', Expected::Semicolon)?;
+        block.push(Statement::Primitive(Primitive::Compute(*x, *v, o, w)))?;
+        Ok(())
+    }
+
+    /// Reads the statement that has a target, `=` and a name before it.
+    #[inline(always)]
+    fn first_name(&mut self, x: &Name, y: &Name, block: &mut Block) -> Result<(), Stop>
+        ensures ok { IfOk result (λ _. HasAdded Expected.Start
+            (AToken.Name x.now ∷ AToken.Equal ∷ AToken.Name y.now ∷ []) self.old self.new block.old block.new) }
+        ensures err { IfErr result (λ stop. StopsIn stop (Expected.AfterFirstName ∷ []) self.old self.new) }
+    {
+        if self.takes(b'.') {
+            return self.load(x, y, block);
+        }
+        self.computed(x, &Operand::Name(*y), Expected::AfterFirstName, block)
+    }
+
+    /// Reads the statement that has a target and `=` before it.
+    pub fn value(&mut self, x: &Name, block: &mut Block) -> Result<(), Stop>
+        ensures ok { IfOk result (λ _. HasAdded Expected.Start (AToken.Name x.now ∷ AToken.Equal ∷ [])
+            self.old self.new block.old block.new) }
+        ensures err { IfErr result (λ stop. StopsIn stop (Expected.Value ∷ []) self.old self.new) }
+    {
+        let mut token = Token::Class;
+        let Some(rest) = token_at(self.here, &mut token) else {
+            return Err(Stop::At(Expected::Value));
+        };
+        match &token {
+            Token::Name(y) => {
+                self.here = rest;
+                self.first_name(x, y, block)
+            }
+            Token::New => {
+                self.here = rest;
+                self.made(x, block)
+            }
+            Token::Number(n) => {
+                self.here = rest;
+                self.computed(x, &Operand::Number(*n), Expected::AfterFirst, block)
+            }
+            Token::Null => {
+                self.here = rest;
+                self.computed(x, &Operand::Null, Expected::AfterFirst, block)
+            }
+            _ => Err(Stop::At(Expected::Value)),
+        }
+    }
+
+    /// Reads the statement that has a name before it.
+    #[inline(always)]
+    fn named(&mut self, x: &Name, block: &mut Block) -> Result<(), Stop>
+        ensures ok { IfOk result (λ _. HasAdded Expected.Start (AToken.Name x.now ∷ [])
+            self.old self.new block.old block.new) }
+        ensures err { IfErr result (λ stop. StopsIn stop (Expected.AfterName ∷ []) self.old self.new) }
+    {
+        if self.takes_equal() {
+            return self.value(x, block);
+        }
+        if self.takes(b'.') {
+            return self.store(x, block);
+        }
+        Err(Stop::At(Expected::AfterName))
+    }
+
+    /// Reads the statement that has `print` before it.
+    fn printed(&mut self, block: &mut Block) -> Result<(), Stop>
+        ensures ok { IfOk result (λ _. HasAdded Expected.Start (AToken.Print ∷ [])
+            self.old self.new block.old block.new) }
+        ensures err { IfErr result (λ stop. StopsIn stop (Expected.Operand ∷ Expected.Semicolon ∷ [])
+            self.old self.new) }
+    {
+        let v = self.operand()?;
+        self.sign(b';', Expected::Semicolon)?;
+        block.push(Statement::Primitive(Primitive::Print(v)))?;
+        Ok(())
+    }
+
+    /// [operand {"," operand}] ")"
+    fn arguments(&mut self, alloc: Global) -> Result<Items<Operand>, Stop>
+        ensures ok { IfOk result (λ vs. ArePassed self.old (operands_tokens vs (AToken.CloseParen ∷ [])) self.new) }
+        ensures err { IfErr result (λ stop. StopsIn stop (Expected.Argument ∷ []) self.old self.new) }
+    {
+        let mut values = Items::new(alloc);
+        if self.takes(b')') {
+            return Ok(values);
+        }
+        let Some(first) = self.takes_operand() else {
+            return Err(Stop::At(Expected::Argument));
+        };
+        values.push(first)?;
+        'more: while !self.takes(b')') {
+            if !self.takes(b',') {
+                return Err(Stop::At(Expected::AfterArgument));
+            }
+            let next = self.operand()?;
+            values.push(next)?;
+        }
+        Ok(values)
+    }
+
+    /// Reads the statement that has `call` before it.
+    fn called(&mut self, alloc: Global, block: &mut Block) -> Result<(), Stop>
+        ensures ok { IfOk result (λ _. HasAdded Expected.Start (AToken.Call ∷ [])
+            self.old self.new block.old block.new) }
+        ensures err { IfErr result (λ stop. StopsIn stop
+            (Expected.Name ∷ Expected.OpenParen ∷ Expected.Argument ∷ Expected.Semicolon ∷ []) self.old self.new) }
+    {
+        let f = self.name()?;
+        self.sign(b'(', Expected::OpenParen)?;
+        let values = self.arguments(alloc)?;
+        self.sign(b';', Expected::Semicolon)?;
+        block.push(Statement::Call(f, values))?;
+        Ok(())
+    }
+
+    /// "{" {stmt} "}", where this may stand
+    #[cycle(statements)]
+    fn block(&mut self, alloc: Global, expected: Expected) -> Result<Block, Stop>
+        requires alike { IsAlike expected Expected.OpenBrace self.old }
+        ensures ok { IfOk result (λ b. ArePassed self.old
+            (AToken.OpenBrace ∷ block_tokens b (AToken.CloseBrace ∷ [])) self.new) }
+        ensures err { IfErr result (λ stop. StopsIn stop (expected ∷ []) self.old self.new) }
+    {
+        self.open_brace(expected)?;
+        self.statements(alloc)
+    }
+
+    /// Reads the `if` behind its word. Gives the place behind it.
+    #[cycle(statements)]
+    fn branch(&mut self, alloc: Global, block: &mut Block) -> Result<Expected, Stop>
+        ensures ok { IfOk result (λ e. HasAdded e (AToken.If ∷ []) self.old self.new block.old block.new) }
+        ensures alike { IfOk result (λ e. IsAlike e Expected.Start self.new) }
+        ensures err { IfErr result (λ stop. StopsIn stop
+            (test_places (Expected.OpenBrace ∷ Expected.StartOrElse ∷ [])) self.old self.new) }
+    {
+        let test = self.test()?;
+        let then = self.block(alloc, Expected::OpenBrace)?;
+        if self.takes_keyword(Keyword::Else) {
+            let other = self.block(alloc, Expected::OpenBrace)?;
+            block.push(Statement::IfElse(test, then, other))?;
+            return Ok(Expected::Start);
+        }
+        block.push(Statement::If(test, then))?;
+        Ok(Expected::StartOrElse)
+    }
+
+    /// Reads the `while` behind its word.
+    #[cycle(statements)]
+    fn repeated(&mut self, alloc: Global, block: &mut Block) -> Result<(), Stop>
+        ensures ok { IfOk result (λ _. HasAdded Expected.Start (AToken.While ∷ [])
+            self.old self.new block.old block.new) }
+        ensures err { IfErr result (λ stop. StopsIn stop (test_places (Expected.OpenBrace ∷ [])) self.old self.new) }
+    {
+        let test = self.test()?;
+        let body = self.block(alloc, Expected::OpenBrace)?;
+        block.push(Statement::While(test, body))?;
+        Ok(())
+    }
+
+    /// Reads the `atomic` behind its word.
+    #[cycle(statements)]
+    fn atomic(&mut self, alloc: Global, block: &mut Block) -> Result<(), Stop>
+        ensures ok { IfOk result (λ _. HasAdded Expected.Start (AToken.Atomic ∷ [])
+            self.old self.new block.old block.new) }
+        ensures err { IfErr result (λ stop. StopsIn stop (Expected.AllOrBrace ∷ []) self.old self.new) }
+    {
+        if self.takes_keyword(Keyword::All) {
+            let body = self.block(alloc, Expected::OpenBrace)?;
+            block.push(Statement::Atomic(Locking::All, body))?;
+            return Ok(());
+        }
+        let body = self.block(alloc, Expected::AllOrBrace)?;
+        block.push(Statement::Atomic(Locking::Inferred, body))?;
+        Ok(())
+    }
+
+    /// Reads a statement, where this may stand. Gives the place behind it.
+    #[cycle(statements)]
+    pub fn statement(
+        &mut self,
+        alloc: Global,
+        expected: Expected,
+        block: &mut Block,
+    ) -> Result<Expected, Stop>
+        requires alike { IsAlike expected Expected.Start self.old }
+        requires brace { IsAbsent AToken.CloseBrace self.old }
+        ensures ok { IfOk result (λ e. HasAdded e [] self.old self.new block.old block.new) }
+        ensures alike { IfOk result (λ e. IsAlike e Expected.Start self.new) }
+        ensures err { IfErr result (λ stop. StopsIn stop (expected ∷ []) self.old self.new) }
+    {
+        let mut token = Token::Class;
+        let Some(rest) = token_at(self.here, &mut token) else {
+            return Err(Stop::At(expected));
+        };
+        match &token {
+            Token::Name(x) => {
+                self.here = rest;
+                self.named(x, block)?;
+            }
+            Token::If => {
+                self.here = rest;
+                return self.branch(alloc, block);
+            }
+            Token::While => {
+                self.here = rest;
+                self.repeated(alloc, block)?;
+            }
+            Token::Print => {
+                self.here = rest;
+                self.printed(block)?;
+            }
+            Token::Atomic => {
+                self.here = rest;
+                self.atomic(alloc, block)?;
+            }
+            Token::Call => {
+                self.here = rest;
+                self.called(alloc, block)?;
+            }
+            _ => return Err(Stop::At(expected)),
+        }
+        Ok(Expected::Start)
+    }
+
+    /// {stmt} "}"
+    #[cycle(statements)]
+    fn statements(&mut self, alloc: Global) -> Result<Block, Stop>
+        ensures ok { IfOk result (λ b. ArePassed self.old (block_tokens b (AToken.CloseBrace ∷ [])) self.new) }
+        ensures err { IfErr result (λ stop. StopsIn stop (Expected.Start ∷ []) self.old self.new) }
+    {
+        let mut block = Block::new(alloc);
+        let mut expected = Expected::Start;
+        'read: while !self.takes_close() {
+            expected = self.statement(alloc, expected, &mut block)?;
+        }
+        block.fit();
+        Ok(block)
+    }
+}

@@ -1,10 +1,11 @@
 -- One more statement is read.
-use Rattle.std.proofs.Common.{◌≡◌, ◌≢◌, ℕ, ◌<◌, List, [], ◌∷◌, ◌++◌, Option, Some, option_and_then, length, refl, sym, ◌∙◌}
+use Rattle.std.proofs.Common.{◌≡◌, ◌≢◌, ◌<◌, List, [], ◌∷◌, ◌++◌, Some, option_and_then, length, refl, sym}
+use Rattle.std.proofs.Common.{◌∙◌}
 use Rattle.std.proofs.Common.{ap, subst, append_assoc}
 use Rattle.sect_front.specs.Syntax.{StatementView, BlockView, Primitive, If, IfElse, While, Atomic, Call}
 use Rattle.sect_front.specs.{Tokens.{statement_tokens, block_tokens}, Trees.{append}}
 use Rattle.sect_front.specs.{declared.token.Token.{Token}, declared.expected.Expected.{Expected}}
-use Rattle.sect_front.specs.steps.Places.{follows, after}
+use Rattle.sect_front.specs.steps.Places.{after}
 use Rattle.sect_front.specs.steps.Passing.{CursorView, ArePassed, IsAlike, HasAdded}
 use Rattle.sect_front.proofs.{Leading.{after_then, statement_after}, Growing.{block_behind, block_grow}}
 use Rattle.sect_front.proofs.Stopping.{passed_append, are_shorter}

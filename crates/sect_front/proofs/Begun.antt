@@ -1,7 +1,8 @@
 -- One more local or statement of a body is read.
-use Rattle.std.proofs.Common.{◌≡◌, ◌≢◌, ℕ, ◌<◌, List, [], ◌∷◌, ◌++◌, Some, length, refl, sym, ◌∙◌, ap, subst, append_assoc}
-use Rattle.sect_front.specs.Syntax.{StatementView, BlockView, Primitive, If, IfElse, While, Atomic, Call, End, Then}
-use Rattle.sect_front.specs.{Tokens.{block_tokens, declarations_tokens, statement_tokens}, Trees.{append}}
+use Rattle.std.proofs.Common.{◌≡◌, ◌≢◌, ℕ, ◌<◌, List, [], ◌∷◌, ◌++◌, Some, length, refl, sym, ◌∙◌, ap, subst}
+use Rattle.std.proofs.Common.{append_assoc}
+use Rattle.sect_front.specs.Syntax.{StatementView, BlockView, Primitive, If, IfElse, While, Atomic, Call}
+use Rattle.sect_front.specs.{Tokens.{block_tokens, declarations_tokens, statement_tokens}}
 use Rattle.sect_front.specs.{declared.token.Token.{Token}, declared.tree.Declaration.{Declaration}}
 use Rattle.sect_front.specs.{declared.expected.Expected.{Expected}, steps.Places.{after}, steps.Declaring.{HasBegun}}
 use Rattle.sect_front.specs.steps.Passing.{CursorView, Passes, ArePassed, IsAlike, HasAdded, place_behind}

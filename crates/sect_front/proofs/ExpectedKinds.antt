@@ -1,13 +1,15 @@
 -- Which kinds may stand at a place.
-use Rattle.std.proofs.Common.{◌≡◌, ℕ, ◌+◌, ◌-◌, ◌<◌, ◌≤◌, Bool, true, false, List, [], ◌∷◌, ◌++◌, Some, suc, length, take}
+use Rattle.std.proofs.Common.{◌≡◌, ℕ, ◌+◌, ◌-◌, ◌<◌, ◌≤◌, Bool, true, false, List, [], ◌∷◌, ◌++◌, Some, suc, length}
+use Rattle.std.proofs.Common.{take}
 use Rattle.std.proofs.Common.{drop, refl, sym, ◌∙◌, ap, subst, arith, length-drop, append-nil}
 use Rattle.std.proofs.{lemmas.List.Elements.{filter-append}, lemmas.Bool.Decides.{nat_tests}, Math.Seq.{take-suc}}
 use Rattle.std.proofs.lemmas.Bool.{lt-ltb}
 use Rattle.std.specs.{Prelude.{⊤, get_or, filter, nat_lt, take_while, cond, codes}, List.{prefix_len}}
 use Rattle.sect_front.specs.{Gaps.{after_gap}, Lexing.{Reaches}, TokenAt.{TokenAt}, Faults.{tokens_in, IsViable}}
-use Rattle.sect_front.specs.Expected.{kind_of, all_kinds, MayFollow, AreExpected, AreExpectedAt, tokens_before}
+use Rattle.sect_front.specs.Expected.{kind_of, all_kinds, AreExpected, AreExpectedAt, tokens_before}
 use Rattle.sect_front.specs.{Samples.{sample_of}, declared.token.Token.{Token}, declared.expected.Expected.{Expected}}
-use Rattle.sect_front.specs.{declared.token_kind.TokenKind.{TokenKind}, steps.{Places.{takes, after}, Kinds.{takes_kind}}}
+use Rattle.sect_front.specs.declared.token_kind.TokenKind.{TokenKind}
+use Rattle.sect_front.specs.steps.{Places.{takes, after}, Kinds.{takes_kind}}
 use Rattle.sect_front.specs.steps.Passing.{CursorView}
 use Rattle.sect_front.proofs.{Lexemes.{lexeme_only, pair}, Texts.{ReadTo}, Verdict.{start, viable_with, not_viable}}
 use Rattle.sect_front.proofs.shared.Lexings.{gap_fits}

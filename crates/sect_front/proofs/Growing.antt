@@ -90,7 +90,8 @@ pub parameters_grow : (ds : List Declaration) → ds ≢ [] → (k : Kind) (n : 
     → parameters_tokens (ds ++ record { kind = k; name = n } ∷ []) w
     ≡ parameters_tokens ds (token.Comma ∷ kind_token k ∷ token.Name n ∷ w)
 parameters_grow [] some k n w = absurd (some refl)
-parameters_grow (d ∷ ds) some k n w = ap (λ x. kind_token d.kind ∷ token.Name d.name ∷ x) (more_parameters_grow ds k n w)
+parameters_grow (d ∷ ds) some k n w = ap (λ x. kind_token d.kind ∷ token.Name d.name ∷ x)
+    (more_parameters_grow ds k n w)
 
 pub list_after : (ds : List Declaration) → ds ≢ [] → (ps : List Expected) (w : List Token)
     → after (expected.Parameter ∷ ps) (parameters_tokens ds w) ≡ after (expected.AfterParameter ∷ ps) w

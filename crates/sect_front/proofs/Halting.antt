@@ -1,23 +1,25 @@
 -- Where the reading of a text stops.
-use Rattle.std.proofs.Common.{◌≡◌, ◌≢◌, ℕ, ◌+◌, ◌-◌, ◌<◌, ◌≤◌, true, false, List, [], ◌∷◌, ◌++◌, Some, None, length, drop}
+use Rattle.std.proofs.Common.{◌≡◌, ◌≢◌, ℕ, ◌+◌, ◌-◌, true, List, [], ◌∷◌, ◌++◌, Some, None, length}
+use Rattle.std.proofs.Common.{drop}
 use Rattle.std.proofs.Common.{refl, sym, ◌∙◌, ap, subst, arith, append-nil, option_and_then}
 use Rattle.std.specs.Prelude.{filter}
 use Rattle.sect_front.specs.{Lexing.{Spells, IsBadAt}, TokenAt.{TokenAt}, Gaps.{after_gap}, Expected.{all_kinds}}
 use Rattle.sect_front.specs.{TreeView.{TreeView}, Tokens.{source_tokens}, Faults.{IsTree}}
-use Rattle.sect_front.specs.{Faults.{IsUnexpectedAt, IsTooDeepAt, IsUnfinished}, FaultPlaces.{span_from, token_span}}
+use Rattle.sect_front.specs.{Faults.{IsUnexpectedAt, IsTooDeepAt, IsUnfinished}, FaultPlaces.{span_from}}
 use Rattle.sect_front.specs.Expected.{AreExpectedAt}
 use Rattle.sect_front.specs.{Braces.{brace}, declared.token.Token.{Token}, declared.expected.Expected.{Expected}}
 use Rattle.sect_front.specs.{declared.cursor.Stop.{Stop}, declared.token_kind.TokenKind.{TokenKind}}
 use Rattle.sect_front.specs.steps.{Lexeme.{lexeme_of}, Places.{follows, takes, after}, Kinds.{takes_kind}}
-use Rattle.sect_front.specs.steps.Passing.{CursorView, Passes, ArePassed, IsRefused, IsDeep, StopsIn, text_start}
+use Rattle.sect_front.specs.steps.Passing.{CursorView, ArePassed, IsRefused, IsDeep, StopsIn, text_start}
 use Rattle.sect_front.specs.steps.Declaring.{Halts, Starved, Before, Within, StopsText}
 use Rattle.sect_front.specs.steps.Verdicts.{Reached, Spelling, SpellingAt}
 use Rattle.sect_front.proofs.{Verdict.{start}, Leading.{after_then, after_more}, Reach.{reached_more, bad_at}}
-use Rattle.sect_front.proofs.Texts.{ReadTo, read_so, token_here, span_here, unfinished_at, unexpected_at, too_deep_at, tree_at}
-use Rattle.sect_front.proofs.{ExpectedKinds.{kinds_expected}, Stopping.{stops_after, stops_here, stops_more, same_token}}
+use Rattle.sect_front.proofs.Texts.{ReadTo, read_so, token_here, span_here, unfinished_at, unexpected_at, too_deep_at}
+use Rattle.sect_front.proofs.Texts.{tree_at}
+use Rattle.sect_front.proofs.ExpectedKinds.{kinds_expected}
+use Rattle.sect_front.proofs.Stopping.{stops_after, stops_here, stops_more, same_token}
 use Rattle.sect_front.proofs.Stopping.{passed_append}
 use Rattle.sect_front.specs.declared.token.Token.TheVariants as token
-use Rattle.sect_front.specs.declared.expected.Expected.TheVariants as expected
 use Rattle.sect_front.specs.declared.cursor.Stop.TheVariants as stop
 
 -- one token from a place on
@@ -76,7 +78,8 @@ unfinished_text bytes e there h none = go h.halts
         ∙ after_more ps (d ∷ []) r.0.passed (e ∷ r.0.rest) r.0.next) in
         unfinished_at bytes there front e d r.0.rest (read_so bytes there front (passed (next, p, r.0.are))) leads none
       where
-        passed : ArePassed h.mid (t ∷ r.0.passed) there → ArePassed (text_start bytes) (h.tokens ++ t ∷ r.0.passed) there
+        passed : ArePassed h.mid (t ∷ r.0.passed) there → ArePassed (text_start bytes) (h.tokens ++ t ∷ r.0.passed)
+            there
         passed are = passed_append (text_start bytes) h.tokens (t ∷ r.0.passed) h.mid there h.are are
 
 -- no token stands where the reading stopped
@@ -118,7 +121,8 @@ too_deep_text bytes e there t n h deep lexed behind spells =
     let more : brace there.braces token.OpenBrace ≡ 33 = omega (arith, deep.most, h.read.low) in
     subst (λ s. SpellingAt bytes s IsTooDeepAt) (sym span.0)
     (too_deep_at bytes there h.front e h.rest (token_here bytes there.here t) h.read h.leads
-    (subst (λ u. takes e u ≡ true) same deep.may) (subst (λ u. brace there.braces u ≡ 33) same more) span.1 behind spells)
+    (subst (λ u. takes e u ≡ true) same deep.may) (subst (λ u. brace there.braces u ≡ 33) same more) span.1 behind
+    spells)
 
 -- the text is read to its end
 pub tree_text : (bytes : List ℕ) (there : CursorView) (tree : TreeView)

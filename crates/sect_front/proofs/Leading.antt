@@ -1,11 +1,11 @@
 -- The tokens of a tree lead through the places of the grammar.
-use Rattle.std.proofs.Common.{◌≡◌, ℕ, List, [], ◌∷◌, ◌++◌, Option, Some, None, refl, sym, ◌∙◌, ap, subst, append_assoc}
+use Rattle.std.proofs.Common.{◌≡◌, ℕ, List, [], ◌∷◌, ◌++◌, Option, Some, None, refl, sym, ◌∙◌, ap, append_assoc}
 use Rattle.std.proofs.Common.{option_and_then}
 use Rattle.std.specs.Prelude.{⊤}
 use Rattle.sect_front.specs.Syntax.{StatementView, BlockView, Primitive, If, IfElse, While, Atomic, Call, End, Then}
 use Rattle.sect_front.specs.Grammar.{operand_token, operator_token, kind_token}
 use Rattle.sect_front.specs.Tokens.{primitive_tokens, test_tokens, more_operands, operands_tokens, statement_tokens}
-use Rattle.sect_front.specs.Tokens.{block_tokens, declarations_tokens, hints_tokens, record_tokens, global_tokens}
+use Rattle.sect_front.specs.Tokens.{declarations_tokens, hints_tokens, record_tokens, global_tokens}
 use Rattle.sect_front.specs.Tokens.{more_parameters, parameters_tokens, procedure_tokens, thread_tokens}
 use Rattle.sect_front.specs.Tokens.{records_tokens, globals_tokens, procedures_tokens, threads_tokens, source_tokens}
 use Rattle.sect_front.specs.{TreeView.{TreeView}, declared.token.Token.{Token}, declared.tree.Operand.{Operand}}

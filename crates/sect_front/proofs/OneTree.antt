@@ -297,7 +297,8 @@ fields_same [] (c ∷ es) u w e = absurd (kind_no_sign c.kind token.CloseBrace r
 fields_same (d ∷ ds) [] u w e = absurd (kind_no_sign d.kind token.CloseBrace refl (λ x. cc) (ap (at 0) e))
 
 -- a body doesn't begin with a type and a name
-no_local : (b : BlockView) (k : Kind) (n : List ℕ) (u w : List Token) → body_tokens b u ≡ kind_token k ∷ token.Name n ∷ w
+no_local : (b : BlockView) (k : Kind) (n : List ℕ) (u w : List Token) → body_tokens b u ≡ kind_token k ∷ token.Name n
+    ∷ w
     → ⊥
 no_local End k n u w e = kind_no_sign k token.CloseBrace refl (λ x. cc) (sym (ap (at 0) e))
 no_local (Then (Primitive (primitive.Assign x v)) b) k n u w e = absurd cc

@@ -1,20 +1,20 @@
 -- The places of the grammar: tokens that lead through them are those of trees.
-use Rattle.std.proofs.Common.{◌≡◌, ℕ, Bool, true, false, List, [], ◌∷◌, ◌++◌, Option, Some, None, refl, sym, ◌∙◌, ap}
-use Rattle.std.proofs.Common.{subst, append_assoc, append-nil, option_and_then}
+use Rattle.std.proofs.Common.{◌≡◌, ℕ, List, [], ◌∷◌, ◌++◌, Option, Some, None, refl, sym, ◌∙◌, ap}
+use Rattle.std.proofs.Common.{subst, option_and_then}
 use Rattle.std.specs.Prelude.{⊤}
-use Rattle.sect_front.specs.Syntax.{StatementView, BlockView, Primitive, If, IfElse, While, Atomic, Call, End, Then}
-use Rattle.sect_front.specs.Grammar.{operand_token, operator_token, comparison_token, kind_token}
+use Rattle.sect_front.specs.Syntax.{BlockView, Primitive, If, IfElse, While, Atomic, Call, End, Then}
+use Rattle.sect_front.specs.Grammar.{operand_token, operator_token, kind_token}
 use Rattle.sect_front.specs.Tokens.{primitive_tokens, test_tokens, locking_tokens, more_operands, operands_tokens}
-use Rattle.sect_front.specs.Tokens.{call_tokens, statement_tokens, block_tokens, declarations_tokens, hints_tokens}
-use Rattle.sect_front.specs.Tokens.{more_parameters, parameters_tokens, source_tokens}
+use Rattle.sect_front.specs.Tokens.{block_tokens, declarations_tokens, hints_tokens}
+use Rattle.sect_front.specs.Tokens.{more_parameters, parameters_tokens}
 use Rattle.sect_front.specs.Tokens.{records_tokens, globals_tokens, procedures_tokens, threads_tokens}
-use Rattle.sect_front.specs.{TreeView.{TreeView}, declared.token.Token.{Token}, declared.tree.Operand.{Operand}}
+use Rattle.sect_front.specs.{declared.token.Token.{Token}, declared.tree.Operand.{Operand}}
 use Rattle.sect_front.specs.{declared.tree.Operator.{Operator}, declared.tree.Comparison.{Comparison}}
 use Rattle.sect_front.specs.{declared.tree.Test.{Test}, declared.tree.Locking.{Locking}, declared.tree.Kind.{Kind}}
 use Rattle.sect_front.specs.{declared.tree.Declaration.{Declaration}, declared.tree.Record.{Record}}
 use Rattle.sect_front.specs.{declared.tree.GlobalObject.{GlobalObject}, declared.tree.Procedure.{Procedure}}
 use Rattle.sect_front.specs.{declared.tree.Thread.{Thread}, declared.expected.Expected.{Expected}}
-use Rattle.sect_front.specs.steps.Places.{follows, after, start_follows, first_follows, if_operator, test_places}
+use Rattle.sect_front.specs.steps.Places.{follows, after, start_follows, first_follows, test_places}
 use Rattle.sect_front.specs.steps.Places.{store_places, threads_follow, procedures_follow, globals_follow}
 use Rattle.sect_lemmas.proofs.Options.{some_injective, none_or_some}
 use Rattle.sect_front.specs.declared.token.Token.TheVariants as token
@@ -48,13 +48,15 @@ Reads expected.AfterFirst x w = (n : List ℕ) (v : Operand)
     → (p : leaf.Primitive) × (primitive_tokens p w ≡ token.Name n ∷ token.Equal ∷ operand_token v ∷ x)
 Reads expected.AfterFirstName x w = (n m : List ℕ)
     → (p : leaf.Primitive) × (primitive_tokens p w ≡ token.Name n ∷ token.Equal ∷ token.Name m ∷ x)
-Reads expected.AllOrBrace x w = (l : Locking) × (b : BlockView) × (x ≡ locking_tokens l (token.OpenBrace ∷ body_tokens b w))
+Reads expected.AllOrBrace x w = (l : Locking) × (b : BlockView) ×
+    (x ≡ locking_tokens l (token.OpenBrace ∷ body_tokens b w))
 Reads expected.Argument x w = (vs : List Operand) × (x ≡ operands_tokens vs (token.CloseParen ∷ w))
 Reads expected.AfterArgument x w = (vs : List Operand) × (x ≡ more_operands vs (token.CloseParen ∷ w))
 Reads expected.Start x w = (b : BlockView) × (x ≡ body_tokens b w)
 Reads expected.StartOrElse x w = (t : Test) (a : BlockView)
     → (b : BlockView) × (body_tokens b w ≡ token.If ∷ test_tokens t (token.OpenBrace ∷ body_tokens a x))
-Reads expected.StartOrLocal x w = (ds : List Declaration) × (b : BlockView) × (x ≡ declarations_tokens ds (body_tokens b w))
+Reads expected.StartOrLocal x w = (ds : List Declaration) × (b : BlockView) × (x ≡ declarations_tokens ds
+    (body_tokens b w))
 Reads expected.NameOrAfterName x w = (n : List ℕ)
     → (ds : List Declaration) × (b : BlockView) × (declarations_tokens ds (body_tokens b w) ≡ token.Name n ∷ x)
 Reads expected.Field x w = (ds : List Declaration) × (x ≡ declarations_tokens ds (token.CloseBrace ∷ w))
@@ -207,7 +209,8 @@ globals_close token.Global x w = λ r. let k = r.2.2.2.1 in (
   record { of = r.1.0; name = r.2.1.0 } ∷ k.0,
   k.1,
   k.2,
-  ap (λ y. token.Global ∷ y) (r.1.1 ∙ ap (λ y. token.Name r.1.0 ∷ y) (r.2.1.1 ∙ ap (λ y. token.Name r.2.1.0 ∷ y) (r.2.2.1
+  ap (λ y. token.Global ∷ y) (r.1.1 ∙ ap (λ y. token.Name r.1.0 ∷ y) (r.2.1.1 ∙ ap (λ y. token.Name r.2.1.0 ∷ y)
+      (r.2.2.1
       ∙ ap (λ y. token.Semicolon ∷ y) (k.3
       ∙ ap (λ y. globals_tokens k.0 (procedures_tokens k.1 (threads_tokens k.2 y))) r.2.2.2.2)))),
 )
@@ -355,7 +358,8 @@ closes expected.Parameter (token.Name n) x w = parameter_closes (kind.Record n) 
 closes expected.Parameter _ x w = tt
 closes expected.AfterParameter token.Comma x w = λ r. (
   declared r.1.0 r.2.1.0 ∷ r.2.2.1.0,
-  ap (λ y. token.Comma ∷ y) (r.1.1 ∙ ap (λ y. kind_token r.1.0 ∷ y) (r.2.1.1 ∙ ap (λ y. token.Name r.2.1.0 ∷ y) (r.2.2.1.1
+  ap (λ y. token.Comma ∷ y) (r.1.1 ∙ ap (λ y. kind_token r.1.0 ∷ y) (r.2.1.1 ∙ ap (λ y. token.Name r.2.1.0 ∷ y)
+      (r.2.2.1.1
       ∙ ap (λ y. more_parameters r.2.2.1.0 (token.CloseParen ∷ y)) r.2.2.2))),
 )
 closes expected.AfterParameter token.CloseParen x w = λ r. ([], ap (λ y. token.CloseParen ∷ y) r)
@@ -411,7 +415,11 @@ ends expected.CloseParen w = (token.CloseParen ∷ w, refl)
 ends expected.OpenBrace w = (token.OpenBrace ∷ token.CloseBrace ∷ w, (End, refl))
 ends expected.Comparison w = (token.Comparison comparison.Less ∷ w, (comparison.Less, refl))
 ends expected.Operand w = (token.Null ∷ w, (operand.Null, refl))
-ends expected.AfterName w = (token.Equal ∷ token.Null ∷ token.Semicolon ∷ w, λ n. (primitive.Assign n operand.Null, refl))
+ends expected.AfterName w = (
+  token.Equal ∷ token.Null ∷ token.Semicolon ∷ w,
+  λ n.
+      (primitive.Assign n operand.Null, refl),
+)
 ends expected.Value w = (token.Null ∷ token.Semicolon ∷ w, λ n. (primitive.Assign n operand.Null, refl))
 ends expected.AfterFirst w = (token.Semicolon ∷ w, λ n v. (primitive.Assign n v, refl))
 ends expected.AfterFirstName w = (token.Semicolon ∷ w, λ n m. (primitive.Assign n (operand.Name m), refl))

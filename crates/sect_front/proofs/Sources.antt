@@ -1,11 +1,11 @@
 -- One more declaration of a text is read.
-use Rattle.std.proofs.Common.{◌≡◌, ◌≢◌, ℕ, Bool, true, false, List, [], ◌∷◌, ◌++◌, Some, refl, sym, ◌∙◌, ap, subst}
+use Rattle.std.proofs.Common.{◌≡◌, true, List, [], ◌∷◌, ◌++◌, Some, refl, sym, ◌∙◌, ap}
 use Rattle.sect_front.specs.Tokens.{record_tokens, global_tokens, procedure_tokens, thread_tokens, source_tokens}
 use Rattle.sect_front.specs.Tokens.{records_tokens, globals_tokens, procedures_tokens, threads_tokens}
 use Rattle.sect_front.specs.{TreeView.{TreeView}, declared.token.Token.{Token}, declared.tree.Record.{Record}}
 use Rattle.sect_front.specs.{declared.tree.GlobalObject.{GlobalObject}, declared.tree.Procedure.{Procedure}}
 use Rattle.sect_front.specs.{declared.tree.Thread.{Thread}, declared.expected.Expected.{Expected}}
-use Rattle.sect_front.specs.steps.Places.{follows, takes, after}
+use Rattle.sect_front.specs.steps.Places.{follows, takes}
 use Rattle.sect_front.specs.steps.Declaring.{FitsPart, with_record, with_global, with_procedure, with_thread}
 use Rattle.sect_front.proofs.Leading.{MayGlobals, MayProcedures, MayThreads}
 use Rattle.sect_front.proofs.shared.Listed.{tokens_before, tokens_same}
@@ -136,12 +136,14 @@ pub record_grown : (s : TreeView) (r : Record) → FitsPart expected.Records s
     → source_tokens (with_record s r) [] ≡ source_tokens s (record_tokens r [])
 record_grown s r f =
     records_grow s.records r (behind_records s [])
-    ∙ ap (records_tokens s.records) (ap (record_tokens r) (no_globals s f []) ∙ sym (no_globals s f (record_tokens r [])))
+    ∙ ap (records_tokens s.records) (ap (record_tokens r) (no_globals s f []) ∙ sym
+    (no_globals s f (record_tokens r [])))
 
 pub global_grown : (s : TreeView) (g : GlobalObject) → FitsPart expected.Globals s
     → source_tokens (with_global s g) [] ≡ source_tokens s (global_tokens g [])
 global_grown s g f =
-    ap (records_tokens s.records) (globals_grow s.globals g (procedures_tokens s.procedures (threads_tokens s.threads []))
+    ap (records_tokens s.records) (globals_grow s.globals g (procedures_tokens s.procedures
+    (threads_tokens s.threads []))
     ∙ ap (globals_tokens s.globals) (ap (global_tokens g) (no_procedures s f [])
     ∙ sym (no_procedures s f (global_tokens g []))))
 
@@ -153,7 +155,8 @@ procedure_grown s p f =
     ∙ ap (procedures_tokens s.procedures) (ap (procedure_tokens p) (ap (λ x. threads_tokens x []) f)
     ∙ sym (ap (λ x. threads_tokens x (procedure_tokens p [])) f)))
 
-pub thread_grown : (s : TreeView) (t : Thread) → source_tokens (with_thread s t) [] ≡ source_tokens s (thread_tokens t [])
+pub thread_grown : (s : TreeView) (t : Thread) → source_tokens (with_thread s t) [] ≡ source_tokens s
+    (thread_tokens t [])
 thread_grown s t =
     ap (λ x. records_tokens s.records (globals_tokens s.globals (procedures_tokens s.procedures x)))
     (threads_grow s.threads t [])

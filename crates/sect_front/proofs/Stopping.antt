@@ -1,9 +1,10 @@
 -- What stands at the front of a text, and where a rule of the grammar stops.
-use Rattle.std.proofs.Common.{◌≡◌, ◌≢◌, ℕ, suc, zero, ◌+◌, ◌<◌, ◌≤◌, Bool, true, false, List, [], ◌∷◌, ◌++◌, Some, None}
-use Rattle.std.proofs.Common.{length, take, drop, refl, sym, ◌∙◌, ap, subst, arith, append-nil, append_assoc, is_some}
+use Rattle.std.proofs.Common.{◌≡◌, ◌≢◌, ℕ, suc, zero, ◌<◌, ◌≤◌, Bool, true, false, List, [], ◌∷◌, ◌++◌, Some, None}
+use Rattle.std.proofs.Common.{length, take, drop, refl, sym, ◌∙◌, ap, subst, arith, append_assoc, is_some}
 use Rattle.std.specs.Prelude.{get_or, not, if◌then◌else◌}
 use Rattle.std.proofs.lemmas.List.{length-take-le}
-use Rattle.sect_front.specs.{Words.{is_name_byte}, Gaps.{begins_with, after_gap}, Spelling.{spelling_of}, Braces.{brace}}
+use Rattle.sect_front.specs.{Words.{is_name_byte}, Gaps.{begins_with}, Spelling.{spelling_of}}
+use Rattle.sect_front.specs.Braces.{brace}
 use Rattle.sect_front.specs.Syntax.{BlockView}
 use Rattle.sect_front.specs.{Limits.{most_depth}, Grammar.{operand_token, operator_token, kind_token}}
 use Rattle.sect_front.specs.{declared.token.Token.{Token}, declared.tree.Operand.{Operand}}
@@ -12,7 +13,7 @@ use Rattle.sect_front.specs.declared.tree.Comparison.{Comparison}
 use Rattle.sect_front.specs.{declared.expected.Expected.{Expected}, declared.cursor.Stop.{Stop}}
 use Rattle.sect_front.specs.declared.cursor.Keyword.{Keyword}
 use Rattle.sect_front.specs.steps.{Recognition.{single_sign, double_sign}, Lexeme.{lexeme_of, longest}}
-use Rattle.sect_front.specs.steps.Places.{follows, takes, after, start_follows, first_follows}
+use Rattle.sect_front.specs.steps.Places.{follows, takes, after}
 use Rattle.sect_front.specs.steps.Signs.{IsSign, sign_token, sign_byte, keyword_token}
 use Rattle.sect_front.specs.steps.Passing.{CursorView, Stands, Passes, ArePassed, IsBare, IsAbsent, IsRefused, IsAlike}
 use Rattle.sect_front.specs.steps.Passing.{Stops, IsReached, IsDeep, StopsAtBrace, StopsIn, HasAdded}
@@ -318,7 +319,12 @@ passed_append here (t ∷ ts) us mid there (next, p, h) k = (next, p, passed_app
 
 pub passed_shorter : (here there : CursorView) (t : Token) → Passes here t there
     → length there.here < length here.here
-passed_shorter here there t p = omega (arith, shorter here.here t p.stands.count p.stands.lexed, ap length p.stands.behind)
+passed_shorter here there t p = omega (
+  arith,
+  shorter here.here t p.stands.count p.stands.lexed,
+  ap length
+      p.stands.behind,
+)
 
 pub no_longer : (here : CursorView) (ts : List Token) (there : CursorView) → ArePassed here ts there
     → length there.here ≤ length here.here

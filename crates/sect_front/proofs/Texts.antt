@@ -1,18 +1,20 @@
 -- How far a text has been read, and what its end or a fault says of it.
-use Rattle.std.proofs.Common.{◌≡◌, ℕ, suc, ◌+◌, ◌-◌, ◌<◌, ◌≤◌, false, true, List, [], ◌∷◌, ◌++◌, Some, length, take, drop}
+use Rattle.std.proofs.Common.{◌≡◌, ℕ, suc, ◌+◌, ◌-◌, ◌<◌, ◌≤◌, false, true, List, [], ◌∷◌, ◌++◌, Some, length, take}
+use Rattle.std.proofs.Common.{drop}
 use Rattle.std.proofs.Common.{refl, sym, ◌∙◌, ap, subst, arith, append_assoc, append-nil, length-drop}
 use Rattle.std.proofs.lemmas.List.{length-take-le}
 use Rattle.std.specs.List.{slice_get}
 use Rattle.sect_front.specs.{TreeView.{TreeView}, TokenAt.{TokenAt}, Braces.{brace, open_after}, Gaps.{after_gap}}
 use Rattle.sect_front.specs.{Lexing.{Spells}, Limits.{most_depth}, Tokens.{source_tokens}}
 use Rattle.sect_front.specs.{Spelling.{spelling_of}, FaultPlaces.{span_from, token_span}}
-use Rattle.sect_front.specs.{Faults.{tokens_in, IsUnexpectedAt, IsTooDeepAt, IsUnfinished}, declared.token.Token.{Token}}
+use Rattle.sect_front.specs.Faults.{tokens_in, IsUnexpectedAt, IsTooDeepAt, IsUnfinished}
+use Rattle.sect_front.specs.declared.token.Token.{Token}
 use Rattle.sect_front.specs.{Faults.{IsTree}, declared.expected.Expected.{Expected}}
 use Rattle.sect_front.specs.steps.{Lexeme.{lexeme_of}, Places.{takes, after}, Verdicts.{Reached, Spelling, SpellingAt}}
 use Rattle.sect_front.specs.steps.Passing.{CursorView, Passes, ArePassed, text_start}
 use Rattle.sect_front.proofs.{Reach.{reached_none, reached_more, lexed}, Lexemes.{lexeme_first}}
 use Rattle.sect_front.proofs.Verdict.{start, unexpected, too_deep, unfinished, is_tree}
-use Rattle.sect_front.proofs.Peaks.{peak, peak_from, peak_append, peak_cons}
+use Rattle.sect_front.proofs.Peaks.{peak, peak_append, peak_cons}
 use Rattle.sect_front.proofs.shared.Lexings.{gap_fits}
 
 -- the token at the front of what is left of a text

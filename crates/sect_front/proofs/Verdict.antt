@@ -1,13 +1,13 @@
 -- What the places that are left say of the tokens before them.
-use Rattle.std.proofs.Common.{◌≡◌, ◌≢◌, ℕ, ◌+◌, ◌<◌, ◌≤◌, Bool, true, false, List, [], ◌∷◌, ◌++◌, Option, Some, None}
+use Rattle.std.proofs.Common.{◌≡◌, ℕ, ◌+◌, ◌<◌, ◌≤◌, true, false, List, [], ◌∷◌, ◌++◌, Option, Some, None}
 use Rattle.std.proofs.Common.{Result, Ok, Err, option_and_then, length, take, drop, refl, sym, ◌∙◌, ap, subst, arith}
-use Rattle.std.proofs.{Common.{append-nil, append_assoc, is_some}, lemmas.List.{take-append-drop}}
+use Rattle.std.proofs.{Common.{append_assoc, is_some}, lemmas.List.{take-append-drop}}
 use Rattle.sect_front.specs.{Limits.{most_depth}, TreeView.{TreeView}, Grammar.{tokens_of}, Tokens.{source_tokens}}
 use Rattle.sect_front.specs.Braces.{brace, open_after}
 use Rattle.sect_front.specs.Faults.{IsViable, IsTree, IsUnexpectedAt, IsTooDeepAt, IsUnfinished}
 use Rattle.sect_front.specs.{declared.token.Token.{Token}, declared.expected.Expected.{Expected}}
 use Rattle.sect_front.specs.steps.Places.{follows, takes, after}
-use Rattle.sect_front.proofs.{TokenFaults.{TokenFault, JudgesTokens}, Places.{ReadAll, read_behind, all_end}}
+use Rattle.sect_front.proofs.{TokenFaults.{TokenFault, JudgesTokens}, Places.{read_behind, all_end}}
 use Rattle.sect_front.proofs.{Leading.{after_then, source_after}, OneTree.{one_tree}}
 use Rattle.sect_front.proofs.Peaks.{peak, peak_from, peak_append, depth_peak, shallow_from}
 use Rattle.sect_front.proofs.shared.Listed.{tokens_same}
@@ -43,7 +43,8 @@ taken_one e ps t h = go (follows e t) h
     go (Some list) h = (list ++ ps, refl)
 
 -- a token that may stand there
-pub viable_with : (front : List Token) (e : Expected) (ps : List Expected) (t : Token) → after start front ≡ Some (e ∷ ps)
+pub viable_with : (front : List Token) (e : Expected) (ps : List Expected) (t : Token) → after start front ≡ Some
+    (e ∷ ps)
     → takes e t ≡ true → IsViable (front ++ t ∷ [])
 viable_with front e ps t h k =
     let one = taken_one e ps t k in viable (front ++ t ∷ []) one.0 (after_one (e ∷ ps) front t [] h ∙ one.1)
@@ -57,7 +58,8 @@ refused_one e ps t rest h = go (follows e t) h
     go None h = refl
     go (Some list) h = absurd cc
 
-pub not_viable : (front : List Token) (e : Expected) (ps : List Expected) (t : Token) → after start front ≡ Some (e ∷ ps)
+pub not_viable : (front : List Token) (e : Expected) (ps : List Expected) (t : Token) → after start front ≡ Some
+    (e ∷ ps)
     → takes e t ≡ false → IsViable (front ++ t ∷ []) → ⊥
 not_viable front e ps t h k v =
     let one : after start (front ++ t ∷ v.1) ≡ None = after_one (e ∷ ps) front t v.1 h ∙ refused_one e ps t v.1 k in

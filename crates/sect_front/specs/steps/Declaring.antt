@@ -18,8 +18,8 @@ pub record HasDeclared (k : Kind) (here there : CursorView) (old new : List Decl
   pub are : ArePassed here (token.Name name ∷ token.Semicolon ∷ []) there
   pub added : new ≡ old ++ record { kind = k; name = name } ∷ []
 
--- these tokens and then those that are passed are a local or a statement, which is added to those before, where the first
--- place was, and the second is behind it
+-- these tokens and then those that are passed are a local or a statement, which is added; the first place is before it,
+-- and the second behind it
 pub record HasBegun (d e : Expected) (front : List Token) (here there : CursorView) (old new : List Declaration)
     (before block : BlockView) : Type 0 where
   pub tokens : List Token

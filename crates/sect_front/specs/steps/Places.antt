@@ -1,10 +1,10 @@
 -- The grammar, place by place: which tokens may stand at a place, and which places each of them is followed by.
-use Rattle.std.specs.Prelude.{Bool, true, false, List, [], ◌∷◌, ◌++◌, Option, Some, None, is_some, option_and_then}
+use Rattle.std.specs.Prelude.{Bool, List, [], ◌∷◌, ◌++◌, Option, Some, None, is_some, option_and_then}
 use Rattle.sect_front.specs.{declared.token.Token.{Token}, declared.expected.Expected.{Expected}}
 use Rattle.sect_front.specs.declared.token.Token.TheVariants as token
 use Rattle.sect_front.specs.declared.expected.Expected.TheVariants as expected
 
--- one token, and nothing behind it
+-- a name, and these places behind it
 abbrev pub if_name : Token → List Expected → Option (List Expected)
 if_name (token.Name n) list = Some list
 if_name _ list = None

@@ -12,7 +12,8 @@ new-requires c =
     let tree = c.in-Ok.source in
     let same : c.new-cursor.result ≡ text_start bytes = c.new-cursor.ensures ∙ ap begun c.after_gap.ensures in
     let are = subst (λ x. ArePassed x (source_tokens tree []) there) same c.in-Ok.ensures.ok in
-    subst (λ s. depth s ≤ most_depth) (sym c.source.view_is) (tree_text bytes there tree are c.in-Ok.ensures.end).is.shallow
+    subst (λ s. depth s ≤ most_depth) (sym c.source.view_is)
+    (tree_text bytes there tree are c.in-Ok.ensures.end).is.shallow
 
 pub returns-in-Ok : goal.returns-in-Ok
 returns-in-Ok c =

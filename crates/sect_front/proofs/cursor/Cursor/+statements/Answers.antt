@@ -22,7 +22,8 @@ block-returns-in_err-open_brace-clause-err t c =
     (stops_at_brace _ c.args.expected [] c.args.self.now c.open_brace.new.self c.in_err-open_brace.ensures.err
     (λ absent. refused_alike c.args.expected expected.OpenBrace c.args.self.now c.requires.alike
     (refused_brace c.args.self.now absent))
-    (λ rest s. alike_takes c.args.expected expected.OpenBrace token.OpenBrace (c.requires.alike token.OpenBrace rest s)))
+    (λ rest s. alike_takes c.args.expected expected.OpenBrace token.OpenBrace
+    (c.requires.alike token.OpenBrace rest s)))
     c.from_residual.ensures.1
 
 pub block-statements-requires : goal.block-statements-requires
@@ -277,10 +278,12 @@ statement-returns-in_err-named-in-Name-clause-err t c =
     (subst (λ x. Stands x c.token_at.new.token c.in-Some.rest.now) same c.in-Some.ensures.some) in
     given c.from_residual.result (λ s. StopsIn s (c.args.expected ∷ []) c.args.self.now c.named.new.self)
     c.in_err-named-in-Name.field-0.0
-    (stops_behind _ c.args.expected (token.Name c.in-Name.x) (expected.AfterName ∷ expected.Start ∷ []) [] c.args.self.now _ c.named.new.self
+    (stops_behind _ c.args.expected (token.Name c.in-Name.x) (expected.AfterName ∷ expected.Start ∷ []) []
+    c.args.self.now _ c.named.new.self
     (passed_calm (token.Name c.in-Name.x) c.args.self.now _ (λ k. refl) stands (grind arith))
     (c.requires.alike (token.Name c.in-Name.x) c.in-Some.rest.now stands)
-    (stops_more _ (expected.AfterName ∷ []) (expected.Start ∷ []) _ c.named.new.self c.in_err-named-in-Name.ensures.err))
+    (stops_more _ (expected.AfterName ∷ []) (expected.Start ∷ []) _ c.named.new.self
+    c.in_err-named-in-Name.ensures.err))
     c.from_residual.ensures.1
 
 pub statement-returns-in_ok-named-in-Name-clause-ok : goal.statement-returns-in_ok-named-in-Name-clause-ok
@@ -288,8 +291,10 @@ statement-returns-in_ok-named-in-Name-clause-ok t c =
     let same : c.self.inside.here.now ≡ c.args.self.now.here = grind arith in
     let stands = subst (λ u. Stands c.args.self.now.here u c.in-Some.rest.now) c.in-Name.is
     (subst (λ x. Stands x c.token_at.new.token c.in-Some.rest.now) same c.in-Some.ensures.some) in
-    added_behind expected.Start [] (token.Name c.in-Name.x) c.args.self.now _ c.named.new.self c.args.block.now c.named.new.block
-    (passed_calm (token.Name c.in-Name.x) c.args.self.now _ (λ k. refl) stands (grind arith)) c.in_ok-named-in-Name.ensures.ok
+    added_behind expected.Start [] (token.Name c.in-Name.x) c.args.self.now _ c.named.new.self c.args.block.now
+    c.named.new.block
+    (passed_calm (token.Name c.in-Name.x) c.args.self.now _ (λ k. refl) stands (grind arith))
+    c.in_ok-named-in-Name.ensures.ok
 
 pub statement-returns-in_ok-named-in-Name-clause-alike : goal.statement-returns-in_ok-named-in-Name-clause-alike
 statement-returns-in_ok-named-in-Name-clause-alike t c = λ t rest s. refl
@@ -306,12 +311,15 @@ statement-returns-in_err-repeated-in-While-clause-err t c =
     let same : c.self.inside.here.now ≡ c.args.self.now.here = grind arith in
     let stands = subst (λ u. Stands c.args.self.now.here u c.in-Some.rest.now) c.in-While.is
     (subst (λ x. Stands x c.token_at.new.token c.in-Some.rest.now) same c.in-Some.ensures.some) in
-    given c.from_residual-in_err-repeated-in-While.result (λ s. StopsIn s (c.args.expected ∷ []) c.args.self.now c.repeated.new.self)
+    given c.from_residual-in_err-repeated-in-While.result (λ s. StopsIn s (c.args.expected ∷ []) c.args.self.now
+    c.repeated.new.self)
     c.in_err-repeated-in-While.field-0.0
-    (stops_behind _ c.args.expected (token.While) (test_places (expected.OpenBrace ∷ expected.Start ∷ [])) [] c.args.self.now _ c.repeated.new.self
+    (stops_behind _ c.args.expected (token.While) (test_places (expected.OpenBrace ∷ expected.Start ∷ [])) []
+    c.args.self.now _ c.repeated.new.self
     (passed_calm (token.While) c.args.self.now _ (λ k. refl) stands (grind arith))
     (c.requires.alike (token.While) c.in-Some.rest.now stands)
-    (stops_more _ (test_places (expected.OpenBrace ∷ [])) (expected.Start ∷ []) _ c.repeated.new.self c.in_err-repeated-in-While.ensures.err))
+    (stops_more _ (test_places (expected.OpenBrace ∷ [])) (expected.Start ∷ []) _ c.repeated.new.self
+    c.in_err-repeated-in-While.ensures.err))
     c.from_residual-in_err-repeated-in-While.ensures.1
 
 pub statement-returns-in_ok-repeated-in-While-clause-ok : goal.statement-returns-in_ok-repeated-in-While-clause-ok
@@ -319,7 +327,8 @@ statement-returns-in_ok-repeated-in-While-clause-ok t c =
     let same : c.self.inside.here.now ≡ c.args.self.now.here = grind arith in
     let stands = subst (λ u. Stands c.args.self.now.here u c.in-Some.rest.now) c.in-While.is
     (subst (λ x. Stands x c.token_at.new.token c.in-Some.rest.now) same c.in-Some.ensures.some) in
-    added_behind expected.Start [] (token.While) c.args.self.now _ c.repeated.new.self c.args.block.now c.repeated.new.block
+    added_behind expected.Start [] (token.While) c.args.self.now _ c.repeated.new.self c.args.block.now
+    c.repeated.new.block
     (passed_calm (token.While) c.args.self.now _ (λ k. refl) stands (grind arith)) c.in_ok-repeated-in-While.ensures.ok
 
 pub statement-returns-in_ok-repeated-in-While-clause-alike : goal.statement-returns-in_ok-repeated-in-While-clause-alike
@@ -330,12 +339,15 @@ statement-returns-in_err-printed-in-Print-clause-err t c =
     let same : c.self.inside.here.now ≡ c.args.self.now.here = grind arith in
     let stands = subst (λ u. Stands c.args.self.now.here u c.in-Some.rest.now) c.in-Print.is
     (subst (λ x. Stands x c.token_at.new.token c.in-Some.rest.now) same c.in-Some.ensures.some) in
-    given c.from_residual-in_err-printed-in-Print.result (λ s. StopsIn s (c.args.expected ∷ []) c.args.self.now c.printed.new.self)
+    given c.from_residual-in_err-printed-in-Print.result (λ s. StopsIn s (c.args.expected ∷ []) c.args.self.now
+    c.printed.new.self)
     c.in_err-printed-in-Print.field-0.0
-    (stops_behind _ c.args.expected (token.Print) (expected.Operand ∷ expected.Semicolon ∷ expected.Start ∷ []) [] c.args.self.now _ c.printed.new.self
+    (stops_behind _ c.args.expected (token.Print) (expected.Operand ∷ expected.Semicolon ∷ expected.Start ∷ []) []
+    c.args.self.now _ c.printed.new.self
     (passed_calm (token.Print) c.args.self.now _ (λ k. refl) stands (grind arith))
     (c.requires.alike (token.Print) c.in-Some.rest.now stands)
-    (stops_more _ (expected.Operand ∷ expected.Semicolon ∷ []) (expected.Start ∷ []) _ c.printed.new.self c.in_err-printed-in-Print.ensures.err))
+    (stops_more _ (expected.Operand ∷ expected.Semicolon ∷ []) (expected.Start ∷ []) _ c.printed.new.self
+    c.in_err-printed-in-Print.ensures.err))
     c.from_residual-in_err-printed-in-Print.ensures.1
 
 pub statement-returns-in_ok-printed-in-Print-clause-ok : goal.statement-returns-in_ok-printed-in-Print-clause-ok
@@ -343,7 +355,8 @@ statement-returns-in_ok-printed-in-Print-clause-ok t c =
     let same : c.self.inside.here.now ≡ c.args.self.now.here = grind arith in
     let stands = subst (λ u. Stands c.args.self.now.here u c.in-Some.rest.now) c.in-Print.is
     (subst (λ x. Stands x c.token_at.new.token c.in-Some.rest.now) same c.in-Some.ensures.some) in
-    added_behind expected.Start [] (token.Print) c.args.self.now _ c.printed.new.self c.args.block.now c.printed.new.block
+    added_behind expected.Start [] (token.Print) c.args.self.now _ c.printed.new.self c.args.block.now
+    c.printed.new.block
     (passed_calm (token.Print) c.args.self.now _ (λ k. refl) stands (grind arith)) c.in_ok-printed-in-Print.ensures.ok
 
 pub statement-returns-in_ok-printed-in-Print-clause-alike : goal.statement-returns-in_ok-printed-in-Print-clause-alike
@@ -361,12 +374,15 @@ statement-returns-in_err-atomic-in-Atomic-clause-err t c =
     let same : c.self.inside.here.now ≡ c.args.self.now.here = grind arith in
     let stands = subst (λ u. Stands c.args.self.now.here u c.in-Some.rest.now) c.in-Atomic.is
     (subst (λ x. Stands x c.token_at.new.token c.in-Some.rest.now) same c.in-Some.ensures.some) in
-    given c.from_residual-in_err-atomic-in-Atomic.result (λ s. StopsIn s (c.args.expected ∷ []) c.args.self.now c.atomic.new.self)
+    given c.from_residual-in_err-atomic-in-Atomic.result (λ s. StopsIn s (c.args.expected ∷ []) c.args.self.now
+    c.atomic.new.self)
     c.in_err-atomic-in-Atomic.field-0.0
-    (stops_behind _ c.args.expected (token.Atomic) (expected.AllOrBrace ∷ expected.Start ∷ []) [] c.args.self.now _ c.atomic.new.self
+    (stops_behind _ c.args.expected (token.Atomic) (expected.AllOrBrace ∷ expected.Start ∷ []) [] c.args.self.now _
+    c.atomic.new.self
     (passed_calm (token.Atomic) c.args.self.now _ (λ k. refl) stands (grind arith))
     (c.requires.alike (token.Atomic) c.in-Some.rest.now stands)
-    (stops_more _ (expected.AllOrBrace ∷ []) (expected.Start ∷ []) _ c.atomic.new.self c.in_err-atomic-in-Atomic.ensures.err))
+    (stops_more _ (expected.AllOrBrace ∷ []) (expected.Start ∷ []) _ c.atomic.new.self
+    c.in_err-atomic-in-Atomic.ensures.err))
     c.from_residual-in_err-atomic-in-Atomic.ensures.1
 
 pub statement-returns-in_ok-atomic-in-Atomic-clause-ok : goal.statement-returns-in_ok-atomic-in-Atomic-clause-ok
@@ -374,7 +390,8 @@ statement-returns-in_ok-atomic-in-Atomic-clause-ok t c =
     let same : c.self.inside.here.now ≡ c.args.self.now.here = grind arith in
     let stands = subst (λ u. Stands c.args.self.now.here u c.in-Some.rest.now) c.in-Atomic.is
     (subst (λ x. Stands x c.token_at.new.token c.in-Some.rest.now) same c.in-Some.ensures.some) in
-    added_behind expected.Start [] (token.Atomic) c.args.self.now _ c.atomic.new.self c.args.block.now c.atomic.new.block
+    added_behind expected.Start [] (token.Atomic) c.args.self.now _ c.atomic.new.self c.args.block.now
+    c.atomic.new.block
     (passed_calm (token.Atomic) c.args.self.now _ (λ k. refl) stands (grind arith)) c.in_ok-atomic-in-Atomic.ensures.ok
 
 pub statement-returns-in_ok-atomic-in-Atomic-clause-alike : goal.statement-returns-in_ok-atomic-in-Atomic-clause-alike
@@ -385,12 +402,15 @@ statement-returns-in_err-called-in-Call-clause-err t c =
     let same : c.self.inside.here.now ≡ c.args.self.now.here = grind arith in
     let stands = subst (λ u. Stands c.args.self.now.here u c.in-Some.rest.now) c.in-Call.is
     (subst (λ x. Stands x c.token_at.new.token c.in-Some.rest.now) same c.in-Some.ensures.some) in
-    given c.from_residual-in_err-called-in-Call.result (λ s. StopsIn s (c.args.expected ∷ []) c.args.self.now c.called.new.self)
+    given c.from_residual-in_err-called-in-Call.result (λ s. StopsIn s (c.args.expected ∷ []) c.args.self.now
+    c.called.new.self)
     c.in_err-called-in-Call.field-0.0
-    (stops_behind _ c.args.expected (token.Call) (expected.Name ∷ expected.OpenParen ∷ expected.Argument ∷ expected.Semicolon ∷ expected.Start ∷ []) [] c.args.self.now _ c.called.new.self
+    (stops_behind _ c.args.expected (token.Call) (expected.Name ∷ expected.OpenParen ∷ expected.Argument
+    ∷ expected.Semicolon ∷ expected.Start ∷ []) [] c.args.self.now _ c.called.new.self
     (passed_calm (token.Call) c.args.self.now _ (λ k. refl) stands (grind arith))
     (c.requires.alike (token.Call) c.in-Some.rest.now stands)
-    (stops_more _ (expected.Name ∷ expected.OpenParen ∷ expected.Argument ∷ expected.Semicolon ∷ []) (expected.Start ∷ []) _ c.called.new.self c.in_err-called-in-Call.ensures.err))
+    (stops_more _ (expected.Name ∷ expected.OpenParen ∷ expected.Argument ∷ expected.Semicolon ∷ [])
+    (expected.Start ∷ []) _ c.called.new.self c.in_err-called-in-Call.ensures.err))
     c.from_residual-in_err-called-in-Call.ensures.1
 
 pub statement-returns-in_ok-called-in-Call-clause-ok : goal.statement-returns-in_ok-called-in-Call-clause-ok
@@ -484,7 +504,8 @@ statements-read-preserved t c =
     let stays = c.takes_close.ensures.stays going in
     let e = c.in_ok-expected.expected in
     record {
-      are = added_are [] c.args.self.now c.takes_close.new.self c.statement.new.self c.read.block c.statement.new.block e
+      are = added_are [] c.args.self.now c.takes_close.new.self c.statement.new.self c.read.block c.statement.new.block
+          e
           (subst (ArePassed c.args.self.now (block_tokens c.read.block [])) (sym stays) c.read.invariant.are)
           c.in_ok-expected.ensures.ok;
       next = added_leads (expected.Start ∷ []) [] c.takes_close.new.self c.statement.new.self c.read.block

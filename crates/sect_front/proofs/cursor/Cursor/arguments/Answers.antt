@@ -93,7 +93,8 @@ more-preserved c =
     record {
       are = subst (λ x. ArePassed c.args.self.now (operands_tokens x []) c.operand.new.self)
           (sym c.in_ok-push-2.ensures.ok) (subst (λ ts. ArePassed c.args.self.now ts c.operand.new.self)
-          (operands_behind vs [] (token.Comma ∷ operand_token v ∷ []) ∙ sym (operands_grow vs c.more.invariant.some v []))
+          (operands_behind vs [] (token.Comma ∷ operand_token v ∷ []) ∙ sym (operands_grow vs c.more.invariant.some v
+          []))
           (passed_append c.args.self.now (operands_tokens vs []) (token.Comma ∷ operand_token v ∷ []) c.more.self
           c.operand.new.self c.more.invariant.are
           (c.takes-in-more-2.new.self, comma, (c.operand.new.self, c.in_ok-next.ensures.ok, refl))));

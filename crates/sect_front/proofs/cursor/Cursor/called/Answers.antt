@@ -12,22 +12,31 @@ use Rattle.sect_front.proofs.cursor.Cursor.called.Goals as goal
 
 pub returns-in_err-f-clause-err : goal.returns-in_err-f-clause-err
 returns-in_err-f-clause-err c =
-    given c.from_residual.result (λ stop. StopsIn stop (expected.Name ∷ expected.OpenParen ∷ expected.Argument ∷ expected.Semicolon ∷ []) c.args.self.now c.name.new.self) c.in_err-f.field-0.0
-    (stops_here _ expected.Name (expected.OpenParen ∷ expected.Argument ∷ expected.Semicolon ∷ []) c.args.self.now c.name.new.self c.in_err-f.ensures.err) c.from_residual.ensures.1
+    given c.from_residual.result (λ stop. StopsIn stop (expected.Name ∷ expected.OpenParen ∷ expected.Argument
+    ∷ expected.Semicolon ∷ []) c.args.self.now c.name.new.self) c.in_err-f.field-0.0
+    (stops_here _ expected.Name (expected.OpenParen ∷ expected.Argument ∷ expected.Semicolon ∷ []) c.args.self.now
+    c.name.new.self c.in_err-f.ensures.err) c.from_residual.ensures.1
 
 pub returns-in_err-sign-clause-err : goal.returns-in_err-sign-clause-err
 returns-in_err-sign-clause-err c =
-    given c.from_residual-in_err-sign.result (λ stop. StopsIn stop (expected.Name ∷ expected.OpenParen ∷ expected.Argument ∷ expected.Semicolon ∷ []) c.args.self.now c.sign.new.self) c.in_err-sign.field-0.0
-    (stops_after _ (expected.Name ∷ expected.OpenParen ∷ expected.Argument ∷ expected.Semicolon ∷ []) (expected.OpenParen ∷ expected.Argument ∷ expected.Semicolon ∷ []) (token.Name c.in_ok-f.f ∷ []) c.args.self.now c.name.new.self c.sign.new.self
+    given c.from_residual-in_err-sign.result (λ stop. StopsIn stop (expected.Name ∷ expected.OpenParen
+    ∷ expected.Argument ∷ expected.Semicolon ∷ []) c.args.self.now c.sign.new.self) c.in_err-sign.field-0.0
+    (stops_after _ (expected.Name ∷ expected.OpenParen ∷ expected.Argument ∷ expected.Semicolon ∷ [])
+    (expected.OpenParen ∷ expected.Argument ∷ expected.Semicolon ∷ []) (token.Name c.in_ok-f.f ∷ [])
+    c.args.self.now c.name.new.self c.sign.new.self
     (c.name.new.self, c.in_ok-f.ensures.ok, refl)
     (refl)
-    (stops_here _ expected.OpenParen (expected.Argument ∷ expected.Semicolon ∷ []) c.name.new.self c.sign.new.self c.in_err-sign.ensures.err)) c.from_residual-in_err-sign.ensures.1
+    (stops_here _ expected.OpenParen (expected.Argument ∷ expected.Semicolon ∷ []) c.name.new.self c.sign.new.self
+    c.in_err-sign.ensures.err)) c.from_residual-in_err-sign.ensures.1
 
 pub returns-in_err-values-clause-err : goal.returns-in_err-values-clause-err
 returns-in_err-values-clause-err c =
-    given c.from_residual-in_err-values.result (λ stop. StopsIn stop (expected.Name ∷ expected.OpenParen ∷ expected.Argument ∷ expected.Semicolon ∷ []) c.args.self.now c.arguments.new.self)
+    given c.from_residual-in_err-values.result (λ stop. StopsIn stop (expected.Name ∷ expected.OpenParen
+    ∷ expected.Argument ∷ expected.Semicolon ∷ []) c.args.self.now c.arguments.new.self)
     c.in_err-values.field-0.0
-    (stops_after _ (expected.Name ∷ expected.OpenParen ∷ expected.Argument ∷ expected.Semicolon ∷ []) (expected.Argument ∷ expected.Semicolon ∷ []) (token.Name c.in_ok-f.f ∷ token.OpenParen ∷ []) c.args.self.now c.sign.new.self
+    (stops_after _ (expected.Name ∷ expected.OpenParen ∷ expected.Argument ∷ expected.Semicolon ∷ [])
+    (expected.Argument ∷ expected.Semicolon ∷ []) (token.Name c.in_ok-f.f ∷ token.OpenParen ∷ []) c.args.self.now
+    c.sign.new.self
     c.arguments.new.self (c.name.new.self, c.in_ok-f.ensures.ok, (c.sign.new.self, c.in_ok-sign.ensures.ok, refl)) refl
     (stops_more _ (expected.Argument ∷ []) (expected.Semicolon ∷ []) c.sign.new.self c.arguments.new.self
     c.in_err-values.ensures.err)) c.from_residual-in_err-values.ensures.1
@@ -35,9 +44,12 @@ returns-in_err-values-clause-err c =
 pub returns-in_err-sign-2-clause-err : goal.returns-in_err-sign-2-clause-err
 returns-in_err-sign-2-clause-err c =
     let vs = c.in_ok-values.values in
-    given c.from_residual-in_err-sign-2.result (λ stop. StopsIn stop (expected.Name ∷ expected.OpenParen ∷ expected.Argument ∷ expected.Semicolon ∷ []) c.args.self.now c.sign-2.new.self)
+    given c.from_residual-in_err-sign-2.result (λ stop. StopsIn stop (expected.Name ∷ expected.OpenParen
+    ∷ expected.Argument ∷ expected.Semicolon ∷ []) c.args.self.now c.sign-2.new.self)
     c.in_err-sign-2.field-0.0
-    (stops_after _ (expected.Name ∷ expected.OpenParen ∷ expected.Argument ∷ expected.Semicolon ∷ []) (expected.Semicolon ∷ []) (token.Name c.in_ok-f.f ∷ token.OpenParen ∷ operands_tokens vs (token.CloseParen ∷ []))
+    (stops_after _ (expected.Name ∷ expected.OpenParen ∷ expected.Argument ∷ expected.Semicolon ∷ [])
+    (expected.Semicolon ∷ []) (token.Name c.in_ok-f.f ∷ token.OpenParen ∷ operands_tokens vs
+    (token.CloseParen ∷ []))
     c.args.self.now c.arguments.new.self c.sign-2.new.self
     (c.name.new.self, c.in_ok-f.ensures.ok, (c.sign.new.self, c.in_ok-sign.ensures.ok, c.in_ok-values.ensures.ok))
     (operands_after vs (expected.Semicolon ∷ []) [])

@@ -4,7 +4,8 @@ use Rattle.sect_front.specs.Syntax.{Primitive}
 use Rattle.sect_front.specs.Grammar.{operand_token, operator_token}
 use Rattle.sect_front.specs.steps.Passing.{Passes, IsAbsent, StopsIn}
 use Rattle.sect_front.proofs.Leading.{operand_after}
-use Rattle.sect_front.proofs.Stopping.{stops_after, stops_here, stops_behind, refused_alike, refused_first, operator_follows}
+use Rattle.sect_front.proofs.Stopping.{stops_after, stops_here, stops_behind, refused_alike, refused_first}
+use Rattle.sect_front.proofs.Stopping.{operator_follows}
 use Rattle.sect_front.specs.declared.token.Token.TheVariants as token
 use Rattle.sect_front.specs.declared.tree.Primitive.TheVariants as primitive
 use Rattle.sect_front.specs.declared.expected.Expected.TheVariants as expected
@@ -39,7 +40,8 @@ returns-in_err-w-clause-err c =
     let stays = c.takes.ensures.stays c.if-takes.false in
     let t = operator_token c.in-Some.o in
     let p = subst (λ x. Passes x t c.takes_operator.new.self) stays c.in-Some.ensures.some in
-    given c.from_residual-in_err-w.result (λ stop. StopsIn stop (c.args.expected ∷ []) c.args.self.now c.operand.new.self)
+    given c.from_residual-in_err-w.result (λ stop. StopsIn stop (c.args.expected ∷ []) c.args.self.now
+    c.operand.new.self)
     c.in_err-w.field-0.0
     (stops_behind _ c.args.expected t (expected.Operand ∷ expected.Semicolon ∷ []) [] c.args.self.now
     c.takes_operator.new.self c.operand.new.self p
@@ -52,7 +54,8 @@ returns-in_err-sign-clause-err c =
     let stays = c.takes.ensures.stays c.if-takes.false in
     let t = operator_token c.in-Some.o in
     let p = subst (λ x. Passes x t c.takes_operator.new.self) stays c.in-Some.ensures.some in
-    given c.from_residual-in_err-sign.result (λ stop. StopsIn stop (c.args.expected ∷ []) c.args.self.now c.sign.new.self)
+    given c.from_residual-in_err-sign.result (λ stop. StopsIn stop (c.args.expected ∷ []) c.args.self.now
+    c.sign.new.self)
     c.in_err-sign.field-0.0
     (stops_behind _ c.args.expected t (expected.Operand ∷ expected.Semicolon ∷ []) [] c.args.self.now
     c.takes_operator.new.self c.sign.new.self p

@@ -43,7 +43,8 @@ returns-in_err-record-in-Record-clause-err c =
     subst (λ u. takes c.args.part u ≡ true) c.in-Record.is (sym c.takes.ensures ∙ c.if-not-takes.false) in
     let s = c.args.source.now in
     let is = is_records c.args.part s c.requires may in
-    given c.from_residual.result (λ x. Halts x c.args.part c.args.self.now c.record.new.self) c.in_err-record-in-Record.field-0.0
+    given c.from_residual.result (λ x. Halts x c.args.part c.args.self.now c.record.new.self)
+    c.in_err-record-in-Record.field-0.0
     (Within token.Record _ (expected.Name ∷ expected.HintOrBrace ∷ []) expected.Records
     (passed_calm token.Record c.args.self.now _ (λ k. refl) stands (grind arith)) (ap (λ e. follows e token.Record) is)
     c.in_err-record-in-Record.ensures.err) c.from_residual.ensures.1
@@ -60,10 +61,18 @@ returns-in_ok-add_record-in-Record-clause-ok c =
     let added = c.in_ok-add_record-in-Record.ensures.ok in
     record {
       first = token.Record;
-      tokens = token.Name c.in_ok-record-in-Record.record.name ∷ hints_tokens c.in_ok-record-in-Record.record.hints (token.OpenBrace ∷ declarations_tokens c.in_ok-record-in-Record.record.fields (token.CloseBrace ∷ []));
-      are = (_, passed_calm token.Record c.args.self.now _ (λ k. refl) stands (grind arith), c.in_ok-record-in-Record.ensures.ok);
-      next = (ap (λ e. after (e ∷ []) (record_tokens c.in_ok-record-in-Record.record [])) is ∙ record_after c.in_ok-record-in-Record.record []);
-      spelled = ap (λ x. source_tokens x []) added ∙ record_grown s c.in_ok-record-in-Record.record (subst (λ e. FitsPart e s) is c.requires);
+      tokens = token.Name c.in_ok-record-in-Record.record.name ∷ hints_tokens c.in_ok-record-in-Record.record.hints
+          (token.OpenBrace ∷ declarations_tokens c.in_ok-record-in-Record.record.fields (token.CloseBrace ∷ []));
+      are = (
+        _,
+        passed_calm token.Record c.args.self.now _ (λ k. refl) stands
+            (grind arith),
+        c.in_ok-record-in-Record.ensures.ok,
+      );
+      next = (ap (λ e. after (e ∷ []) (record_tokens c.in_ok-record-in-Record.record [])) is
+          ∙ record_after c.in_ok-record-in-Record.record []);
+      spelled = ap (λ x. source_tokens x []) added ∙ record_grown s c.in_ok-record-in-Record.record
+          (subst (λ e. FitsPart e s) is c.requires);
       fits = subst (FitsPart expected.Records) (sym added) (subst (λ e. FitsPart e s) is c.requires);
     }
 
@@ -77,7 +86,8 @@ returns-in_err-global-in-Global-clause-err c =
     let s = c.args.source.now in
     let m = may_globals c.args.part s c.requires may in
     let fits = globals_fit c.args.part s m c.requires in
-    given c.from_residual-in_err-global-in-Global.result (λ x. Halts x c.args.part c.args.self.now c.global.new.self) c.in_err-global-in-Global.field-0.0
+    given c.from_residual-in_err-global-in-Global.result (λ x. Halts x c.args.part c.args.self.now c.global.new.self)
+    c.in_err-global-in-Global.field-0.0
     (Within token.Global _ (expected.Name ∷ expected.Name ∷ expected.Semicolon ∷ []) expected.Globals
     (passed_calm token.Global c.args.self.now _ (λ k. refl) stands (grind arith)) (global_follows c.args.part m)
     c.in_err-global-in-Global.ensures.err) c.from_residual-in_err-global-in-Global.ensures.1
@@ -95,8 +105,14 @@ returns-in_ok-add_global-in-Global-clause-ok c =
     let added = c.in_ok-add_global-in-Global.ensures.ok in
     record {
       first = token.Global;
-      tokens = token.Name c.in_ok-global-in-Global.global.of ∷ token.Name c.in_ok-global-in-Global.global.name ∷ token.Semicolon ∷ [];
-      are = (_, passed_calm token.Global c.args.self.now _ (λ k. refl) stands (grind arith), c.in_ok-global-in-Global.ensures.ok);
+      tokens = token.Name c.in_ok-global-in-Global.global.of ∷ token.Name c.in_ok-global-in-Global.global.name
+          ∷ token.Semicolon ∷ [];
+      are = (
+        _,
+        passed_calm token.Global c.args.self.now _ (λ k. refl) stands
+            (grind arith),
+        c.in_ok-global-in-Global.ensures.ok,
+      );
       next = (global_after c.args.part m c.in_ok-global-in-Global.global []);
       spelled = ap (λ x. source_tokens x []) added ∙ global_grown s c.in_ok-global-in-Global.global fits;
       fits = subst (FitsPart expected.Globals) (sym added) (fits);
@@ -112,8 +128,10 @@ returns-in_err-procedure-in-Proc-clause-err c =
     let s = c.args.source.now in
     let m = may_procedures c.args.part s c.requires may in
     let fits = procedures_fit c.args.part s m c.requires in
-    given c.from_residual-in_err-procedure-in-Proc.result (λ x. Halts x c.args.part c.args.self.now c.procedure.new.self) c.in_err-procedure-in-Proc.field-0.0
-    (Within token.Proc _ (expected.Name ∷ expected.OpenParen ∷ expected.Parameter ∷ expected.OpenBody ∷ []) expected.Procedures
+    given c.from_residual-in_err-procedure-in-Proc.result (λ x. Halts x c.args.part c.args.self.now
+    c.procedure.new.self) c.in_err-procedure-in-Proc.field-0.0
+    (Within token.Proc _ (expected.Name ∷ expected.OpenParen ∷ expected.Parameter ∷ expected.OpenBody ∷ [])
+    expected.Procedures
     (passed_calm token.Proc c.args.self.now _ (λ k. refl) stands (grind arith)) (procedure_follows c.args.part m)
     c.in_err-procedure-in-Proc.ensures.err) c.from_residual-in_err-procedure-in-Proc.ensures.1
 
@@ -130,8 +148,16 @@ returns-in_ok-add_procedure-in-Proc-clause-ok c =
     let added = c.in_ok-add_procedure-in-Proc.ensures.ok in
     record {
       first = token.Proc;
-      tokens = token.Name c.in_ok-procedure-in-Proc.procedure.name ∷ token.OpenParen ∷ parameters_tokens c.in_ok-procedure-in-Proc.procedure.parameters (token.CloseParen ∷ token.OpenBrace ∷ declarations_tokens c.in_ok-procedure-in-Proc.procedure.locals (block_tokens c.in_ok-procedure-in-Proc.procedure.body (token.CloseBrace ∷ [])));
-      are = (_, passed_calm token.Proc c.args.self.now _ (λ k. refl) stands (grind arith), c.in_ok-procedure-in-Proc.ensures.ok);
+      tokens = token.Name c.in_ok-procedure-in-Proc.procedure.name ∷ token.OpenParen ∷ parameters_tokens
+          c.in_ok-procedure-in-Proc.procedure.parameters (token.CloseParen ∷ token.OpenBrace ∷ declarations_tokens
+          c.in_ok-procedure-in-Proc.procedure.locals (block_tokens c.in_ok-procedure-in-Proc.procedure.body
+          (token.CloseBrace ∷ [])));
+      are = (
+        _,
+        passed_calm token.Proc c.args.self.now _ (λ k. refl) stands
+            (grind arith),
+        c.in_ok-procedure-in-Proc.ensures.ok,
+      );
       next = (procedure_after c.args.part m c.in_ok-procedure-in-Proc.procedure []);
       spelled = ap (λ x. source_tokens x []) added ∙ procedure_grown s c.in_ok-procedure-in-Proc.procedure fits;
       fits = subst (FitsPart expected.Procedures) (sym added) (fits);
@@ -146,7 +172,8 @@ returns-in_err-thread-in-Thread-clause-err c =
     subst (λ u. takes c.args.part u ≡ true) c.in-Thread.is (sym c.takes.ensures ∙ c.if-not-takes.false) in
     let s = c.args.source.now in
     let m = may_threads c.args.part s c.requires in
-    given c.from_residual-in_err-thread-in-Thread.result (λ x. Halts x c.args.part c.args.self.now c.thread.new.self) c.in_err-thread-in-Thread.field-0.0
+    given c.from_residual-in_err-thread-in-Thread.result (λ x. Halts x c.args.part c.args.self.now c.thread.new.self)
+    c.in_err-thread-in-Thread.field-0.0
     (Within token.Thread _ (expected.Name ∷ expected.OpenBody ∷ []) expected.Threads
     (passed_calm token.Thread c.args.self.now _ (λ k. refl) stands (grind arith)) (thread_follows c.args.part m)
     c.in_err-thread-in-Thread.ensures.err) c.from_residual-in_err-thread-in-Thread.ensures.1
@@ -163,8 +190,15 @@ returns-in_ok-add_thread-in-Thread-clause-ok c =
     let added = c.in_ok-add_thread-in-Thread.ensures.ok in
     record {
       first = token.Thread;
-      tokens = token.Name c.in_ok-thread-in-Thread.thread.name ∷ token.OpenBrace ∷ declarations_tokens c.in_ok-thread-in-Thread.thread.locals (block_tokens c.in_ok-thread-in-Thread.thread.body (token.CloseBrace ∷ []));
-      are = (_, passed_calm token.Thread c.args.self.now _ (λ k. refl) stands (grind arith), c.in_ok-thread-in-Thread.ensures.ok);
+      tokens = token.Name c.in_ok-thread-in-Thread.thread.name ∷ token.OpenBrace ∷ declarations_tokens
+          c.in_ok-thread-in-Thread.thread.locals (block_tokens c.in_ok-thread-in-Thread.thread.body
+          (token.CloseBrace ∷ []));
+      are = (
+        _,
+        passed_calm token.Thread c.args.self.now _ (λ k. refl) stands
+            (grind arith),
+        c.in_ok-thread-in-Thread.ensures.ok,
+      );
       next = (thread_after c.args.part m c.in_ok-thread-in-Thread.thread []);
       spelled = ap (λ x. source_tokens x []) added ∙ thread_grown s c.in_ok-thread-in-Thread.thread;
       fits = subst (FitsPart expected.Threads) (sym added) (tt);
@@ -172,20 +206,28 @@ returns-in_ok-add_thread-in-Thread-clause-ok c =
 
 pub returns-in_err-add_record-in-Record-clause-err : goal.returns-in_err-add_record-in-Record-clause-err
 returns-in_err-add_record-in-Record-clause-err c =
-    given c.from_residual-in_err-add_record-in-Record.result (λ x. Halts x c.args.part c.args.self.now c.record.new.self)
-    c.in_err-add_record-in-Record.field-0.0 (Starved c.in_err-add_record-in-Record.ensures.err) c.from_residual-in_err-add_record-in-Record.ensures.1
+    given c.from_residual-in_err-add_record-in-Record.result (λ x. Halts x c.args.part c.args.self.now
+    c.record.new.self)
+    c.in_err-add_record-in-Record.field-0.0 (Starved c.in_err-add_record-in-Record.ensures.err)
+    c.from_residual-in_err-add_record-in-Record.ensures.1
 
 pub returns-in_err-add_global-in-Global-clause-err : goal.returns-in_err-add_global-in-Global-clause-err
 returns-in_err-add_global-in-Global-clause-err c =
-    given c.from_residual-in_err-add_global-in-Global.result (λ x. Halts x c.args.part c.args.self.now c.global.new.self)
-    c.in_err-add_global-in-Global.field-0.0 (Starved c.in_err-add_global-in-Global.ensures.err) c.from_residual-in_err-add_global-in-Global.ensures.1
+    given c.from_residual-in_err-add_global-in-Global.result (λ x. Halts x c.args.part c.args.self.now
+    c.global.new.self)
+    c.in_err-add_global-in-Global.field-0.0 (Starved c.in_err-add_global-in-Global.ensures.err)
+    c.from_residual-in_err-add_global-in-Global.ensures.1
 
 pub returns-in_err-add_procedure-in-Proc-clause-err : goal.returns-in_err-add_procedure-in-Proc-clause-err
 returns-in_err-add_procedure-in-Proc-clause-err c =
-    given c.from_residual-in_err-add_procedure-in-Proc.result (λ x. Halts x c.args.part c.args.self.now c.procedure.new.self)
-    c.in_err-add_procedure-in-Proc.field-0.0 (Starved c.in_err-add_procedure-in-Proc.ensures.err) c.from_residual-in_err-add_procedure-in-Proc.ensures.1
+    given c.from_residual-in_err-add_procedure-in-Proc.result (λ x. Halts x c.args.part c.args.self.now
+    c.procedure.new.self)
+    c.in_err-add_procedure-in-Proc.field-0.0 (Starved c.in_err-add_procedure-in-Proc.ensures.err)
+    c.from_residual-in_err-add_procedure-in-Proc.ensures.1
 
 pub returns-in_err-add_thread-in-Thread-clause-err : goal.returns-in_err-add_thread-in-Thread-clause-err
 returns-in_err-add_thread-in-Thread-clause-err c =
-    given c.from_residual-in_err-add_thread-in-Thread.result (λ x. Halts x c.args.part c.args.self.now c.thread.new.self)
-    c.in_err-add_thread-in-Thread.field-0.0 (Starved c.in_err-add_thread-in-Thread.ensures.err) c.from_residual-in_err-add_thread-in-Thread.ensures.1
+    given c.from_residual-in_err-add_thread-in-Thread.result (λ x. Halts x c.args.part c.args.self.now
+    c.thread.new.self)
+    c.in_err-add_thread-in-Thread.field-0.0 (Starved c.in_err-add_thread-in-Thread.ensures.err)
+    c.from_residual-in_err-add_thread-in-Thread.ensures.1

@@ -81,7 +81,8 @@ returns-in-Name-clause-err c =
     let stands = subst (λ u. Stands c.args.self.now.here u c.in-Some.rest.now) c.in-Name.is
     (subst (λ x. Stands x c.token_at.new.token c.in-Some.rest.now) same c.in-Some.ensures.some) in
     let t = token.Name c.in-Name.x in
-    IfErr-weaker c.after_word.result _ (λ s. StopsIn s (expected.StartOrLocal ∷ []) c.args.self.now c.after_word.new.self)
+    IfErr-weaker c.after_word.result _ (λ s. StopsIn s (expected.StartOrLocal ∷ []) c.args.self.now
+    c.after_word.new.self)
     (λ s h. stops_behind s expected.StartOrLocal t (expected.NameOrAfterName ∷ []) [] c.args.self.now _
     c.after_word.new.self (passed_calm t c.args.self.now _ (λ k. refl) stands (grind arith)) refl h)
     c.after_word.ensures.err
@@ -89,7 +90,8 @@ returns-in-Name-clause-err c =
 pub statement-requires : goal.statement-requires
 statement-requires c =
     let same : c.self.inside.here.now ≡ c.args.self.now.here = grind arith in
-    let here : record { here = c.self.inside.here.now; braces = c.self.inside.braces } ≡ c.args.self.now = grind arith in
+    let here : record { here = c.self.inside.here.now; braces = c.self.inside.braces } ≡ c.args.self.now = grind
+    arith in
     let stands = subst (λ x. Stands x c.token_at.new.token c.in-Some.rest.now) same c.in-Some.ensures.some in
     record {
       alike = alike_local c.args.self.now c.in-Some.rest.now c.token_at.new.token stands c.in_default-token.not-Int

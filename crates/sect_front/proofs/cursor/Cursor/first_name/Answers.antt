@@ -11,7 +11,8 @@ returns-then-takes-clause-ok c =
     let front = token.Name c.args.x.now ∷ token.Equal ∷ token.Name c.args.y.now ∷ [] in
     IfOk-weaker c.load.result _
     (λ _. HasAdded expected.Start front c.args.self.now c.load.new.self c.args.block.now c.load.new.block)
-    (λ _ h. added_behind expected.Start front token.Dot c.args.self.now c.takes.new.self c.load.new.self c.args.block.now
+    (λ _ h. added_behind expected.Start front token.Dot c.args.self.now c.takes.new.self c.load.new.self
+    c.args.block.now
     c.load.new.block (c.takes.ensures.taken token.Dot refl (λ k. refl) c.if-takes.true) h)
     c.load.ensures.ok
 

@@ -12,13 +12,15 @@ returns-then-takes_equal-clause-ok c =
     let front = token.Name c.args.x.now ∷ [] in
     IfOk-weaker c.value.result _
     (λ _. HasAdded expected.Start front c.args.self.now c.value.new.self c.args.block.now c.value.new.block)
-    (λ _ h. added_behind expected.Start front token.Equal c.args.self.now c.takes_equal.new.self c.value.new.self c.args.block.now c.value.new.block
+    (λ _ h. added_behind expected.Start front token.Equal c.args.self.now c.takes_equal.new.self c.value.new.self
+    c.args.block.now c.value.new.block
     (c.takes_equal.ensures.taken c.if-takes_equal.true) h) c.value.ensures.ok
 
 pub returns-then-takes_equal-clause-err : goal.returns-then-takes_equal-clause-err
 returns-then-takes_equal-clause-err c =
     IfErr-weaker c.value.result _ (λ s. StopsIn s (expected.AfterName ∷ []) c.args.self.now c.value.new.self)
-    (λ s h. stops_behind s expected.AfterName token.Equal (expected.Value ∷ []) [] c.args.self.now c.takes_equal.new.self c.value.new.self
+    (λ s h. stops_behind s expected.AfterName token.Equal (expected.Value ∷ []) [] c.args.self.now
+    c.takes_equal.new.self c.value.new.self
     (c.takes_equal.ensures.taken c.if-takes_equal.true) refl h) c.value.ensures.err
 
 pub returns-then-takes-clause-ok : goal.returns-then-takes-clause-ok
@@ -26,14 +28,16 @@ returns-then-takes-clause-ok c =
     let front = token.Name c.args.x.now ∷ [] in
     IfOk-weaker c.store.result _
     (λ _. HasAdded expected.Start front c.args.self.now c.store.new.self c.args.block.now c.store.new.block)
-    (λ _ h. added_behind expected.Start front token.Dot c.args.self.now c.takes.new.self c.store.new.self c.args.block.now c.store.new.block
+    (λ _ h. added_behind expected.Start front token.Dot c.args.self.now c.takes.new.self c.store.new.self
+    c.args.block.now c.store.new.block
     (subst (λ x. Passes x token.Dot c.takes.new.self) (c.takes_equal.ensures.stays c.if-takes_equal.false)
     (c.takes.ensures.taken token.Dot refl (λ k. refl) c.if-takes.true)) h) c.store.ensures.ok
 
 pub returns-then-takes-clause-err : goal.returns-then-takes-clause-err
 returns-then-takes-clause-err c =
     IfErr-weaker c.store.result _ (λ s. StopsIn s (expected.AfterName ∷ []) c.args.self.now c.store.new.self)
-    (λ s h. stops_behind s expected.AfterName token.Dot (store_places []) [] c.args.self.now c.takes.new.self c.store.new.self
+    (λ s h. stops_behind s expected.AfterName token.Dot (store_places []) [] c.args.self.now c.takes.new.self
+    c.store.new.self
     (subst (λ x. Passes x token.Dot c.takes.new.self) (c.takes_equal.ensures.stays c.if-takes_equal.false)
     (c.takes.ensures.taken token.Dot refl (λ k. refl) c.if-takes.true)) refl h) c.store.ensures.err
 

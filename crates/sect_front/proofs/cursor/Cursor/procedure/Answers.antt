@@ -12,15 +12,18 @@ use Rattle.sect_front.proofs.cursor.Cursor.procedure.Goals as goal
 
 pub returns-in_err-name-clause-err : goal.returns-in_err-name-clause-err
 returns-in_err-name-clause-err c =
-    given c.from_residual.result (λ s. StopsIn s (expected.Name ∷ expected.OpenParen ∷ expected.Parameter ∷ expected.OpenBody ∷ []) c.args.self.now c.name.new.self) c.in_err-name.field-0.0
+    given c.from_residual.result (λ s. StopsIn s (expected.Name ∷ expected.OpenParen ∷ expected.Parameter
+    ∷ expected.OpenBody ∷ []) c.args.self.now c.name.new.self) c.in_err-name.field-0.0
     (stops_here _ expected.Name (expected.OpenParen ∷ expected.Parameter ∷ expected.OpenBody ∷ []) c.args.self.now
     c.name.new.self c.in_err-name.ensures.err) c.from_residual.ensures.1
 
 pub returns-in_err-sign-clause-err : goal.returns-in_err-sign-clause-err
 returns-in_err-sign-clause-err c =
-    given c.from_residual-in_err-sign.result (λ s. StopsIn s (expected.Name ∷ expected.OpenParen ∷ expected.Parameter ∷ expected.OpenBody ∷ []) c.args.self.now c.sign.new.self)
+    given c.from_residual-in_err-sign.result (λ s. StopsIn s (expected.Name ∷ expected.OpenParen ∷ expected.Parameter
+    ∷ expected.OpenBody ∷ []) c.args.self.now c.sign.new.self)
     c.in_err-sign.field-0.0
-    (stops_after _ (expected.Name ∷ expected.OpenParen ∷ expected.Parameter ∷ expected.OpenBody ∷ []) (expected.OpenParen ∷ expected.Parameter ∷ expected.OpenBody ∷ [])
+    (stops_after _ (expected.Name ∷ expected.OpenParen ∷ expected.Parameter ∷ expected.OpenBody ∷ [])
+    (expected.OpenParen ∷ expected.Parameter ∷ expected.OpenBody ∷ [])
     (token.Name c.in_ok-name.name ∷ []) c.args.self.now c.name.new.self c.sign.new.self
     (c.name.new.self, c.in_ok-name.ensures.ok, refl) refl
     (stops_here _ expected.OpenParen (expected.Parameter ∷ expected.OpenBody ∷ []) c.name.new.self c.sign.new.self
@@ -28,9 +31,11 @@ returns-in_err-sign-clause-err c =
 
 pub returns-in_err-parameters-clause-err : goal.returns-in_err-parameters-clause-err
 returns-in_err-parameters-clause-err c =
-    given c.from_residual-in_err-parameters.result (λ s. StopsIn s (expected.Name ∷ expected.OpenParen ∷ expected.Parameter ∷ expected.OpenBody ∷ []) c.args.self.now c.parameters.new.self)
+    given c.from_residual-in_err-parameters.result (λ s. StopsIn s (expected.Name ∷ expected.OpenParen
+    ∷ expected.Parameter ∷ expected.OpenBody ∷ []) c.args.self.now c.parameters.new.self)
     c.in_err-parameters.field-0.0
-    (stops_after _ (expected.Name ∷ expected.OpenParen ∷ expected.Parameter ∷ expected.OpenBody ∷ []) (expected.Parameter ∷ expected.OpenBody ∷ [])
+    (stops_after _ (expected.Name ∷ expected.OpenParen ∷ expected.Parameter ∷ expected.OpenBody ∷ [])
+    (expected.Parameter ∷ expected.OpenBody ∷ [])
     (token.Name c.in_ok-name.name ∷ token.OpenParen ∷ []) c.args.self.now c.sign.new.self c.parameters.new.self
     (c.name.new.self, c.in_ok-name.ensures.ok, (c.sign.new.self, c.in_ok-sign.ensures.ok, refl)) refl
     (stops_more _ (expected.Parameter ∷ []) (expected.OpenBody ∷ []) c.sign.new.self c.parameters.new.self
@@ -39,12 +44,21 @@ returns-in_err-parameters-clause-err c =
 pub returns-in_err-open_brace-clause-err : goal.returns-in_err-open_brace-clause-err
 returns-in_err-open_brace-clause-err c =
     let ps = c.in_ok-parameters.parameters in
-    given c.from_residual-in_err-open_brace.result (λ s. StopsIn s (expected.Name ∷ expected.OpenParen ∷ expected.Parameter ∷ expected.OpenBody ∷ []) c.args.self.now c.open_brace.new.self)
+    given c.from_residual-in_err-open_brace.result (λ s. StopsIn s (expected.Name ∷ expected.OpenParen
+    ∷ expected.Parameter ∷ expected.OpenBody ∷ []) c.args.self.now c.open_brace.new.self)
     c.in_err-open_brace.field-0.0
-    (stops_after _ (expected.Name ∷ expected.OpenParen ∷ expected.Parameter ∷ expected.OpenBody ∷ []) (expected.OpenBody ∷ [])
+    (stops_after _ (expected.Name ∷ expected.OpenParen ∷ expected.Parameter ∷ expected.OpenBody ∷ [])
+    (expected.OpenBody ∷ [])
     (token.Name c.in_ok-name.name ∷ token.OpenParen ∷ parameters_tokens ps (token.CloseParen ∷ [])) c.args.self.now
-    c.parameters.new.self c.open_brace.new.self
-    (c.name.new.self, c.in_ok-name.ensures.ok, (c.sign.new.self, c.in_ok-sign.ensures.ok, c.in_ok-parameters.ensures.ok))
+    c.parameters.new.self c.open_brace.new.self (
+      c.name.new.self,
+      c.in_ok-name.ensures.ok,
+      (
+        c.sign.new.self,
+        c.in_ok-sign.ensures.ok,
+        c.in_ok-parameters.ensures.ok,
+      ),
+    )
     (parameters_after ps (expected.OpenBody ∷ []) [])
     (stops_at_brace _ expected.OpenBody [] c.parameters.new.self c.open_brace.new.self c.in_err-open_brace.ensures.err
     (refused_body c.parameters.new.self) (λ rest s. refl))) c.from_residual-in_err-open_brace.ensures.1
@@ -57,9 +71,11 @@ returns-in_err-body-clause-err c =
     (passed_append c.sign.new.self (parameters_tokens ps (token.CloseParen ∷ [])) (token.OpenBrace ∷ [])
     c.parameters.new.self c.open_brace.new.self c.in_ok-parameters.ensures.ok
     (c.open_brace.new.self, c.in_ok-open_brace.ensures.ok, refl)) in
-    given c.from_residual-in_err-body.result (λ s. StopsIn s (expected.Name ∷ expected.OpenParen ∷ expected.Parameter ∷ expected.OpenBody ∷ []) c.args.self.now c.body.new.self)
+    given c.from_residual-in_err-body.result (λ s. StopsIn s (expected.Name ∷ expected.OpenParen ∷ expected.Parameter
+    ∷ expected.OpenBody ∷ []) c.args.self.now c.body.new.self)
     c.in_err-body.field-0.0
-    (stops_after _ (expected.Name ∷ expected.OpenParen ∷ expected.Parameter ∷ expected.OpenBody ∷ []) (expected.StartOrLocal ∷ []) (token.Name c.in_ok-name.name ∷ token.OpenParen
+    (stops_after _ (expected.Name ∷ expected.OpenParen ∷ expected.Parameter ∷ expected.OpenBody ∷ [])
+    (expected.StartOrLocal ∷ []) (token.Name c.in_ok-name.name ∷ token.OpenParen
     ∷ parameters_tokens ps (token.CloseParen ∷ token.OpenBrace ∷ [])) c.args.self.now c.open_brace.new.self
     c.body.new.self (c.name.new.self, c.in_ok-name.ensures.ok, (c.sign.new.self, c.in_ok-sign.ensures.ok, opened))
     (parameters_after ps (expected.OpenBody ∷ []) (token.OpenBrace ∷ [])) c.in_err-body.ensures.err)

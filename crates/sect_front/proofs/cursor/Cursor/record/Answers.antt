@@ -12,24 +12,29 @@ use Rattle.sect_front.proofs.cursor.Cursor.record.Goals as goal
 
 pub returns-in_err-name-clause-err : goal.returns-in_err-name-clause-err
 returns-in_err-name-clause-err c =
-    given c.from_residual.result (λ s. StopsIn s (expected.Name ∷ expected.HintOrBrace ∷ []) c.args.self.now c.name.new.self) c.in_err-name.field-0.0
+    given c.from_residual.result (λ s. StopsIn s (expected.Name ∷ expected.HintOrBrace ∷ []) c.args.self.now
+    c.name.new.self) c.in_err-name.field-0.0
     (stops_here _ expected.Name (expected.HintOrBrace ∷ []) c.args.self.now c.name.new.self c.in_err-name.ensures.err)
     c.from_residual.ensures.1
 
 pub returns-in_err-hints-clause-err : goal.returns-in_err-hints-clause-err
 returns-in_err-hints-clause-err c =
-    given c.from_residual-in_err-hints.result (λ s. StopsIn s (expected.Name ∷ expected.HintOrBrace ∷ []) c.args.self.now c.hints.new.self)
+    given c.from_residual-in_err-hints.result (λ s. StopsIn s (expected.Name ∷ expected.HintOrBrace ∷ [])
+    c.args.self.now c.hints.new.self)
     c.in_err-hints.field-0.0
-    (stops_after _ (expected.Name ∷ expected.HintOrBrace ∷ []) (expected.HintOrBrace ∷ []) (token.Name c.in_ok-name.name ∷ []) c.args.self.now
+    (stops_after _ (expected.Name ∷ expected.HintOrBrace ∷ []) (expected.HintOrBrace ∷ [])
+    (token.Name c.in_ok-name.name ∷ []) c.args.self.now
     c.name.new.self c.hints.new.self (c.name.new.self, c.in_ok-name.ensures.ok, refl) refl c.in_err-hints.ensures.err)
     c.from_residual-in_err-hints.ensures.1
 
 pub returns-in_err-open_brace-clause-err : goal.returns-in_err-open_brace-clause-err
 returns-in_err-open_brace-clause-err c =
     let hs = c.in_ok-hints.hints in
-    given c.from_residual-in_err-open_brace.result (λ s. StopsIn s (expected.Name ∷ expected.HintOrBrace ∷ []) c.args.self.now c.open_brace.new.self)
+    given c.from_residual-in_err-open_brace.result (λ s. StopsIn s (expected.Name ∷ expected.HintOrBrace ∷ [])
+    c.args.self.now c.open_brace.new.self)
     c.in_err-open_brace.field-0.0
-    (stops_after _ (expected.Name ∷ expected.HintOrBrace ∷ []) (expected.HintOrBrace ∷ []) (token.Name c.in_ok-name.name ∷ hints_tokens hs [])
+    (stops_after _ (expected.Name ∷ expected.HintOrBrace ∷ []) (expected.HintOrBrace ∷ [])
+    (token.Name c.in_ok-name.name ∷ hints_tokens hs [])
     c.args.self.now c.hints.new.self c.open_brace.new.self
     (c.name.new.self, c.in_ok-name.ensures.ok, c.in_ok-hints.ensures.ok) (hints_after hs [] [])
     (stops_at_brace _ expected.HintOrBrace [] c.hints.new.self c.open_brace.new.self c.in_err-open_brace.ensures.err
@@ -44,7 +49,8 @@ returns-in_err-fields-clause-err c =
     (passed_append c.name.new.self (hints_tokens hs []) (token.OpenBrace ∷ []) c.hints.new.self
     c.open_brace.new.self c.in_ok-hints.ensures.ok
     (c.open_brace.new.self, c.in_ok-open_brace.ensures.ok, refl)) in
-    given c.from_residual-in_err-fields.result (λ s. StopsIn s (expected.Name ∷ expected.HintOrBrace ∷ []) c.args.self.now c.fields.new.self)
+    given c.from_residual-in_err-fields.result (λ s. StopsIn s (expected.Name ∷ expected.HintOrBrace ∷ [])
+    c.args.self.now c.fields.new.self)
     c.in_err-fields.field-0.0
     (stops_after _ (expected.Name ∷ expected.HintOrBrace ∷ []) (expected.Field ∷ [])
     (token.Name c.in_ok-name.name ∷ hints_tokens hs (token.OpenBrace ∷ [])) c.args.self.now c.open_brace.new.self

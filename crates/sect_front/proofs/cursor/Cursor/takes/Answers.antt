@@ -13,4 +13,5 @@ pub returns-clause-taken : goal.returns-clause-taken
 returns-clause-taken c = λ token e calm h.
     let same : c.self.inside.here.now ≡ c.args.self.now.here = grind arith in
     passed_calm token c.args.self.now _ calm
-    (subst (λ x. Stands x token c.in-Some.rest.now) same (rw c.in-Some.is at c.sign_at.ensures.some token e)) (grind arith)
+    (subst (λ x. Stands x token c.in-Some.rest.now) same (rw c.in-Some.is at c.sign_at.ensures.some token e))
+    (grind arith)

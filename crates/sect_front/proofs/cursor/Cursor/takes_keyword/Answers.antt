@@ -6,7 +6,8 @@ use Rattle.sect_front.proofs.cursor.Cursor.takes_keyword.Goals as goal
 pub returns-in_default-clause-none : goal.returns-in_default-clause-none
 returns-in_default-clause-none c = λ h rest s.
     let same : c.self.inside.here.now ≡ c.args.self.now.here = grind arith in
-    (rw c.in_default.is at c.token_at.ensures.none) _ rest (subst (λ x. Stands x (keyword_token c.args.keyword) rest) (sym same) s)
+    (rw c.in_default.is at c.token_at.ensures.none) _ rest (subst (λ x. Stands x (keyword_token c.args.keyword) rest)
+    (sym same) s)
 
 pub returns-then-not-is-clause-none : goal.returns-then-not-is-clause-none
 returns-then-not-is-clause-none c = λ h rest s.

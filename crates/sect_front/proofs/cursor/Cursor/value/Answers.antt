@@ -1,7 +1,8 @@
 use Rattle.std.proofs.Common.{◌≡◌, [], ◌∷◌, refl, subst, arith}
 use Rattle.std.proofs.lemmas.Result.{IfOk-weaker, IfErr-weaker}
 use Rattle.sect_front.specs.steps.Passing.{Stands, IsBare, StopsIn, HasAdded}
-use Rattle.sect_front.proofs.Stopping.{stops_behind, stops_here, added_behind, passed_calm, refused_bare, refused_by, no_value}
+use Rattle.sect_front.proofs.Stopping.{stops_behind, stops_here, added_behind, passed_calm, refused_bare, refused_by}
+use Rattle.sect_front.proofs.Stopping.{no_value}
 use Rattle.sect_front.specs.declared.token.Token.TheVariants as token
 use Rattle.sect_front.specs.declared.expected.Expected.TheVariants as expected
 use Rattle.sect_front.specs.declared.cursor.Stop.TheVariants as stop
@@ -29,8 +30,10 @@ returns-in-Name-clause-ok c =
     let t = token.Name c.in-Name.y in
     IfOk-weaker c.first_name.result _
     (λ _. HasAdded expected.Start front c.args.self.now c.first_name.new.self c.args.block.now c.first_name.new.block)
-    (λ _ h. added_behind expected.Start front t c.args.self.now _ c.first_name.new.self c.args.block.now c.first_name.new.block
-    (passed_calm t c.args.self.now _ (λ k. refl) (subst (λ u. Stands c.args.self.now.here u c.in-Some.rest.now) c.in-Name.is
+    (λ _ h. added_behind expected.Start front t c.args.self.now _ c.first_name.new.self c.args.block.now
+    c.first_name.new.block
+    (passed_calm t c.args.self.now _ (λ k. refl) (subst (λ u. Stands c.args.self.now.here u c.in-Some.rest.now)
+    c.in-Name.is
     (subst (λ x. Stands x c.token_at.new.token c.in-Some.rest.now) same c.in-Some.ensures.some)) (grind arith)) h)
     c.first_name.ensures.ok
 
@@ -40,7 +43,8 @@ returns-in-Name-clause-err c =
     let t = token.Name c.in-Name.y in
     IfErr-weaker c.first_name.result _ (λ s. StopsIn s (expected.Value ∷ []) c.args.self.now c.first_name.new.self)
     (λ s h. stops_behind s expected.Value t (expected.AfterFirstName ∷ []) [] c.args.self.now _ c.first_name.new.self
-    (passed_calm t c.args.self.now _ (λ k. refl) (subst (λ u. Stands c.args.self.now.here u c.in-Some.rest.now) c.in-Name.is
+    (passed_calm t c.args.self.now _ (λ k. refl) (subst (λ u. Stands c.args.self.now.here u c.in-Some.rest.now)
+    c.in-Name.is
     (subst (λ x. Stands x c.token_at.new.token c.in-Some.rest.now) same c.in-Some.ensures.some)) (grind arith)) refl h)
     c.first_name.ensures.err
 
@@ -52,7 +56,8 @@ returns-in-New-clause-ok c =
     IfOk-weaker c.made.result _
     (λ _. HasAdded expected.Start front c.args.self.now c.made.new.self c.args.block.now c.made.new.block)
     (λ _ h. added_behind expected.Start front t c.args.self.now _ c.made.new.self c.args.block.now c.made.new.block
-    (passed_calm t c.args.self.now _ (λ k. refl) (subst (λ u. Stands c.args.self.now.here u c.in-Some.rest.now) c.in-New.is
+    (passed_calm t c.args.self.now _ (λ k. refl) (subst (λ u. Stands c.args.self.now.here u c.in-Some.rest.now)
+    c.in-New.is
     (subst (λ x. Stands x c.token_at.new.token c.in-Some.rest.now) same c.in-Some.ensures.some)) (grind arith)) h)
     c.made.ensures.ok
 
@@ -61,8 +66,10 @@ returns-in-New-clause-err c =
     let same : c.self.inside.here.now ≡ c.args.self.now.here = grind arith in
     let t = token.New in
     IfErr-weaker c.made.result _ (λ s. StopsIn s (expected.Value ∷ []) c.args.self.now c.made.new.self)
-    (λ s h. stops_behind s expected.Value t (expected.Name ∷ expected.Semicolon ∷ []) [] c.args.self.now _ c.made.new.self
-    (passed_calm t c.args.self.now _ (λ k. refl) (subst (λ u. Stands c.args.self.now.here u c.in-Some.rest.now) c.in-New.is
+    (λ s h. stops_behind s expected.Value t (expected.Name ∷ expected.Semicolon ∷ []) [] c.args.self.now _
+    c.made.new.self
+    (passed_calm t c.args.self.now _ (λ k. refl) (subst (λ u. Stands c.args.self.now.here u c.in-Some.rest.now)
+    c.in-New.is
     (subst (λ x. Stands x c.token_at.new.token c.in-Some.rest.now) same c.in-Some.ensures.some)) (grind arith)) refl h)
     c.made.ensures.err
 
@@ -73,8 +80,10 @@ returns-in-Number-clause-ok c =
     let t = token.Number c.in-Number.n in
     IfOk-weaker c.computed.result _
     (λ _. HasAdded expected.Start front c.args.self.now c.computed.new.self c.args.block.now c.computed.new.block)
-    (λ _ h. added_behind expected.Start front t c.args.self.now _ c.computed.new.self c.args.block.now c.computed.new.block
-    (passed_calm t c.args.self.now _ (λ k. refl) (subst (λ u. Stands c.args.self.now.here u c.in-Some.rest.now) c.in-Number.is
+    (λ _ h. added_behind expected.Start front t c.args.self.now _ c.computed.new.self c.args.block.now
+    c.computed.new.block
+    (passed_calm t c.args.self.now _ (λ k. refl) (subst (λ u. Stands c.args.self.now.here u c.in-Some.rest.now)
+    c.in-Number.is
     (subst (λ x. Stands x c.token_at.new.token c.in-Some.rest.now) same c.in-Some.ensures.some)) (grind arith)) h)
     c.computed.ensures.ok
 
@@ -84,7 +93,8 @@ returns-in-Number-clause-err c =
     let t = token.Number c.in-Number.n in
     IfErr-weaker c.computed.result _ (λ s. StopsIn s (expected.Value ∷ []) c.args.self.now c.computed.new.self)
     (λ s h. stops_behind s expected.Value t (expected.AfterFirst ∷ []) [] c.args.self.now _ c.computed.new.self
-    (passed_calm t c.args.self.now _ (λ k. refl) (subst (λ u. Stands c.args.self.now.here u c.in-Some.rest.now) c.in-Number.is
+    (passed_calm t c.args.self.now _ (λ k. refl) (subst (λ u. Stands c.args.self.now.here u c.in-Some.rest.now)
+    c.in-Number.is
     (subst (λ x. Stands x c.token_at.new.token c.in-Some.rest.now) same c.in-Some.ensures.some)) (grind arith)) refl h)
     c.computed.ensures.err
 
@@ -94,9 +104,12 @@ returns-in-Null-clause-ok c =
     let front = token.Name c.args.x.now ∷ token.Equal ∷ [] in
     let t = token.Null in
     IfOk-weaker c.computed-in-Null.result _
-    (λ _. HasAdded expected.Start front c.args.self.now c.computed-in-Null.new.self c.args.block.now c.computed-in-Null.new.block)
-    (λ _ h. added_behind expected.Start front t c.args.self.now _ c.computed-in-Null.new.self c.args.block.now c.computed-in-Null.new.block
-    (passed_calm t c.args.self.now _ (λ k. refl) (subst (λ u. Stands c.args.self.now.here u c.in-Some.rest.now) c.in-Null.is
+    (λ _. HasAdded expected.Start front c.args.self.now c.computed-in-Null.new.self c.args.block.now
+    c.computed-in-Null.new.block)
+    (λ _ h. added_behind expected.Start front t c.args.self.now _ c.computed-in-Null.new.self c.args.block.now
+    c.computed-in-Null.new.block
+    (passed_calm t c.args.self.now _ (λ k. refl) (subst (λ u. Stands c.args.self.now.here u c.in-Some.rest.now)
+    c.in-Null.is
     (subst (λ x. Stands x c.token_at.new.token c.in-Some.rest.now) same c.in-Some.ensures.some)) (grind arith)) h)
     c.computed-in-Null.ensures.ok
 
@@ -104,9 +117,11 @@ pub returns-in-Null-clause-err : goal.returns-in-Null-clause-err
 returns-in-Null-clause-err c =
     let same : c.self.inside.here.now ≡ c.args.self.now.here = grind arith in
     let t = token.Null in
-    IfErr-weaker c.computed-in-Null.result _ (λ s. StopsIn s (expected.Value ∷ []) c.args.self.now c.computed-in-Null.new.self)
+    IfErr-weaker c.computed-in-Null.result _ (λ s. StopsIn s (expected.Value ∷ []) c.args.self.now
+    c.computed-in-Null.new.self)
     (λ s h. stops_behind s expected.Value t (expected.AfterFirst ∷ []) [] c.args.self.now _ c.computed-in-Null.new.self
-    (passed_calm t c.args.self.now _ (λ k. refl) (subst (λ u. Stands c.args.self.now.here u c.in-Some.rest.now) c.in-Null.is
+    (passed_calm t c.args.self.now _ (λ k. refl) (subst (λ u. Stands c.args.self.now.here u c.in-Some.rest.now)
+    c.in-Null.is
     (subst (λ x. Stands x c.token_at.new.token c.in-Some.rest.now) same c.in-Some.ensures.some)) (grind arith)) refl h)
     c.computed-in-Null.ensures.err
 

@@ -1,5 +1,5 @@
 -- What stands at the front of a text, and where a rule of the grammar stops.
-use Rattle.std.proofs.Common.{◌≡◌, ◌≢◌, ℕ, suc, zero, ◌<◌, ◌≤◌, Bool, true, false, List, [], ◌∷◌, ◌++◌, Some, None}
+use Rattle.std.proofs.Common.{◌≡◌, ℕ, suc, zero, ◌<◌, ◌≤◌, Bool, true, false, List, [], ◌∷◌, ◌++◌, Some, None}
 use Rattle.std.proofs.Common.{length, take, drop, refl, sym, ◌∙◌, ap, subst, arith, append_assoc, is_some}
 use Rattle.std.specs.Prelude.{get_or, not, if◌then◌else◌}
 use Rattle.std.proofs.lemmas.List.{length-take-le}
@@ -9,7 +9,6 @@ use Rattle.sect_front.specs.Syntax.{BlockView}
 use Rattle.sect_front.specs.{Limits.{most_depth}, Grammar.{operand_token, operator_token, kind_token}}
 use Rattle.sect_front.specs.{declared.token.Token.{Token}, declared.tree.Operand.{Operand}}
 use Rattle.sect_front.specs.{declared.tree.Operator.{Operator}, declared.tree.Kind.{Kind}}
-use Rattle.sect_front.specs.declared.tree.Comparison.{Comparison}
 use Rattle.sect_front.specs.{declared.expected.Expected.{Expected}, declared.cursor.Stop.{Stop}}
 use Rattle.sect_front.specs.declared.cursor.Keyword.{Keyword}
 use Rattle.sect_front.specs.steps.{Recognition.{single_sign, double_sign}, Lexeme.{lexeme_of, longest}}
@@ -192,12 +191,6 @@ absent_operator here p m s operator.Add = p
 absent_operator here p m s operator.Subtract = m
 absent_operator here p m s operator.Multiply = s
 
-refused_with_paren : (here : CursorView) (e d : Expected)
-    → ((t : Token) → t ≢ token.CloseParen → takes e t ≡ takes d t) → IsAbsent token.CloseParen here
-    → IsRefused d here → IsRefused e here
-refused_with_paren here e d same h k t rest s =
-    same t (λ is. h rest (subst (λ x. Stands here.here x rest) is s)) ∙ k t rest s
-
 pub refused_argument : (here : CursorView) → IsAbsent token.CloseParen here → IsRefused expected.Operand here
     → IsRefused expected.Argument here
 refused_argument here h k token.CloseParen rest s = absurd (h rest s)
@@ -245,15 +238,6 @@ refused_brace here k _ rest s = refl
 pub refused_body : (here : CursorView) → IsAbsent token.OpenBrace here → IsRefused expected.OpenBody here
 refused_body here k token.OpenBrace rest s = absurd (k rest s)
 refused_body here k _ rest s = refl
-
-pub no_name : (t : Token) → ((x : List ℕ) → t ≡ token.Name x → ⊥) → takes expected.Name t ≡ false
-no_name (token.Name x) h = absurd (h x refl)
-no_name _ h = refl
-
-pub no_comparison : (t : Token) → ((x : Comparison) → t ≡ token.Comparison x → ⊥)
-    → takes expected.Comparison t ≡ false
-no_comparison (token.Comparison x) h = absurd (h x refl)
-no_comparison _ h = refl
 
 pub no_value : (t : Token) → ((x : List ℕ) → t ≡ token.Name x → ⊥) → (t ≡ token.New → ⊥)
     → ((n : ℕ) → t ≡ token.Number n → ⊥) → (t ≡ token.Null → ⊥) → takes expected.Value t ≡ false
@@ -394,12 +378,6 @@ stops_at_brace stop.TooDeep e ps here there h refused may = (
   record { passed = []; are = sym h.0; rest = ps; next = refl },
   subst (IsDeep e) (sym h.0) (record { rest = h.1; brace = h.2; may = may h.1 h.2; most = h.3 }),
 )
-
--- the operand of a place is passed
-pub operand_follows : (v : Operand) → follows expected.Operand (operand_token v) ≡ Some []
-operand_follows (operand.Number n) = refl
-operand_follows (operand.Name n) = refl
-operand_follows operand.Null = refl
 
 pub operator_follows : (o : Operator)
     → follows expected.AfterFirst (operator_token o) ≡ Some (expected.Operand ∷ expected.Semicolon ∷ [])

@@ -3,9 +3,8 @@
 ghost use Rattle.std.specs.Prelude.{◌≡◌, [], IfOk};
 ghost use Rattle.sect_front.specs.{Gaps.{after_gap as gap_of}, LongGaps.{IsRestOf, AreGaps}};
 
-use crate::lexer::{after_gap, is_tight, put_lexeme};
+use crate::lexer::{after_gap, is_tight};
 use crate::span::Span;
-use crate::token::Token;
 use std::alloc::AllocError;
 
 /// A gap of so many bytes is long.
@@ -94,20 +93,14 @@ fn keep(bytes: &[u8], here: &[u8], after: &[u8], gaps: &mut Vec<Span>) -> Result
     Ok(())
 }
 
-/// Adds the long gaps of a text to these, up to the first place at which no token stands.
+/// Adds the long gaps of a text to these. A byte in a token begins none, so no token is looked at.
 pub fn put_gaps(bytes: &[u8], gaps: &mut Vec<Span>) -> Result<(), AllocError>
     requires { AreGaps bytes.now gaps.old.items }
     ensures { AreGaps bytes.now gaps.new.items }
 {
-    let mut token = Token::Class;
     let mut here = pass_gap(bytes, bytes, gaps)?;
-    while !here.is_empty() {
-        let length = put_lexeme(here, &mut token);
-        if length == 0 {
-            return Ok(());
-        }
-        let (_, after) = here.split_at(length);
-        here = pass_gap(bytes, after, gaps)?;
+    'more: while let Some((_, others)) = here.split_first() {
+        here = pass_gap(bytes, others, gaps)?;
     }
     Ok(())
 }

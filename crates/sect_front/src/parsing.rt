@@ -185,8 +185,8 @@ pub fn parse_placed(alloc: Global, bytes: &[u8]) -> Result<Tree, PlacedFault>
     }
 }
 
-/// What `parse_placed` gives. With it the long gaps of the text are added to these, in the order of the text, up to the
-/// first place at which no token stands: what reads the text again passes each at once.
+/// What `parse_placed` gives. With it the long gaps of the text are added to these, in the order of the text: what reads
+/// the text again passes each at once.
 pub fn parse_gapped(alloc: Global, bytes: &[u8], gaps: &mut Vec<Span>) -> Result<Tree, PlacedFault>
     requires { AreGaps bytes.now gaps.old.items }
     // A tree that is given is spelled so.

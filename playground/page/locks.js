@@ -89,10 +89,11 @@ export class Locks extends View {
         "p", { class: "empty" }, prose("There is no `atomic` section in this program, so no lock is needed.")));
       return;
     }
-    this.draw(element("p", { class: "lead" }, "Each ", term("section", "section"),
-                " takes these locks when it begins. " +
-                  "They are enough for every path of control, and no smaller set is. ",
-                element("em", {}, "Choose one to see why.")),
+    const promise = " takes these locks when it begins. They are enough for every path of control, and no "
+      + "smaller set is. ";
+    this.draw(
+      element("p", { class: "lead" }, "Each ", term("section", "section"), promise,
+        element("em", {}, "Choose one to see why.")),
       element("ol", { class: "cards" }, sections.map((section) => this.card(section))));
   }
 

@@ -8,17 +8,18 @@ function remediesOf(report, page) {
   const k = notes.match(/`--k (\d)` would give/);
   if (k) found.push([`use k ${k[1]}`, () => page.setFields(k[1])]);
   const guard = notes.match(/`record (\w+) protected_by (\w+)` would give/);
-  if (guard)
-    found.push(
-      [`protect ${guard[1]} by ${guard[2]}`, () => page.rewrite((text) => guarded(text, guard[1], guard[2]))]);
+  const protect = (text) => guarded(text, guard[1], guard[2]);
+  if (guard) found.push([`protect ${guard[1]} by ${guard[2]}`, () => page.rewrite(protect)]);
   if (report.code === "all-for-one") found.push(["remove all", () => page.editor.replace(report.span, "atomic")]);
   if (report.code === "hint-without-use")
     found.push(["remove the hint", () => page.rewrite((text) => unguarded(text, report.span))]);
   return found;
 }
 
+/** The text with a hint behind the name of a record, where that is declared; comments are passed over. */
 function guarded(text, record, guard) {
-  return text.replace(new RegExp(`\\brecord(\\s+)${record}\\b`), `record$1${record} protected_by ${guard}`);
+  const declared = new RegExp(`//[^\\n]*|\\brecord\\s+${record}\\b`, "g");
+  return text.replace(declared, (found) => (found.startsWith("//") ? found : `${found} protected_by ${guard}`));
 }
 
 function unguarded(text, { start }) {

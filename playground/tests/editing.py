@@ -1,7 +1,13 @@
 """The text: what is typed, selected and undone, and what is said in it and below it."""
 
 TWO_ON_A_LINE = "lost_update"
-GUARDED = """record Gate { int n; }
+DEEP = """record N { int v; N n; }
+global N a; global N b;
+thread w { atomic { a.n = b; b.n = a; } }
+thread t { N p; N q; N r; int v; atomic { p = a.n; q = p.n; r = q.n; v = r.v; } }
+"""
+GUARDED = """// record Node is protected by a gate
+record Gate { int n; }
 record Node { int val; Node next; }
 global Gate gate; global Node head;
 thread u { Node n; atomic { n = new Node; n.next = n; head.next = n; } }
@@ -114,6 +120,13 @@ def remedies_are_done(page):
     assert not [it for it in page.texts("#reports strong") if "locks all" in it], page.text("#reports")
 
 
+def another_k_is_a_remedy(page):
+    page.write(DEEP)
+    page.browser.click("#reports .remedy", "use k 3")
+    page.ready()
+    assert page.run("return page.k") == "3" and "R a.n.n.n" in page.texts(".inlay .lock"), page.texts(".inlay .lock")
+
+
 def refusals_are_words(page):
     for text, words in (
         ("record A { int v; }\nthread t { atomic { x = = 1; } }\n", "unexpected token"),
@@ -154,6 +167,7 @@ TESTS = [
     warnings_are_underlined,
     fault_is_underlined,
     remedies_are_done,
+    another_k_is_a_remedy,
     refusals_are_words,
     messages_speak_unicode,
     text_is_never_markup,

@@ -1,7 +1,7 @@
 -- Works that are equal part by part are equal.
 use Rattle.std.proofs.Common.{rules, ◌≡◌, ◌&&◌, true, List, ap, ◌∙◌, sym}
 use Rattle.std.specs.{Bool.{Decides}, Cmp.{unsigned_Decides, signed_Decides}}
-use Rattle.std.specs.Cmp.Lexicographic.{pointwise, pointwise_decides}
+use Rattle.std.specs.Cmp.{Lexicographic.{pointwise, pointwise_decides}, Derive.{both_true}}
 use Rattle.std.proofs.lemmas.Bool.{and_parts}
 use Rattle.std.specs.{Prelude.{nat_eq}, Ordering.{int_eq}}
 use Rattle.sect_types.specs.{Meaning.{WorkView}, declared.meaning.store.ObjectName.{ObjectName}}
@@ -31,14 +31,25 @@ datum_tells (Refers n) (Refers m) = (
   λ e. (name_tells n m).1 (ap (name_of n) e),
 )
 
--- what is equal part by part
-pub works_equal : (a b : WorkView) (xs ys : List Datum) → far_eq a b ≡ true → xs ≡ a.locals → ys ≡ b.locals
-    → pointwise the_datum_eq.eq xs ys ≡ true → a ≡ b
-works_equal a b xs ys far ours theirs same =
-    let one = and_parts (nat_eq a.fuel b.fuel) (nat_eq a.made b.made && pointwise int_eq a.printed b.printed) far in
-    let two = and_parts (nat_eq a.made b.made) (pointwise int_eq a.printed b.printed) one.1 in
-    let locals : a.locals ≡ b.locals = sym ours ∙ ((pointwise_decides datum_tells xs ys).0 same ∙ theirs) in
-    let fuel : a.fuel ≡ b.fuel = (unsigned_Decides a.fuel b.fuel).0 one.0 in
-    let made : a.made ≡ b.made = (unsigned_Decides a.made b.made).0 two.0 in
-    let printed : a.printed ≡ b.printed = (pointwise_decides signed_Decides a.printed b.printed).0 two.1 in
-    λ i. record { locals = locals i; fuel = fuel i; made = made i; printed = printed i }
+-- what is as far, and whose locals hold the same, is equal; and so the other way round
+pub works_decided : (a b : WorkView) (xs ys : List Datum) → xs ≡ a.locals → ys ≡ b.locals
+    → Decides (far_eq a b && pointwise the_datum_eq.eq xs ys) (a ≡ b)
+works_decided a b xs ys ours theirs = (λ same. forth same, λ e. back e) where
+  forth : (far_eq a b && pointwise the_datum_eq.eq xs ys) ≡ true → a ≡ b
+  forth same =
+      let all = and_parts (far_eq a b) (pointwise the_datum_eq.eq xs ys) same in
+      let one = and_parts (nat_eq a.fuel b.fuel) (nat_eq a.made b.made && pointwise int_eq a.printed b.printed) all.0 in
+      let two = and_parts (nat_eq a.made b.made) (pointwise int_eq a.printed b.printed) one.1 in
+      let locals : a.locals ≡ b.locals = sym ours ∙ ((pointwise_decides datum_tells xs ys).0 all.1 ∙ theirs) in
+      let fuel : a.fuel ≡ b.fuel = (unsigned_Decides a.fuel b.fuel).0 one.0 in
+      let made : a.made ≡ b.made = (unsigned_Decides a.made b.made).0 two.0 in
+      let printed : a.printed ≡ b.printed = (pointwise_decides signed_Decides a.printed b.printed).0 two.1 in
+      λ i. record { locals = locals i; fuel = fuel i; made = made i; printed = printed i }
+
+  back : a ≡ b → (far_eq a b && pointwise the_datum_eq.eq xs ys) ≡ true
+  back e =
+      let fuel = (unsigned_Decides a.fuel b.fuel).1 (ap (λ (w : WorkView). w.fuel) e) in
+      let made = (unsigned_Decides a.made b.made).1 (ap (λ (w : WorkView). w.made) e) in
+      let printed = (pointwise_decides signed_Decides a.printed b.printed).1 (ap (λ (w : WorkView). w.printed) e) in
+      let locals : xs ≡ ys = ours ∙ (ap (λ (w : WorkView). w.locals) e ∙ sym theirs) in
+      both_true (both_true fuel (both_true made printed)) ((pointwise_decides datum_tells xs ys).1 locals)

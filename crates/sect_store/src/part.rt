@@ -1,6 +1,6 @@
 //! A part of a store, on which statements run without the rest.
 
-ghost use Rattle.std.specs.Prelude.{◌≡◌, true, map, OnOk, OnErr, IfOk, IfSome};
+ghost use Rattle.std.specs.Prelude.{◌≡◌, ◌↔◌, IsTrue, map, OnOk, OnErr, IfOk, IfSome};
 ghost use Rattle.sect_types.specs.Store.{StoreView, write as write_by};
 ghost use Rattle.sect_store.specs.Parts.{Shows, ShowsAll, IsPartOf, IsSamePart, written, is_cell_of, updated as cell_after};
 ghost use Rattle.sect_store.specs.Parts.{ComesTo, MayComeTo, left_in, left_paid};
@@ -163,7 +163,7 @@ fn run_apart(action: &Action, work: &mut Work, part: &mut Part) -> Result<Tried,
 impl Store {
     /// Whether a field of an object is there and holds this.
     fn shows(&self, cell: Cell) -> bool
-        ensures { result ≡ true → Shows self.now cell }
+        ensures { IsTrue result ↔ Shows self.now cell }
     {
         match self.object(cell.name) {
             None => false,
@@ -176,7 +176,7 @@ impl Store {
 
     /// Whether all of these fields are there and hold this.
     pub fn shows_all(&self, cells: &[Cell]) -> bool
-        ensures { result ≡ true → ShowsAll self.now cells.now }
+        ensures { IsTrue result ↔ ShowsAll self.now cells.now }
     {
         for cell in cells {
             if !self.shows(*cell) {

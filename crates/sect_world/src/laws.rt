@@ -8,6 +8,7 @@ ghost use Rattle.sect_world.specs.Laws.{StatesAreWellKept, NoStateIsStuck, Somet
 ghost use Rattle.sect_world.specs.{Laws.{EveryRunIsSerial, EveryOrderIsRun}, Excluding.{ReadersAndWritersExclude}};
 ghost use Rattle.sect_world.specs.{HeldPaths.{HoldersHoldTheClass, BeginningsAreHeld, NeededPathsStay}, Secured.{Good}};
 ghost use Rattle.sect_world.specs.Together.{ClashingSectionsExclude, TogetherNeverWait, TogetherNeverWaitForHeld};
+ghost use Rattle.sect_world.specs.{Staying.{HeldObjectsStay}, Stretches.{StretchesAreRuns}};
 ghost use Rattle.sect_world.specs.SerialFacts.{OnlySectionsDiffer, SectionsAreReplayed};
 
 use sect_conflicts::sections_that_go_together_never_clash;
@@ -80,6 +81,18 @@ pub fn needed_paths_are_held()
 pub fn the_store_follows_the_sections()
     ensures differ { (c : CompiledView) → IsCompiled c → OnlySectionsDiffer c }
     ensures replayed { (c : CompiledView) → IsCompiled c → SectionsAreReplayed c }
+{}
+
+/// While a thread is in a section and makes no event, it stays as it is, and so does each object that it may read,
+/// whatever the others do. So what a section reads is the same whether it reads at once or late.
+pub fn held_objects_stay()
+    ensures { (c : CompiledView) → IsCompiled c → HeldObjectsStay c }
+{}
+
+/// A stretch that was run apart is a run of its thread from each world in which the thread is where the stretch begins,
+/// with the same work, and whose store shows what the stretch knew then.
+pub fn stretches_are_runs()
+    ensures { (c : CompiledView) → IsCompiled c → StretchesAreRuns c }
 {}
 
 /// Each complete run of a compiled program comes to what whole sections come to, one after another in the order of the

@@ -1,6 +1,7 @@
 //! The events of a run, in few bytes.
 
 ghost use Rattle.std.specs.Prelude.{◌≡◌, ◌≤◌, ◌<◌, ◌+◌, ◌++◌, ◌∷◌, [], length, drop, vec_len, vec_capacity, IfOk, OnOk};
+ghost use Rattle.std.specs.Prelude.{replicate};
 ghost use Rattle.sect_world.specs.steps.Tracing.{noted_of, taken_by, count_of, count_in, deed_of, events_of};
 
 use crate::event::{Deed, Event};
@@ -100,6 +101,16 @@ impl Trace {
             thread,
             what: note_of(deed),
         });
+    }
+
+    /// An event so many times more, for which there is room.
+    pub(crate) fn push_many(&mut self, event: Event, count: u32)
+        requires { count ≤ self.old.room }
+        ensures { self.new.items ≡ self.old.items ++ replicate count event }
+    {
+        for _made in 0..count {
+            self.push_reserved(event);
+        }
     }
 
     /// The events behind the first `count`.

@@ -1,6 +1,7 @@
 //! A moment of a run, with the events that led to it.
 
 ghost use Rattle.std.specs.Prelude.{◌≡◌, ◌↔◌, true, IsTrue, length, ◌<◌, IfOk, OnOk, IfErr, OnErr, false, []};
+ghost use Rattle.std.specs.Prelude.{IfSome, MatchBool};
 ghost use Rattle.sect_types.specs.{Statements.{TextView, Section}, Sections.{sections_of}, Meaning.{begins_step}};
 ghost use Rattle.sect_types.specs.Whole.{SerialEndView, RunsWhole, has_ended};
 ghost use Rattle.sect_graph.specs.Rests.{rest_at};
@@ -13,15 +14,20 @@ ghost use Rattle.sect_world.specs.Moments.{IsMoment, world_at};
 ghost use Rattle.sect_world.specs.Worlds.{IsTurned, IsRefused, IsRunOf, AllEnded, first_world, outcome_at};
 ghost use Rattle.sect_world.specs.{Waiting.{Asks}, Sights.{first_wish as wish_of, mode_of, end_of as ended_as}};
 ghost use Rattle.sect_world.specs.Viewing.{body_at, position_of, IsSited};
-ghost use Rattle.sect_world.specs.steps.Moves.{IsNext};
+ghost use Rattle.sect_world.specs.{steps.Moves.{IsNext}, Acting.{IsApart, acts_of}};
+ghost use Rattle.sect_world.specs.{Locals.{IsLocalStretch, locals_of}, Stretches.{IsStretchOf, AreAdded, events_in}};
 
+use crate::apart::{Apart, lent, stands, take_place};
 use crate::asking::{ask, first_wish, turned_by};
+use crate::copying::copied;
 use crate::event::{Deed, Event};
 use crate::giving::{LetIn, come_out, give_back};
 use crate::inside::{Inside, step_inside};
 use crate::labels::next_label;
+use crate::local_stretch::{LocalStretch, go_to, lent_outside, stands_outside};
 use crate::outside::{Entrant, begin, enter, is_met, step_outside};
 use crate::runner::{Phase, Runner, first_runners, have_ended, put_ends};
+use crate::stretch::Stretch;
 use crate::trace::Trace;
 use crate::turned::{EventKind, Turned, WorldFault};
 use sect_emit::{Compiled, Grip};
@@ -188,6 +194,13 @@ impl<'a> World<'a> {
     {
         self.facts();
         self.program().thread_count()
+    }
+
+    /// The compiled program that runs.
+    pub fn compiled(&self) -> &'a Compiled
+        ensures { result.now ≡ self.now.compiled }
+    {
+        self.compiled
     }
 
     /// The program that runs.
@@ -367,6 +380,126 @@ impl<'a> World<'a> {
         let deed = Deed::Act;
         self.moment.trace.push_reserved(Event { thread, deed });
         Ok(Turned::Moved(EventKind::Act))
+    }
+
+    /// Adds the events and the writes of a stretch of a section, where its thread is where the stretch begins and the
+    /// store shows what the stretch knew then; whether that is so. Nothing has changed where it isn't.
+    fn commit_section(&mut self, apart: &Apart) -> Result<bool, AllocError>
+        requires thread { apart.now.thread < length self.old.state.threads }
+        requires apart { IsApart self.old.compiled apart.now }
+        ensures ok { IfOk result (λ fits. MatchBool fits
+            (AreAdded (acts_of apart.now.acts apart.now.thread) self.old self.new) (self.new ≡ self.old)) }
+        ensures err { OnErr result (self.new ≡ self.old) }
+    {
+        let place = apart.thread as usize;
+        if !stands(apart, &self.moment.runners[place], &self.moment.store) {
+            return Ok(false);
+        }
+        self.moment.trace.reserve(apart.acts as usize)?;
+        let work = apart.work.try_clone()?;
+        take_place(&mut self.moment.runners, apart.thread, apart.phase, work);
+        self.moment.store.write_all(apart.part.writes.as_slice());
+        let act = Event {
+            thread: apart.thread,
+            deed: Deed::Act,
+        };
+        self.moment.trace.push_many(act, apart.acts);
+        self.moment.let_in.granted.clear();
+        Ok(true)
+    }
+
+    /// Adds the events of a stretch outside sections, where its thread is where the stretch begins; whether that is so.
+    /// Nothing has changed where it isn't.
+    fn commit_local(&mut self, stretch: &LocalStretch) -> Result<bool, AllocError>
+        requires thread { stretch.now.thread < length self.old.state.threads }
+        requires stretch { IsLocalStretch self.old.compiled stretch.now }
+        ensures ok { IfOk result (λ fits. MatchBool fits
+            (AreAdded (locals_of stretch.now.steps stretch.now.thread) self.old self.new) (self.new ≡ self.old)) }
+        ensures err { OnErr result (self.new ≡ self.old) }
+    {
+        let place = stretch.thread as usize;
+        if !stands_outside(stretch, &self.moment.runners[place]) {
+            return Ok(false);
+        }
+        self.moment.trace.reserve(stretch.steps as usize)?;
+        let work = stretch.work.try_clone()?;
+        go_to(&mut self.moment.runners, stretch, work);
+        let local = Event {
+            thread: stretch.thread,
+            deed: Deed::Local,
+        };
+        self.moment.trace.push_many(local, stretch.steps);
+        self.moment.let_in.granted.clear();
+        Ok(true)
+    }
+
+    /// Adds the events of a stretch that was run apart, and its writes, where its thread still is where the stretch
+    /// begins and the store still shows what the stretch knew then; whether that is so. Nothing has changed where it
+    /// isn't, nor where memory is refused.
+    pub fn commit(&mut self, thread: u16, stretch: &Stretch) -> Result<bool, AllocError>
+        requires thread { thread < length self.old.state.threads }
+        requires stretch { IsStretchOf self.old.compiled thread stretch.now }
+        ensures ok { IfOk result (λ fits. MatchBool fits (AreAdded (events_in thread stretch.now) self.old self.new)
+            (self.new ≡ self.old)) }
+        ensures err { OnErr result (self.new ≡ self.old) }
+    {
+        match stretch {
+            Stretch::Section(apart) => self.commit_section(apart),
+            Stretch::Local(local) => self.commit_local(local),
+        }
+    }
+
+    /// A stretch of no event yet of the section that a thread runs.
+    fn lend_section(&self, thread: u16, section: u16, node: u16) -> Result<Apart, AllocError>
+        requires thread { thread < length self.now.state.threads }
+        requires section { section < length (sections_of (program_of self.now.compiled).texts) }
+        ensures thread { IfOk result (λ apart. apart.thread ≡ thread) }
+        ensures apart { IfOk result (IsApart self.now.compiled) }
+    {
+        let runner = &self.moment.runners[thread as usize];
+        let known = copied(self.compiled, runner, &self.moment.store)?;
+        let at = Inside {
+            thread,
+            section,
+            node,
+        };
+        lent(at, runner, known)
+    }
+
+    /// A stretch of no event yet of a thread outside sections, unless it has ended or comes to a section next.
+    fn lend_local(&self, thread: u16) -> Result<Option<LocalStretch>, AllocError>
+        requires { (th : ThreadState) × IsThread self.now.state thread th × (th.position ≡ Outside) }
+        ensures { IfOk result (λ lent. IfSome lent (λ stretch. (stretch.thread ≡ thread)
+            × IsLocalStretch self.now.compiled stretch)) }
+    {
+        if self.has_ended(thread) {
+            return Ok(None);
+        }
+        if let Label::Section(_) = self.label_of(thread) {
+            return Ok(None);
+        }
+        let runner = &self.moment.runners[thread as usize];
+        let stretch = lent_outside(thread, runner)?;
+        Ok(Some(stretch))
+    }
+
+    /// A stretch of no event yet of a thread's code, to be run apart, where the thread runs a section or code outside
+    /// sections.
+    pub fn lend(&self, thread: u16) -> Result<Option<Stretch>, AllocError>
+        requires { thread < length self.now.state.threads }
+        ensures { IfOk result (λ lent. IfSome lent (IsStretchOf self.now.compiled thread)) }
+    {
+        match self.phase_of(thread) {
+            Phase::Running(section, node) => {
+                Ok(Some(Stretch::Section(self.lend_section(thread, section, node)?)))
+            }
+            Phase::Outside => match self.lend_local(thread)? {
+                None => Ok(None),
+                Some(local) => Ok(Some(Stretch::Local(local))),
+            },
+            Phase::Entered => Ok(None),
+            Phase::Faulted(_, _) => Ok(None),
+        }
     }
 
     /// The turn of a thread that wants a key: it comes to hold the key, or waits for it.

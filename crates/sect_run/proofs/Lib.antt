@@ -1,3 +1,4 @@
 mod Completing
 mod Threads
 mod Turning
+mod Visiting

@@ -15,6 +15,14 @@ pub trait Gate: Sync {
 
     /// This thread has made an event of this kind.
     fn at(&self, thread: u16, kind: EventKind);
+
+    /// The worker of this thread is about to run a stretch of the thread's section without the run's lock. Only where
+    /// the gate is open does it run any.
+    fn apart(&self, _thread: u16) {}
+
+    /// The worker of this thread has brought a stretch that could not be added to the run, since the thread or what the
+    /// stretch knew of the store wasn't as it was. Its events are made anew, by turns.
+    fn was_stale(&self, _thread: u16) {}
 }
 
 /// A gate that is open.

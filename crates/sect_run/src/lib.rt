@@ -3,10 +3,12 @@
 
 mod fault;
 mod gate;
+mod patience;
 mod rest;
 mod run;
 mod share;
 mod turn;
+mod visit;
 mod worker;
 
 pub use fault::RunFault;

@@ -1,14 +1,15 @@
 //! What the workers share, and what is each worker's own.
 
-ghost use Rattle.std.specs.Prelude.{◌≡◌, ◌<◌, ◌≤◌, Some, OnOk, IfOk, OnErr, vec_capacity};
+ghost use Rattle.std.specs.Prelude.{◌≡◌, ◌<◌, ◌≤◌, Some, None, OnOk, IfOk, IfSome, OnErr, vec_capacity};
+ghost use Rattle.sect_world.specs.Stretches.{IsStretchOf};
 ghost use Rattle.sect_run.specs.steps.Shares.{AreBelow, threads_in};
-ghost use Rattle.sect_run.specs.steps.Turns.{AreTurnsAside, AreBrokenOffAside, IsAsideOf};
+ghost use Rattle.sect_run.specs.steps.Turns.{IsVisitedAside, IsVisitBrokenOffAside, IsAsideOf};
 
 use crate::fault::RunFault;
-use crate::turn::waking_turns_of;
+use crate::visit::{Terms, Visit, make_visit};
 use crossbeam_utils::sync::Parker;
 use sect_emit::Compiled;
-use sect_world::{Moment, Turned, World};
+use sect_world::{Moment, Stretch, World};
 use std::alloc::{AllocError, Global};
 use std::marker::{Brand, Model, PhantomData};
 
@@ -78,29 +79,34 @@ impl<J: Naming> SharedRun<J> {
         }
     }
 
-    /// Turns of a thread, one at least and at most so many, until it can't move. The numbers of those whom they let in
+    /// A visit of the worker of a thread: adds the stretch that it has brought, if there is one, and makes turns of the
+    /// thread, one at least and as many as may be at most, until it can't move. The numbers of those whom they let in
     /// take the place of those that stood in `woken`.
-    pub fn turns(
+    pub fn visit(
         &mut self,
         compiled: &Compiled,
         thread: u16,
-        most: u16,
+        terms: Terms,
         woken: &mut Vec<u16>,
-    ) -> Result<Turned, RunFault>
+        stretch: &mut Option<Stretch>,
+    ) -> Result<Visit, RunFault>
         requires compiled { J.compiled ≡ Some compiled.now }
         requires thread { thread < threads_in compiled.now }
-        ensures turned { IfOk result (λ turned. AreTurnsAside thread most turned woken.new.items self.old self.new) }
-        ensures err { OnErr result (AreBrokenOffAside thread most self.old self.new) }
+        requires stretch { IfSome stretch.old (IsStretchOf compiled.now thread) }
+        ensures visited { IfOk result (λ visit.
+            IsVisitedAside thread terms.most visit.turned woken.new.items self.old self.new) }
+        ensures err { OnErr result (IsVisitBrokenOffAside thread terms.most self.old self.new) }
         ensures same { IsAsideOf compiled.now J.fuel self.new }
         ensures below { OnOk result (AreBelow (threads_in compiled.now) woken.new.items) }
+        ensures stretch { IfSome stretch.new (IsStretchOf compiled.now thread) }
     {
         let mut world = match self.moment.take() {
             Some(moment) => moment.resume(compiled),
             None => unreachable!(),
         };
-        let turned = waking_turns_of(&mut world, thread, most, woken);
+        let visited = make_visit(&mut world, thread, terms, woken, stretch);
         self.moment = Some(world.suspend());
-        turned
+        visited
     }
 
     /// The world of the run.
@@ -117,13 +123,14 @@ impl<J: Naming> SharedRun<J> {
     }
 }
 
-/// What is a worker's own: the thread whose turns it makes, where it waits, and room for the numbers of those whom a
-/// turn lets in.
+/// What is a worker's own: the thread whose turns it makes, where it waits, room for the numbers of those whom a turn
+/// lets in, and the stretch of the thread's code that it runs without the lock, if there is one.
 #[derive(Drop)]
 pub struct Post<J: Naming> {
     pub thread: u16,
     pub parker: Parker,
     pub woken: Vec<u16>,
+    pub stretch: Option<Stretch>,
     name: PhantomData<J>,
     ghost there: { thread < J.threads },
 }
@@ -134,12 +141,22 @@ impl<J: Naming> Post<J> {
         requires { thread < J.threads }
         ensures thread { IfOk result (λ post. post.thread ≡ thread) }
         ensures room { IfOk result (λ post. threads ≤ vec_capacity post.woken) }
+        ensures stretch { IfOk result (λ post. post.stretch ≡ None) }
     {
         Ok(Post {
             thread,
             parker: Parker::new(alloc)?,
             woken: Vec::with_capacity(alloc, threads as usize)?,
+            stretch: None,
             name: PhantomData,
         })
+    }
+
+    /// Nothing is taken along any more.
+    pub fn drop_stretch(&mut self)
+        ensures none { self.new.stretch ≡ None }
+        ensures same { self.new.thread ≡ self.old.thread }
+    {
+        self.stretch = None;
     }
 }

@@ -1,11 +1,14 @@
 //! The workers.
 
-ghost use Rattle.std.specs.Prelude.{◌≡◌, ◌<◌, Some, IfOk, OnOk, length};
-ghost use Rattle.sect_run.specs.steps.{Shares.{AreBelow, threads_in}, Turns.{WereTurns}};
+ghost use Rattle.std.specs.Prelude.{◌≡◌, ◌<◌, Some, IfOk, IfSome, OnOk, length};
+ghost use Rattle.sect_world.specs.Stretches.{IsStretchOf};
+ghost use Rattle.sect_run.specs.steps.{Shares.{AreBelow, threads_in}, Turns.{WasVisited}};
 
 use crate::fault::RunFault;
 use crate::gate::{Gate, tell};
+use crate::patience::Patience;
 use crate::share::{Naming, Post, SharedRun};
+use crate::visit::{Terms, Visit};
 use crossbeam_utils::sync::Unparker;
 use sect_emit::Compiled;
 use sect_world::Turned;
@@ -25,28 +28,69 @@ pub struct Shared<'a, J: Naming> {
 /// The most turns that a worker makes without giving the lock away.
 const MOST_TURNS: u16 = 16;
 
-/// How many turns a worker may make in a row: one, unless the gate is open.
-fn turns_at<G: Gate>(gate: &G) -> u16 {
-    if gate.is_open() { MOST_TURNS } else { 1 }
+/// The most events of a stretch that a worker runs without the lock.
+const MOST_EVENTS: u32 = 4096;
+
+/// What a worker asks of its next visit: one turn, unless the gate is open.
+fn next_terms<G: Gate>(gate: &G, patience: &mut Patience) -> Terms {
+    if gate.is_open() {
+        Terms {
+            most: MOST_TURNS,
+            takes: patience.takes_next(),
+        }
+    } else {
+        Terms {
+            most: 1,
+            takes: false,
+        }
+    }
 }
 
-/// Makes turns of a thread under the lock, at most so many.
-fn turns_under<J: Naming, R: Wait>(
+/// A worker's visit to the run under its lock.
+fn visit_under<J: Naming, R: Wait>(
     rt: &R,
     run: &Mutex<SharedRun<J>>,
     compiled: &Compiled,
-    most: u16,
+    terms: Terms,
     post: &mut Post<J>,
-) -> Result<Turned, RunFault>
+) -> Result<Visit, RunFault>
     requires compiled { J.compiled ≡ Some compiled.now }
     requires thread { post.old.thread < threads_in compiled.now }
+    requires stretch { IfSome post.old.stretch (IsStretchOf compiled.now post.old.thread) }
     ensures same { post.new.thread ≡ post.old.thread }
-    ensures turned { IfOk result (λ turned.
-        WereTurns compiled.now J.fuel post.old.thread most turned post.new.woken.items) }
+    ensures visited { IfOk result (λ visit.
+        WasVisited compiled.now J.fuel post.old.thread terms.most visit.turned post.new.woken.items) }
     ensures woken { OnOk result (AreBelow (threads_in compiled.now) post.new.woken.items) }
+    ensures stretch { IfSome post.new.stretch (IsStretchOf compiled.now post.new.thread) }
 {
-    run.lock(rt)
-        .turns(compiled, post.thread, most, &mut post.woken)
+    run.lock(rt).visit(
+        compiled,
+        post.thread,
+        terms,
+        &mut post.woken,
+        &mut post.stretch,
+    )
+}
+
+/// Runs the stretch that a worker has taken along, if there is one, without the lock. The gate is told before.
+fn run_apart<J: Naming, G: Gate>(
+    gate: &G,
+    compiled: &Compiled,
+    post: &mut Post<J>,
+    patience: &mut Patience,
+) -> Result<(), RunFault>
+    requires { IfSome post.old.stretch (IsStretchOf compiled.now post.old.thread) }
+    ensures same { post.new.thread ≡ post.old.thread }
+    ensures stretch { IfSome post.new.stretch (IsStretchOf compiled.now post.new.thread) }
+{
+    let Some(mut stretch) = post.stretch.take() else {
+        return Ok(());
+    };
+    gate.apart(post.thread);
+    stretch.run(compiled, MOST_EVENTS)?;
+    patience.learn(stretch.count());
+    post.stretch = Some(stretch);
+    Ok(())
 }
 
 /// Wakes the workers of these threads.
@@ -66,8 +110,9 @@ fn stop(unparkers: &[Unparker], refused: &AtomicBool) {
     }
 }
 
-/// Makes the turns of one thread until it has ended, or until a turn was refused, whosever. Where the thread has to
-/// wait for a key its worker waits without the lock.
+/// Makes the turns of one thread until it has ended, or until a turn was refused, whosever. Where the gate is open, the
+/// worker goes on without the lock as far as the thread can go on apart. Where the thread has to wait for a key its
+/// worker waits without the lock.
 fn work<J: Naming, R: Wait, G: Gate>(
     rt: &R,
     shared: &Shared<'_, J>,
@@ -79,20 +124,28 @@ fn work<J: Naming, R: Wait, G: Gate>(
     requires threads { J.threads ≡ threads_in compiled.now }
     requires unparkers { length shared.now.unparkers.now ≡ J.threads }
 {
-    let most = turns_at(gate);
+    let mut patience = Patience::new();
+    post.drop_stretch();
     for _ in rt.forever() {
         if shared.refused.load(Ordering::SeqCst) {
             return;
         }
-        let turned = match turns_under(rt, shared.run, compiled, most, &mut post) {
-            Ok(turned) => turned,
+        let terms = next_terms(gate, &mut patience);
+        let visit = match visit_under(rt, shared.run, compiled, terms, &mut post) {
+            Ok(visit) => visit,
             Err(RunFault::Memory) => return stop(shared.unparkers, shared.refused),
         };
         wake(shared.unparkers, post.woken.as_slice());
-        match turned {
+        if visit.was_stale {
+            gate.was_stale(post.thread);
+        }
+        match visit.turned {
             Turned::Moved(kind) => tell(gate, post.thread, kind),
             Turned::Waits => post.parker.park(rt),
             Turned::Ended => return,
+        }
+        if run_apart(gate, compiled, &mut post, &mut patience).is_err() {
+            return stop(shared.unparkers, shared.refused);
         }
     }
 }

@@ -3,6 +3,7 @@ use Rattle.std.specs.Prelude.{◌≡◌, ◌≤◌, ◌-◌, ◌⊎◌, ⊤, ℕ
 use Rattle.sect_emit.specs.Compiled.{CompiledView}
 use Rattle.sect_world.specs.{declared.turned.Turned.{Turned}, declared.turned.Turned.TheVariants.{Moved, Waits, Ended}}
 use Rattle.sect_world.specs.{declared.world.Moment.{Moment}, Moments.{world_at}, Worlds.{WorldView, IsTurned}}
+use Rattle.sect_world.specs.{declared.stretch.Stretch.{Stretch}, Stretches.{AreAdded, events_in}}
 
 -- a thread whose turn came to this may make another at once: it has moved
 abbrev pub MayGoOn : Turned → Type 0
@@ -41,30 +42,44 @@ AreBrokenOff t most old new =
     (before : WorldView) × (made : ℕ) × (earlier : List ℕ) × GoesOn t made old before earlier × (made ≤ most - 1)
     × IsBrokenOff t before new
 
+-- nothing has happened, or the events of a stretch of thread t were added
+abbrev pub MayBeAdded : ℕ → WorldView → WorldView → Type 0
+MayBeAdded t old new = (new ≡ old) ⊎ ((s : Stretch) × AreAdded (events_in t s) old new)
+
+-- the worker of thread t has visited a world: the events of a stretch were added, if it has brought one, and then such
+-- turns were made
+abbrev pub IsVisited : ℕ → ℕ → Turned → List ℕ → WorldView → WorldView → Type 0
+IsVisited t most turned ts old new =
+    (between : WorldView) × MayBeAdded t old between × AreTurns t most turned ts between new
+
+-- so, and the turns were broken off
+abbrev pub IsVisitBrokenOff : ℕ → ℕ → WorldView → WorldView → Type 0
+IsVisitBrokenOff t most old new = (between : WorldView) × MayBeAdded t old between × AreBrokenOff t most between new
+
 -- the world of a moment that was put aside, with the compiled program that is named
 abbrev pub world_aside : Option Moment → Option CompiledView → Option WorldView
 world_aside None named = None
 world_aside (Some m) None = None
 world_aside (Some m) (Some c) = Some (world_at c m)
 
--- both are there, and such turns lead from one to the other
-abbrev pub AreTurnsAside : ℕ → ℕ → Turned → List ℕ → Option WorldView → Option WorldView → Type 0
-AreTurnsAside t most turned ts None new = ⊥
-AreTurnsAside t most turned ts (Some old) None = ⊥
-AreTurnsAside t most turned ts (Some old) (Some new) = AreTurns t most turned ts old new
+-- both are there, and the worker's visit leads from one to the other
+abbrev pub IsVisitedAside : ℕ → ℕ → Turned → List ℕ → Option WorldView → Option WorldView → Type 0
+IsVisitedAside t most turned ts None new = ⊥
+IsVisitedAside t most turned ts (Some old) None = ⊥
+IsVisitedAside t most turned ts (Some old) (Some new) = IsVisited t most turned ts old new
 
--- both are there, and such turns lead from one to the other
-abbrev pub AreBrokenOffAside : ℕ → ℕ → Option WorldView → Option WorldView → Type 0
-AreBrokenOffAside t most None new = ⊥
-AreBrokenOffAside t most (Some old) None = ⊥
-AreBrokenOffAside t most (Some old) (Some new) = AreBrokenOff t most old new
+-- both are there, and the worker's visit leads from one to the other and was broken off
+abbrev pub IsVisitBrokenOffAside : ℕ → ℕ → Option WorldView → Option WorldView → Type 0
+IsVisitBrokenOffAside t most None new = ⊥
+IsVisitBrokenOffAside t most (Some old) None = ⊥
+IsVisitBrokenOffAside t most (Some old) (Some new) = IsVisitBrokenOff t most old new
 
 -- it is there, and of this compiled program with this fuel
 abbrev pub IsAsideOf : CompiledView → ℕ → Option WorldView → Type 0
 IsAsideOf c fuel None = ⊥
 IsAsideOf c fuel (Some w) = (w.compiled ≡ c) × (w.fuel ≡ fuel)
 
--- in a run of this compiled program with this fuel such turns of thread t were made, which let these in
-abbrev pub WereTurns : CompiledView → ℕ → ℕ → ℕ → Turned → List ℕ → Type 0
-WereTurns c fuel t most turned ts =
-    (old new : WorldView) × AreTurns t most turned ts old new × (new.compiled ≡ c) × (new.fuel ≡ fuel)
+-- the worker of thread t has visited a run of this compiled program with this fuel, and its turns let these in
+abbrev pub WasVisited : CompiledView → ℕ → ℕ → ℕ → Turned → List ℕ → Type 0
+WasVisited c fuel t most turned ts =
+    (old new : WorldView) × IsVisited t most turned ts old new × (new.compiled ≡ c) × (new.fuel ≡ fuel)

@@ -1,8 +1,8 @@
 //! A source text as a tree.
 //!
 //! The text is read by one function for each rule of the grammar. These call one another as deep as blocks stand in one
-//! another, as what walks over a tree does, its `Drop` and `print` among them: at most 32, and a deeper block is refused
-//! where it opens.
+//! another, as what walks over a tree does, its `Drop` and `print` among them: at most 32, and a deeper block is
+//! refused where it opens.
 
 ghost use Rattle.std.specs.Prelude.{◌≡◌, ◌≢◌, ◌≤◌, [], IfOk, IfErr, length};
 ghost use Rattle.sect_front.specs.Front.{IsSpelled, IsFault, Judges, Gives, Refuses, line_of as line};
@@ -185,8 +185,8 @@ pub fn parse_placed(alloc: Global, bytes: &[u8]) -> Result<Tree, PlacedFault>
     }
 }
 
-/// What `parse_placed` gives. With it the long gaps of the text are added to these, in the order of the text: what reads
-/// the text again passes each at once.
+/// What `parse_placed` gives. With it the long gaps of the text are added to these, in the order of the text: what
+/// reads the text again passes each at once.
 pub fn parse_gapped(alloc: Global, bytes: &[u8], gaps: &mut Vec<Span>) -> Result<Tree, PlacedFault>
     requires { AreGaps bytes.now gaps.old.items }
     // A tree that is given is spelled so.

@@ -6,8 +6,8 @@ const FEW_EVENTS: u32 = 16;
 /// The most visits in a row in which a worker takes none along.
 const LONGEST_PAUSE: u8 = 15;
 
-/// How a worker has fared with stretches: for how many visits it paused after the last short one, and for how many visits
-/// more it pauses. Each short one behind a short one makes the pause longer.
+/// How a worker has fared with stretches: for how many visits it paused after the last short one, and for how many
+/// visits more it pauses. Each short one behind a short one makes the pause longer.
 #[derive(Clone, Copy)]
 pub struct Patience {
     pause: u8,

@@ -58,9 +58,9 @@ fn lend_stretch(world: &World<'_>, thread: u16) -> Result<Option<Stretch>, RunFa
     Ok(world.lend(thread)?)
 }
 
-/// Adds the stretch that a thread's worker has brought, if there is one, and makes turns of the thread, one at least and
-/// as many as may be at most, until it can't move. The numbers of those whom they let in take the place of those that
-/// stood in `woken`. Then the worker gets a stretch to take along, if it asks for one and the thread can go on apart.
+/// Adds the stretch that a thread's worker has brought, if there is one, and makes turns of the thread, one at least
+/// and as many as may be at most, until it can't move. The numbers of those whom they let in take the place of those
+/// that stood in `woken`. Then the worker gets a stretch to take along, if it asks for one and the thread can go on apart.
 pub fn make_visit(
     world: &mut World<'_>,
     thread: u16,
@@ -70,7 +70,8 @@ pub fn make_visit(
 ) -> Result<Visit, RunFault>
     requires thread { thread < threads_in world.old.compiled }
     requires stretch { IfSome stretch.old (IsStretchOf world.old.compiled thread) }
-    ensures visited { IfOk result (λ visit. IsVisited thread terms.most visit.turned woken.new.items world.old world.new) }
+    ensures visited { IfOk result (λ visit.
+        IsVisited thread terms.most visit.turned woken.new.items world.old world.new) }
     ensures err { OnErr result (IsVisitBrokenOff thread terms.most world.old world.new) }
     ensures same { IsSameRun world.old world.new }
     ensures below { OnOk result (AreBelow (threads_in world.old.compiled) woken.new.items) }

@@ -2,8 +2,8 @@
 
 ghost use Rattle.std.specs.Prelude.{◌≡◌, ◌↔◌, IsTrue, map, OnOk, OnErr, IfOk, IfSome};
 ghost use Rattle.sect_types.specs.Store.{StoreView, write as write_by};
-ghost use Rattle.sect_store.specs.Parts.{Shows, ShowsAll, IsPartOf, IsSamePart, written, is_cell_of, updated as cell_after};
-ghost use Rattle.sect_store.specs.Parts.{ComesTo, MayComeTo, left_in, left_paid};
+ghost use Rattle.sect_store.specs.Parts.{Shows, ShowsAll, IsPartOf, IsSamePart, written, is_cell_of};
+ghost use Rattle.sect_store.specs.Parts.{updated as cell_after, ComesTo, MayComeTo, left_in, left_paid};
 
 use crate::store::Store;
 use crate::value::{compute, integer};
@@ -94,8 +94,8 @@ impl Part {
     }
 }
 
-/// Tries a statement on a part of a store, for a unit of fuel: what it does there, `act` does in each store of which that
-/// is a part. Where memory is refused nothing has changed.
+/// Tries a statement on a part of a store, for a unit of fuel: what it does there, `act` does in each store of which
+/// that is a part. Where memory is refused nothing has changed.
 pub fn act_apart(action: &Action, work: &mut Work, part: &mut Part) -> Result<Tried, AllocError>
     ensures comes { IfOk result (ComesTo (left_in action.now work.old) work.old work.new part.old part.new) }
     ensures plain { IfOk result (MayComeTo action.now) }

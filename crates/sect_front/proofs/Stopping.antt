@@ -81,16 +81,16 @@ refused_bare e here h t rest s = absurd (h t rest s)
 
 -- 2. A token that is passed.
 
-calm_operand : (v : Operand) (k : ℕ) → brace k (operand_token v) ≡ k
+pub calm_operand : (v : Operand) (k : ℕ) → brace k (operand_token v) ≡ k
 calm_operand (operand.Number n) k = refl
 calm_operand (operand.Name n) k = refl
 calm_operand operand.Null k = refl
 
-calm_kind : (v : Kind) (k : ℕ) → brace k (kind_token v) ≡ k
+pub calm_kind : (v : Kind) (k : ℕ) → brace k (kind_token v) ≡ k
 calm_kind kind.Int k = refl
 calm_kind (kind.Record n) k = refl
 
-calm_keyword : (w : Keyword) (k : ℕ) → brace k (keyword_token w) ≡ k
+pub calm_keyword : (w : Keyword) (k : ℕ) → brace k (keyword_token w) ≡ k
 calm_keyword keyword.Else k = refl
 calm_keyword keyword.All k = refl
 calm_keyword keyword.ProtectedBy k = refl

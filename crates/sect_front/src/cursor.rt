@@ -105,38 +105,6 @@ fn kind(token: &Token) -> Option<Kind>
     }
 }
 
-/// Puts the token at the front, and gives what follows it and the gap behind it, if one stands there.
-#[inline(always)]
-fn token_at<'a>(here: &'a [u8], token: &mut Token) -> Option<&'a [u8]>
-    ensures some { IfSome result (λ rest. Stands here.now token.new rest.now) }
-    ensures none { IfNone result (IsBare here.now) }
-{
-    let length = put_lexeme(here, token);
-    if length == 0 {
-        return None;
-    }
-    Some(behind(here, length))
-}
-
-/// What follows a sign of one byte, with which no longer one begins, and the gap behind it, if it stands at the front.
-#[inline(always)]
-fn sign_at(here: &[u8], sign: u8) -> Option<&[u8]>
-    requires word { is_name_byte sign ≡ false }
-    requires alone { double_sign sign ≡ None }
-    ensures some { (token : AToken) → single_sign sign ≡ Some token
-        → IfSome result (λ rest. Stands here.now token rest.now) }
-    ensures none { (token : AToken) → spelling_of token ≡ sign ∷ []
-        → IfNone result ((rest : List ℕ) → Stands here.now token rest → ⊥) }
-{
-    let Some((first, _)) = here.split_first() else {
-        return None;
-    };
-    if *first != sign {
-        return None;
-    }
-    Some(behind(here, 1))
-}
-
 /// What is left of a text, behind the gap before it, and how many braces are open there.
 #[derive(Drop)]
 pub struct Cursor<'a> {
@@ -167,6 +135,45 @@ impl<'a> Cursor<'a> {
         self.here
     }
 
+    /// Puts the token that stands here, and gives what follows it and the gap behind it, if one does.
+    #[inline(always)]
+    fn token(&self, token: &mut Token) -> Option<&'a [u8]>
+        ensures some { IfSome result (λ rest. Stands self.now.here token.new rest.now) }
+        ensures none { IfNone result (IsBare self.now.here) }
+    {
+        let length = put_lexeme(self.here, token);
+        if length == 0 {
+            return None;
+        }
+        Some(behind(self.here, length))
+    }
+
+    /// What follows a sign of one byte, with which no longer one begins, and the gap behind it, if it stands here.
+    #[inline(always)]
+    fn behind_sign(&self, sign: u8) -> Option<&'a [u8]>
+        requires word { is_name_byte sign ≡ false }
+        requires alone { double_sign sign ≡ None }
+        ensures some { (token : AToken) → single_sign sign ≡ Some token
+            → IfSome result (λ rest. Stands self.now.here token rest.now) }
+        ensures none { (token : AToken) → spelling_of token ≡ sign ∷ [] → IfNone result (IsAbsent token self.now) }
+    {
+        let Some((first, _)) = self.here.split_first() else {
+            return None;
+        };
+        if *first != sign {
+            return None;
+        }
+        Some(behind(self.here, 1))
+    }
+
+    /// Passes a token that is no brace. What follows it is this.
+    #[inline(always)]
+    fn pass(&mut self, rest: &'a [u8])
+        ensures { self.new ≡ record { here = rest.now; braces = self.old.braces } }
+    {
+        self.here = rest;
+    }
+
     /// Passes a sign, if it stands here.
     #[inline(always)]
     fn takes(&mut self, sign: u8) -> bool
@@ -177,10 +184,10 @@ impl<'a> Cursor<'a> {
         ensures none { (token : AToken) → spelling_of token ≡ sign ∷ [] → result ≡ false → IsAbsent token self.old }
         ensures stays { result ≡ false → self.new ≡ self.old }
     {
-        let Some(rest) = sign_at(self.here, sign) else {
+        let Some(rest) = self.behind_sign(sign) else {
             return false;
         };
-        self.here = rest;
+        self.pass(rest);
         true
     }
 
@@ -225,13 +232,13 @@ impl<'a> Cursor<'a> {
         ensures stays { result ≡ false → self.new ≡ self.old }
     {
         let mut token = Token::Class;
-        let Some(rest) = token_at(self.here, &mut token) else {
+        let Some(rest) = self.token(&mut token) else {
             return false;
         };
         if !keyword.is(&token) {
             return false;
         }
-        self.here = rest;
+        self.pass(rest);
         true
     }
 
@@ -261,7 +268,7 @@ impl<'a> Cursor<'a> {
         ensures none { result ≡ false → IsAbsent AToken.CloseBrace self.old }
         ensures stays { result ≡ false → self.new ≡ self.old }
     {
-        let Some(rest) = sign_at(self.here, b'}') else {
+        let Some(rest) = self.behind_sign(b'}') else {
             return false;
         };
         self.here = rest;
@@ -274,7 +281,7 @@ impl<'a> Cursor<'a> {
         ensures ok { IfOk result (λ _. Passes self.old AToken.OpenBrace self.new) }
         ensures err { IfErr result (λ stop. StopsAtBrace stop expected self.old self.new) }
     {
-        let Some(rest) = sign_at(self.here, b'{') else {
+        let Some(rest) = self.behind_sign(b'{') else {
             return Err(Stop::At(expected));
         };
         if self.braces >= MOST_DEPTH {
@@ -293,13 +300,13 @@ impl<'a> Cursor<'a> {
         ensures stays { IfNone result (self.new ≡ self.old) }
     {
         let mut token = Token::Class;
-        let Some(rest) = token_at(self.here, &mut token) else {
+        let Some(rest) = self.token(&mut token) else {
             return None;
         };
         let Token::Name(name) = &token else {
             return None;
         };
-        self.here = rest;
+        self.pass(rest);
         Some(*name)
     }
 
@@ -323,13 +330,13 @@ impl<'a> Cursor<'a> {
         ensures stays { IfNone result (self.new ≡ self.old) }
     {
         let mut token = Token::Class;
-        let Some(rest) = token_at(self.here, &mut token) else {
+        let Some(rest) = self.token(&mut token) else {
             return None;
         };
         let Some(value) = operand(&token) else {
             return None;
         };
-        self.here = rest;
+        self.pass(rest);
         Some(value)
     }
 
@@ -351,13 +358,13 @@ impl<'a> Cursor<'a> {
         ensures err { IfErr result (λ stop. Stops stop Expected.Comparison self.old self.new) }
     {
         let mut token = Token::Class;
-        let Some(rest) = token_at(self.here, &mut token) else {
+        let Some(rest) = self.token(&mut token) else {
             return Err(Stop::At(Expected::Comparison));
         };
         let Token::Comparison(comparison) = &token else {
             return Err(Stop::At(Expected::Comparison));
         };
-        self.here = rest;
+        self.pass(rest);
         Ok(*comparison)
     }
 
@@ -368,13 +375,13 @@ impl<'a> Cursor<'a> {
         ensures stays { IfNone result (self.new ≡ self.old) }
     {
         let mut token = Token::Class;
-        let Some(rest) = token_at(self.here, &mut token) else {
+        let Some(rest) = self.token(&mut token) else {
             return None;
         };
         let Some(kind) = kind(&token) else {
             return None;
         };
-        self.here = rest;
+        self.pass(rest);
         Some(kind)
     }
 }

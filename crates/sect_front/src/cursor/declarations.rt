@@ -6,7 +6,7 @@ ghost use Rattle.sect_front.specs.{Tokens.{parameters_tokens, source_tokens}, de
 ghost use Rattle.sect_front.specs.steps.Passing.{ArePassed, IsAbsent, IsAlike, StopsIn};
 ghost use Rattle.sect_front.specs.steps.Declaring.{HasDeclared, HasBegun, FitsPart, HasPart, Halts, StopsText};
 
-use crate::cursor::{Cursor, Keyword, Stop, token_at};
+use crate::cursor::{Cursor, Keyword, Stop};
 use crate::expected::Expected;
 use crate::items::Items;
 use crate::name::Name;
@@ -150,17 +150,17 @@ impl<'a> Cursor<'a> {
         ensures err { IfErr result (λ stop. StopsIn stop (Expected.StartOrLocal ∷ []) self.old self.new) }
     {
         let mut token = Token::Class;
-        let Some(rest) = token_at(self.here, &mut token) else {
+        let Some(rest) = self.token(&mut token) else {
             return Err(Stop::At(Expected::StartOrLocal));
         };
         match &token {
             Token::Int => {
-                self.here = rest;
+                self.pass(rest);
                 self.declared(Kind::Int, locals)?;
                 Ok(Expected::StartOrLocal)
             }
             Token::Name(x) => {
-                self.here = rest;
+                self.pass(rest);
                 self.after_word(x, locals, block)
             }
             _ => self.statement(alloc, Expected::StartOrLocal, block),
@@ -345,7 +345,7 @@ impl<'a> Cursor<'a> {
         ensures err { IfErr result (λ stop. Halts stop part self.old self.new) }
     {
         let mut token = Token::Class;
-        let Some(rest) = token_at(self.here, &mut token) else {
+        let Some(rest) = self.token(&mut token) else {
             return Err(Stop::At(part));
         };
         if !part.takes(&token) {
@@ -353,25 +353,25 @@ impl<'a> Cursor<'a> {
         }
         match &token {
             Token::Record => {
-                self.here = rest;
+                self.pass(rest);
                 let record = self.record(alloc)?;
                 source.add_record(record)?;
                 Ok(Expected::Records)
             }
             Token::Global => {
-                self.here = rest;
+                self.pass(rest);
                 let global = self.global()?;
                 source.add_global(global)?;
                 Ok(Expected::Globals)
             }
             Token::Proc => {
-                self.here = rest;
+                self.pass(rest);
                 let procedure = self.procedure(alloc)?;
                 source.add_procedure(procedure)?;
                 Ok(Expected::Procedures)
             }
             Token::Thread => {
-                self.here = rest;
+                self.pass(rest);
                 let thread = self.thread(alloc)?;
                 source.add_thread(thread)?;
                 Ok(Expected::Threads)

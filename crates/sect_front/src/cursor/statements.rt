@@ -6,7 +6,7 @@ ghost use Rattle.sect_front.specs.declared.token.Token.{Token as AToken};
 ghost use Rattle.sect_front.specs.steps.Places.{test_places, store_places};
 ghost use Rattle.sect_front.specs.steps.Passing.{ArePassed, IsAbsent, IsAlike, StopsIn, HasAdded};
 
-use crate::cursor::{Cursor, Keyword, Stop, token_at};
+use crate::cursor::{Cursor, Keyword, Stop};
 use crate::expected::Expected;
 use crate::items::Items;
 use crate::name::Name;
@@ -122,24 +122,24 @@ impl<'a> Cursor<'a> {
         ensures err { IfErr result (λ stop. StopsIn stop (Expected.Value ∷ []) self.old self.new) }
     {
         let mut token = Token::Class;
-        let Some(rest) = token_at(self.here, &mut token) else {
+        let Some(rest) = self.token(&mut token) else {
             return Err(Stop::At(Expected::Value));
         };
         match &token {
             Token::Name(y) => {
-                self.here = rest;
+                self.pass(rest);
                 self.first_name(x, y, block)
             }
             Token::New => {
-                self.here = rest;
+                self.pass(rest);
                 self.made(x, block)
             }
             Token::Number(n) => {
-                self.here = rest;
+                self.pass(rest);
                 self.computed(x, &Operand::Number(*n), Expected::AfterFirst, block)
             }
             Token::Null => {
-                self.here = rest;
+                self.pass(rest);
                 self.computed(x, &Operand::Null, Expected::AfterFirst, block)
             }
             _ => Err(Stop::At(Expected::Value)),
@@ -289,32 +289,32 @@ impl<'a> Cursor<'a> {
         ensures err { IfErr result (λ stop. StopsIn stop (expected ∷ []) self.old self.new) }
     {
         let mut token = Token::Class;
-        let Some(rest) = token_at(self.here, &mut token) else {
+        let Some(rest) = self.token(&mut token) else {
             return Err(Stop::At(expected));
         };
         match &token {
             Token::Name(x) => {
-                self.here = rest;
+                self.pass(rest);
                 self.named(x, block)?;
             }
             Token::If => {
-                self.here = rest;
+                self.pass(rest);
                 return self.branch(alloc, block);
             }
             Token::While => {
-                self.here = rest;
+                self.pass(rest);
                 self.repeated(alloc, block)?;
             }
             Token::Print => {
-                self.here = rest;
+                self.pass(rest);
                 self.printed(block)?;
             }
             Token::Atomic => {
-                self.here = rest;
+                self.pass(rest);
                 self.atomic(alloc, block)?;
             }
             Token::Call => {
-                self.here = rest;
+                self.pass(rest);
                 self.called(alloc, block)?;
             }
             _ => return Err(Stop::At(expected)),

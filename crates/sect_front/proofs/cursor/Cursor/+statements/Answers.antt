@@ -1,30 +1,28 @@
 use Rattle.std.proofs.Common.{◌≡◌, [], ◌∷◌, Some, length, true, false, refl, sym, ◌∙◌, ap, subst, arith}
-use Rattle.std.proofs.lemmas.Result.{IfOk-weaker, IfErr-weaker}
+use Rattle.std.proofs.lemmas.Result.{IfOk-weaker}
 use Rattle.sect_lemmas.proofs.Results.{given}
 use Rattle.sect_front.specs.{Syntax.{If, IfElse, While, Atomic}, Tokens.{test_tokens, block_tokens}}
 use Rattle.sect_front.specs.steps.Places.{test_places, after}
-use Rattle.sect_front.specs.steps.Passing.{Stands, ArePassed, IsAbsent, IsBare, IsAlike, StopsIn, HasAdded}
-use Rattle.sect_front.proofs.{Places.{body_tokens}, Texts.{shorter}, Leading.{test_after, body_after}}
+use Rattle.sect_front.specs.steps.Passing.{ArePassed, IsAbsent, IsAlike, StopsIn}
+use Rattle.sect_front.proofs.{Places.{body_tokens}, Leading.{test_after, body_after}}
 use Rattle.sect_front.proofs.{Growing.{block_behind}, Adding.{added_are, added_leads, added_shorter}}
-use Rattle.sect_front.proofs.Stopping.{stops_after, stops_here, stops_behind, stops_more, stops_at_brace, passed_append}
-use Rattle.sect_front.proofs.Stopping.{passed_shorter, passed_calm, no_longer, added_behind, refused_alike, refused_by}
+use Rattle.sect_front.proofs.Stopping.{passed_append}
+use Rattle.sect_front.proofs.Stopping.{passed_shorter, no_longer, added_behind, refused_alike, refused_by}
 use Rattle.sect_front.proofs.Stopping.{refused_bare, refused_brace, alike_takes, alike_else, alike_all, not_start}
 use Rattle.sect_front.specs.declared.token.Token.TheVariants as token
 use Rattle.sect_front.specs.declared.tree.Locking.TheVariants as locking
 use Rattle.sect_front.specs.declared.expected.Expected.TheVariants as expected
-use Rattle.sect_front.specs.declared.cursor.Stop.TheVariants as stop
+use Rattle.sect_front.proofs.Chains.{none, rule, one, passed, stops, fails_in, fails_part, fails_at_brace, stops_so}
+use Rattle.sect_front.proofs.Chains.{adds_so}
 use Rattle.sect_front.proofs.cursor.Cursor.+statements.Goals as goal
 
 pub block-returns-in_err-open_brace-clause-err : goal.block-returns-in_err-open_brace-clause-err
 block-returns-in_err-open_brace-clause-err t c =
-    given c.from_residual.result (λ s. StopsIn s (c.args.expected ∷ []) c.args.self.now c.open_brace.new.self)
-    c.in_err-open_brace.field-0.0
-    (stops_at_brace _ c.args.expected [] c.args.self.now c.open_brace.new.self c.in_err-open_brace.ensures.err
+    fails_at_brace _ _ _ none c.in_err-open_brace.ensures.err
     (λ absent. refused_alike c.args.expected expected.OpenBrace c.args.self.now c.requires.alike
     (refused_brace c.args.self.now absent))
     (λ rest s. alike_takes c.args.expected expected.OpenBrace token.OpenBrace
-    (c.requires.alike token.OpenBrace rest s)))
-    c.from_residual.ensures.1
+    (c.requires.alike token.OpenBrace rest s)) c.from_residual.ensures.1
 
 pub block-statements-requires : goal.block-statements-requires
 block-statements-requires t c =
@@ -39,18 +37,12 @@ block-returns-clause-ok t c =
 pub block-returns-clause-err : goal.block-returns-clause-err
 block-returns-clause-err t c =
     let p = c.in_ok-open_brace.ensures.ok in
-    IfErr-weaker c.statements.result _ (λ s. StopsIn s (c.args.expected ∷ []) c.args.self.now c.statements.new.self)
-    (λ s h. stops_behind s c.args.expected token.OpenBrace (expected.Start ∷ []) [] c.args.self.now
-    c.open_brace.new.self c.statements.new.self p
-    (c.requires.alike token.OpenBrace c.open_brace.new.self.here p.stands) h) c.statements.ensures.err
+    stops_so _ _ (one p (c.requires.alike token.OpenBrace _ p.stands) none) c.statements.ensures.err
 
 pub branch-returns-in_err-test-clause-err : goal.branch-returns-in_err-test-clause-err
 branch-returns-in_err-test-clause-err t c =
-    let rest = expected.OpenBrace ∷ expected.StartOrElse ∷ [] in
-    given c.from_residual.result (λ s. StopsIn s (test_places rest) c.args.self.now c.test.new.self)
-    c.in_err-test.field-0.0
-    (stops_more _ (test_places []) rest c.args.self.now c.test.new.self c.in_err-test.ensures.err)
-    c.from_residual.ensures.1
+    fails_part _ _ _ (test_places []) (expected.OpenBrace ∷ expected.StartOrElse ∷ []) none
+    c.in_err-test.ensures.err c.from_residual.ensures.1
 
 pub branch-block-requires : goal.branch-block-requires
 branch-block-requires t c = (
@@ -60,13 +52,9 @@ branch-block-requires t c = (
 
 pub branch-returns-in_err-then-clause-err : goal.branch-returns-in_err-then-clause-err
 branch-returns-in_err-then-clause-err t c =
-    let rest = expected.OpenBrace ∷ expected.StartOrElse ∷ [] in
-    given c.from_residual-in_err-then.result (λ s. StopsIn s (test_places rest) c.args.self.now c.block.new.self)
-    c.in_err-then.field-0.0
-    (stops_after _ (test_places rest) rest (test_tokens c.in_ok-test.test []) c.args.self.now c.test.new.self
-    c.block.new.self c.in_ok-test.ensures.ok (test_after c.in_ok-test.test rest [])
-    (stops_more _ (expected.OpenBrace ∷ []) (expected.StartOrElse ∷ []) c.test.new.self c.block.new.self
-    c.in_err-then.ensures.err)) c.from_residual-in_err-then.ensures.1
+    fails_part _ _ _ (expected.OpenBrace ∷ []) (expected.StartOrElse ∷ [])
+    (rule (test_tokens c.in_ok-test.test []) c.in_ok-test.ensures.ok (test_after c.in_ok-test.test _ []) none)
+    c.in_err-then.ensures.err c.from_residual-in_err-then.ensures.1
 
 pub branch-block-requires-then-takes_keyword : goal.branch-block-requires-then-takes_keyword
 branch-block-requires-then-takes_keyword t c =
@@ -86,22 +74,12 @@ branch-block-requires-then-takes_keyword t c =
 
 pub branch-returns-in_err-other-clause-err : goal.branch-returns-in_err-other-clause-err
 branch-returns-in_err-other-clause-err t c =
-    let q = c.in_ok-test.test in
-    let a = c.in_ok-then.then in
-    let begun = test_tokens q (token.OpenBrace ∷ body_tokens a []) in
-    let then = passed_append c.args.self.now (test_tokens q []) (token.OpenBrace ∷ body_tokens a []) c.test.new.self
-    c.block.new.self c.in_ok-test.ensures.ok c.in_ok-then.ensures.ok in
-    let rest = expected.OpenBrace ∷ expected.StartOrElse ∷ [] in
-    given c.from_residual-in_err-other.result
-    (λ s. StopsIn s (test_places rest) c.args.self.now c.block-then-takes_keyword.new.self) c.in_err-other.field-0.0
-    (stops_after _ (test_places rest) (expected.StartOrElse ∷ []) begun c.args.self.now c.block.new.self
-    c.block-then-takes_keyword.new.self then
-    (test_after q rest (token.OpenBrace ∷ body_tokens a []) ∙ body_after a (expected.StartOrElse ∷ []) [])
-    (stops_behind _ expected.StartOrElse token.Else (expected.OpenBrace ∷ expected.Start ∷ []) [] c.block.new.self
-    c.takes_keyword.new.self c.block-then-takes_keyword.new.self
-    (c.takes_keyword.ensures.taken c.if-takes_keyword.true) refl
-    (stops_more _ (expected.OpenBrace ∷ []) (expected.Start ∷ []) c.takes_keyword.new.self
-    c.block-then-takes_keyword.new.self c.in_err-other.ensures.err))) c.from_residual-in_err-other.ensures.1
+    fails_part _ _ _ (expected.OpenBrace ∷ []) (expected.Start ∷ [])
+    (rule (test_tokens c.in_ok-test.test []) c.in_ok-test.ensures.ok (test_after c.in_ok-test.test _ [])
+    (rule (token.OpenBrace ∷ body_tokens c.in_ok-then.then []) c.in_ok-then.ensures.ok
+    (body_after c.in_ok-then.then (expected.StartOrElse ∷ []) [])
+    (one (c.takes_keyword.ensures.taken c.if-takes_keyword.true) refl none)))
+    c.in_err-other.ensures.err c.from_residual-in_err-other.ensures.1
 
 pub branch-returns-then-takes_keyword-clause-ok : goal.branch-returns-then-takes_keyword-clause-ok
 branch-returns-then-takes_keyword-clause-ok t c =
@@ -150,11 +128,8 @@ branch-returns-clause-alike t c =
 
 pub repeated-returns-in_err-test-clause-err : goal.repeated-returns-in_err-test-clause-err
 repeated-returns-in_err-test-clause-err t c =
-    let rest = expected.OpenBrace ∷ [] in
-    given c.from_residual.result (λ s. StopsIn s (test_places rest) c.args.self.now c.test.new.self)
-    c.in_err-test.field-0.0
-    (stops_more _ (test_places []) rest c.args.self.now c.test.new.self c.in_err-test.ensures.err)
-    c.from_residual.ensures.1
+    fails_part _ _ _ (test_places []) (expected.OpenBrace ∷ []) none
+    c.in_err-test.ensures.err c.from_residual.ensures.1
 
 pub repeated-block-requires : goal.repeated-block-requires
 repeated-block-requires t c = (
@@ -164,12 +139,9 @@ repeated-block-requires t c = (
 
 pub repeated-returns-in_err-body-clause-err : goal.repeated-returns-in_err-body-clause-err
 repeated-returns-in_err-body-clause-err t c =
-    let rest = expected.OpenBrace ∷ [] in
-    given c.from_residual-in_err-body.result (λ s. StopsIn s (test_places rest) c.args.self.now c.block.new.self)
-    c.in_err-body.field-0.0
-    (stops_after _ (test_places rest) rest (test_tokens c.in_ok-test.test []) c.args.self.now c.test.new.self
-    c.block.new.self c.in_ok-test.ensures.ok (test_after c.in_ok-test.test rest []) c.in_err-body.ensures.err)
-    c.from_residual-in_err-body.ensures.1
+    fails_in _ _ _ (rule (test_tokens c.in_ok-test.test []) c.in_ok-test.ensures.ok
+    (test_after c.in_ok-test.test _ []) none)
+    c.in_err-body.ensures.err c.from_residual-in_err-body.ensures.1
 
 pub repeated-returns-clause-ok : goal.repeated-returns-clause-ok
 repeated-returns-clause-ok t c =
@@ -197,11 +169,8 @@ atomic-block-requires t c = (
 
 pub atomic-returns-in_err-body-clause-err : goal.atomic-returns-in_err-body-clause-err
 atomic-returns-in_err-body-clause-err t c =
-    given c.from_residual.result
-    (λ s. StopsIn s (expected.AllOrBrace ∷ []) c.args.self.now c.block.new.self) c.in_err-body.field-0.0
-    (stops_behind _ expected.AllOrBrace token.All (expected.OpenBrace ∷ []) [] c.args.self.now
-    c.takes_keyword.new.self c.block.new.self
-    (c.takes_keyword.ensures.taken c.if-takes_keyword.true) refl c.in_err-body.ensures.err) c.from_residual.ensures.1
+    fails_in _ _ _ (one (c.takes_keyword.ensures.taken c.if-takes_keyword.true) refl none)
+    c.in_err-body.ensures.err c.from_residual.ensures.1
 
 pub atomic-returns-then-takes_keyword-clause-ok : goal.atomic-returns-then-takes_keyword-clause-ok
 atomic-returns-then-takes_keyword-clause-ok t c = record {
@@ -245,214 +214,127 @@ atomic-returns-clause-ok t c =
 
 pub statement-returns-in_default-clause-err : goal.statement-returns-in_default-clause-err
 statement-returns-in_default-clause-err t c =
-    let same : c.self.inside.here.now ≡ c.args.self.now.here = grind arith in
-    stops_here (stop.At c.args.expected) c.args.expected [] c.args.self.now _ (
-      refl,
-      grind arith,
-      refused_bare c.args.expected c.args.self.now (subst IsBare same (rw c.in_default.is at c.token_at.ensures.none)),
-    )
+    stops none refl (refused_bare c.args.expected c.args.self.now (rw c.in_default.is at c.token.ensures.none))
 
 pub statement-returns-in_default-token : goal.statement-returns-in_default-token
 statement-returns-in_default-token t c =
-    let same : c.self.inside.here.now ≡ c.args.self.now.here = grind arith in
-    let stands = subst (λ x. Stands x c.token_at.new.token c.in-Some.rest.now) same c.in-Some.ensures.some in
+    let stands = c.in-Some.ensures.some in
     record {
       ok = tt;
       alike = tt;
-      err = stops_here (stop.At c.args.expected) c.args.expected [] c.args.self.now c.args.self.now (
-        refl,
-        refl,
-        refused_by c.args.expected c.args.self.now c.in-Some.rest.now c.token_at.new.token stands
-            (alike_takes c.args.expected expected.Start c.token_at.new.token
-            (c.requires.alike c.token_at.new.token c.in-Some.rest.now stands)
-            ∙ not_start c.token_at.new.token c.args.self.now c.in-Some.rest.now stands c.requires.brace
-            c.in_default-token.not-Name c.in_default-token.not-If c.in_default-token.not-While
-            c.in_default-token.not-Print c.in_default-token.not-Atomic c.in_default-token.not-Call),
-      );
+      err = stops none refl (refused_by c.args.expected c.args.self.now c.in-Some.rest.now c.token.new.token stands
+          (alike_takes c.args.expected expected.Start c.token.new.token
+          (c.requires.alike c.token.new.token c.in-Some.rest.now stands)
+          ∙ not_start c.token.new.token c.args.self.now c.in-Some.rest.now stands c.requires.brace
+          c.in_default-token.not-Name c.in_default-token.not-If c.in_default-token.not-While
+          c.in_default-token.not-Print c.in_default-token.not-Atomic c.in_default-token.not-Call));
     }
 
 pub statement-returns-in_err-named-in-Name-clause-err : goal.statement-returns-in_err-named-in-Name-clause-err
 statement-returns-in_err-named-in-Name-clause-err t c =
-    let same : c.self.inside.here.now ≡ c.args.self.now.here = grind arith in
-    let stands = subst (λ u. Stands c.args.self.now.here u c.in-Some.rest.now) c.in-Name.is
-    (subst (λ x. Stands x c.token_at.new.token c.in-Some.rest.now) same c.in-Some.ensures.some) in
-    given c.from_residual.result (λ s. StopsIn s (c.args.expected ∷ []) c.args.self.now c.named.new.self)
-    c.in_err-named-in-Name.field-0.0
-    (stops_behind _ c.args.expected (token.Name c.in-Name.x) (expected.AfterName ∷ expected.Start ∷ []) []
-    c.args.self.now _ c.named.new.self
-    (passed_calm (token.Name c.in-Name.x) c.args.self.now _ (λ k. refl) stands (grind arith))
-    (c.requires.alike (token.Name c.in-Name.x) c.in-Some.rest.now stands)
-    (stops_more _ (expected.AfterName ∷ []) (expected.Start ∷ []) _ c.named.new.self
-    c.in_err-named-in-Name.ensures.err))
-    c.from_residual.ensures.1
+    let p = passed c.args.self.now c.in-Some.ensures.some c.in-Name.is (λ k. refl) c.pass.ensures in
+    fails_part _ _ _ (expected.AfterName ∷ []) (expected.Start ∷ []) (one p (c.requires.alike _ _ p.stands) none)
+    c.in_err-named-in-Name.ensures.err c.from_residual.ensures.1
 
 pub statement-returns-in_ok-named-in-Name-clause-ok : goal.statement-returns-in_ok-named-in-Name-clause-ok
 statement-returns-in_ok-named-in-Name-clause-ok t c =
-    let same : c.self.inside.here.now ≡ c.args.self.now.here = grind arith in
-    let stands = subst (λ u. Stands c.args.self.now.here u c.in-Some.rest.now) c.in-Name.is
-    (subst (λ x. Stands x c.token_at.new.token c.in-Some.rest.now) same c.in-Some.ensures.some) in
+    let p = passed c.args.self.now c.in-Some.ensures.some c.in-Name.is (λ k. refl) c.pass.ensures in
     added_behind expected.Start [] (token.Name c.in-Name.x) c.args.self.now _ c.named.new.self c.args.block.now
-    c.named.new.block
-    (passed_calm (token.Name c.in-Name.x) c.args.self.now _ (λ k. refl) stands (grind arith))
-    c.in_ok-named-in-Name.ensures.ok
+    c.named.new.block p c.in_ok-named-in-Name.ensures.ok
 
 pub statement-returns-in_ok-named-in-Name-clause-alike : goal.statement-returns-in_ok-named-in-Name-clause-alike
 statement-returns-in_ok-named-in-Name-clause-alike t c = λ t rest s. refl
 
 pub statement-repeated-requires : goal.statement-repeated-requires
 statement-repeated-requires t c =
-    let same : c.self.inside.here.now ≡ c.args.self.now.here = grind arith in
-    let stands = subst (λ u. Stands c.args.self.now.here u c.in-Some.rest.now) c.in-While.is
-    (subst (λ x. Stands x c.token_at.new.token c.in-Some.rest.now) same c.in-Some.ensures.some) in
-    omega (arith, shorter c.args.self.now.here _ stands.count stands.lexed, ap length stands.behind)
+    let p = passed c.args.self.now c.in-Some.ensures.some c.in-While.is (λ k. refl) c.pass-in-While.ensures in
+    omega (arith, passed_shorter c.args.self.now _ token.While p)
 
 pub statement-returns-in_err-repeated-in-While-clause-err : goal.statement-returns-in_err-repeated-in-While-clause-err
 statement-returns-in_err-repeated-in-While-clause-err t c =
-    let same : c.self.inside.here.now ≡ c.args.self.now.here = grind arith in
-    let stands = subst (λ u. Stands c.args.self.now.here u c.in-Some.rest.now) c.in-While.is
-    (subst (λ x. Stands x c.token_at.new.token c.in-Some.rest.now) same c.in-Some.ensures.some) in
-    given c.from_residual-in_err-repeated-in-While.result (λ s. StopsIn s (c.args.expected ∷ []) c.args.self.now
-    c.repeated.new.self)
-    c.in_err-repeated-in-While.field-0.0
-    (stops_behind _ c.args.expected (token.While) (test_places (expected.OpenBrace ∷ expected.Start ∷ [])) []
-    c.args.self.now _ c.repeated.new.self
-    (passed_calm (token.While) c.args.self.now _ (λ k. refl) stands (grind arith))
-    (c.requires.alike (token.While) c.in-Some.rest.now stands)
-    (stops_more _ (test_places (expected.OpenBrace ∷ [])) (expected.Start ∷ []) _ c.repeated.new.self
-    c.in_err-repeated-in-While.ensures.err))
-    c.from_residual-in_err-repeated-in-While.ensures.1
+    let p = passed c.args.self.now c.in-Some.ensures.some c.in-While.is (λ k. refl) c.pass-in-While.ensures in
+    fails_part _ _ _ (test_places (expected.OpenBrace ∷ [])) (expected.Start ∷ [])
+    (one p (c.requires.alike _ _ p.stands) none)
+    c.in_err-repeated-in-While.ensures.err c.from_residual-in_err-repeated-in-While.ensures.1
 
 pub statement-returns-in_ok-repeated-in-While-clause-ok : goal.statement-returns-in_ok-repeated-in-While-clause-ok
 statement-returns-in_ok-repeated-in-While-clause-ok t c =
-    let same : c.self.inside.here.now ≡ c.args.self.now.here = grind arith in
-    let stands = subst (λ u. Stands c.args.self.now.here u c.in-Some.rest.now) c.in-While.is
-    (subst (λ x. Stands x c.token_at.new.token c.in-Some.rest.now) same c.in-Some.ensures.some) in
-    added_behind expected.Start [] (token.While) c.args.self.now _ c.repeated.new.self c.args.block.now
-    c.repeated.new.block
-    (passed_calm (token.While) c.args.self.now _ (λ k. refl) stands (grind arith)) c.in_ok-repeated-in-While.ensures.ok
+    let p = passed c.args.self.now c.in-Some.ensures.some c.in-While.is (λ k. refl) c.pass-in-While.ensures in
+    added_behind expected.Start [] token.While c.args.self.now _ c.repeated.new.self c.args.block.now
+    c.repeated.new.block p c.in_ok-repeated-in-While.ensures.ok
 
 pub statement-returns-in_ok-repeated-in-While-clause-alike : goal.statement-returns-in_ok-repeated-in-While-clause-alike
 statement-returns-in_ok-repeated-in-While-clause-alike t c = λ t rest s. refl
 
 pub statement-returns-in_err-printed-in-Print-clause-err : goal.statement-returns-in_err-printed-in-Print-clause-err
 statement-returns-in_err-printed-in-Print-clause-err t c =
-    let same : c.self.inside.here.now ≡ c.args.self.now.here = grind arith in
-    let stands = subst (λ u. Stands c.args.self.now.here u c.in-Some.rest.now) c.in-Print.is
-    (subst (λ x. Stands x c.token_at.new.token c.in-Some.rest.now) same c.in-Some.ensures.some) in
-    given c.from_residual-in_err-printed-in-Print.result (λ s. StopsIn s (c.args.expected ∷ []) c.args.self.now
-    c.printed.new.self)
-    c.in_err-printed-in-Print.field-0.0
-    (stops_behind _ c.args.expected (token.Print) (expected.Operand ∷ expected.Semicolon ∷ expected.Start ∷ []) []
-    c.args.self.now _ c.printed.new.self
-    (passed_calm (token.Print) c.args.self.now _ (λ k. refl) stands (grind arith))
-    (c.requires.alike (token.Print) c.in-Some.rest.now stands)
-    (stops_more _ (expected.Operand ∷ expected.Semicolon ∷ []) (expected.Start ∷ []) _ c.printed.new.self
-    c.in_err-printed-in-Print.ensures.err))
-    c.from_residual-in_err-printed-in-Print.ensures.1
+    let p = passed c.args.self.now c.in-Some.ensures.some c.in-Print.is (λ k. refl) c.pass-in-Print.ensures in
+    fails_part _ _ _ (expected.Operand ∷ expected.Semicolon ∷ []) (expected.Start ∷ [])
+    (one p (c.requires.alike _ _ p.stands) none)
+    c.in_err-printed-in-Print.ensures.err c.from_residual-in_err-printed-in-Print.ensures.1
 
 pub statement-returns-in_ok-printed-in-Print-clause-ok : goal.statement-returns-in_ok-printed-in-Print-clause-ok
 statement-returns-in_ok-printed-in-Print-clause-ok t c =
-    let same : c.self.inside.here.now ≡ c.args.self.now.here = grind arith in
-    let stands = subst (λ u. Stands c.args.self.now.here u c.in-Some.rest.now) c.in-Print.is
-    (subst (λ x. Stands x c.token_at.new.token c.in-Some.rest.now) same c.in-Some.ensures.some) in
-    added_behind expected.Start [] (token.Print) c.args.self.now _ c.printed.new.self c.args.block.now
-    c.printed.new.block
-    (passed_calm (token.Print) c.args.self.now _ (λ k. refl) stands (grind arith)) c.in_ok-printed-in-Print.ensures.ok
+    let p = passed c.args.self.now c.in-Some.ensures.some c.in-Print.is (λ k. refl) c.pass-in-Print.ensures in
+    added_behind expected.Start [] token.Print c.args.self.now _ c.printed.new.self c.args.block.now
+    c.printed.new.block p c.in_ok-printed-in-Print.ensures.ok
 
 pub statement-returns-in_ok-printed-in-Print-clause-alike : goal.statement-returns-in_ok-printed-in-Print-clause-alike
 statement-returns-in_ok-printed-in-Print-clause-alike t c = λ t rest s. refl
 
 pub statement-atomic-requires : goal.statement-atomic-requires
 statement-atomic-requires t c =
-    let same : c.self.inside.here.now ≡ c.args.self.now.here = grind arith in
-    let stands = subst (λ u. Stands c.args.self.now.here u c.in-Some.rest.now) c.in-Atomic.is
-    (subst (λ x. Stands x c.token_at.new.token c.in-Some.rest.now) same c.in-Some.ensures.some) in
-    omega (arith, shorter c.args.self.now.here _ stands.count stands.lexed, ap length stands.behind)
+    let p = passed c.args.self.now c.in-Some.ensures.some c.in-Atomic.is (λ k. refl) c.pass-in-Atomic.ensures in
+    omega (arith, passed_shorter c.args.self.now _ token.Atomic p)
 
 pub statement-returns-in_err-atomic-in-Atomic-clause-err : goal.statement-returns-in_err-atomic-in-Atomic-clause-err
 statement-returns-in_err-atomic-in-Atomic-clause-err t c =
-    let same : c.self.inside.here.now ≡ c.args.self.now.here = grind arith in
-    let stands = subst (λ u. Stands c.args.self.now.here u c.in-Some.rest.now) c.in-Atomic.is
-    (subst (λ x. Stands x c.token_at.new.token c.in-Some.rest.now) same c.in-Some.ensures.some) in
-    given c.from_residual-in_err-atomic-in-Atomic.result (λ s. StopsIn s (c.args.expected ∷ []) c.args.self.now
-    c.atomic.new.self)
-    c.in_err-atomic-in-Atomic.field-0.0
-    (stops_behind _ c.args.expected (token.Atomic) (expected.AllOrBrace ∷ expected.Start ∷ []) [] c.args.self.now _
-    c.atomic.new.self
-    (passed_calm (token.Atomic) c.args.self.now _ (λ k. refl) stands (grind arith))
-    (c.requires.alike (token.Atomic) c.in-Some.rest.now stands)
-    (stops_more _ (expected.AllOrBrace ∷ []) (expected.Start ∷ []) _ c.atomic.new.self
-    c.in_err-atomic-in-Atomic.ensures.err))
-    c.from_residual-in_err-atomic-in-Atomic.ensures.1
+    let p = passed c.args.self.now c.in-Some.ensures.some c.in-Atomic.is (λ k. refl) c.pass-in-Atomic.ensures in
+    fails_part _ _ _ (expected.AllOrBrace ∷ []) (expected.Start ∷ []) (one p (c.requires.alike _ _ p.stands) none)
+    c.in_err-atomic-in-Atomic.ensures.err c.from_residual-in_err-atomic-in-Atomic.ensures.1
 
 pub statement-returns-in_ok-atomic-in-Atomic-clause-ok : goal.statement-returns-in_ok-atomic-in-Atomic-clause-ok
 statement-returns-in_ok-atomic-in-Atomic-clause-ok t c =
-    let same : c.self.inside.here.now ≡ c.args.self.now.here = grind arith in
-    let stands = subst (λ u. Stands c.args.self.now.here u c.in-Some.rest.now) c.in-Atomic.is
-    (subst (λ x. Stands x c.token_at.new.token c.in-Some.rest.now) same c.in-Some.ensures.some) in
-    added_behind expected.Start [] (token.Atomic) c.args.self.now _ c.atomic.new.self c.args.block.now
-    c.atomic.new.block
-    (passed_calm (token.Atomic) c.args.self.now _ (λ k. refl) stands (grind arith)) c.in_ok-atomic-in-Atomic.ensures.ok
+    let p = passed c.args.self.now c.in-Some.ensures.some c.in-Atomic.is (λ k. refl) c.pass-in-Atomic.ensures in
+    added_behind expected.Start [] token.Atomic c.args.self.now _ c.atomic.new.self c.args.block.now
+    c.atomic.new.block p c.in_ok-atomic-in-Atomic.ensures.ok
 
 pub statement-returns-in_ok-atomic-in-Atomic-clause-alike : goal.statement-returns-in_ok-atomic-in-Atomic-clause-alike
 statement-returns-in_ok-atomic-in-Atomic-clause-alike t c = λ t rest s. refl
 
 pub statement-returns-in_err-called-in-Call-clause-err : goal.statement-returns-in_err-called-in-Call-clause-err
 statement-returns-in_err-called-in-Call-clause-err t c =
-    let same : c.self.inside.here.now ≡ c.args.self.now.here = grind arith in
-    let stands = subst (λ u. Stands c.args.self.now.here u c.in-Some.rest.now) c.in-Call.is
-    (subst (λ x. Stands x c.token_at.new.token c.in-Some.rest.now) same c.in-Some.ensures.some) in
-    given c.from_residual-in_err-called-in-Call.result (λ s. StopsIn s (c.args.expected ∷ []) c.args.self.now
-    c.called.new.self)
-    c.in_err-called-in-Call.field-0.0
-    (stops_behind _ c.args.expected (token.Call) (expected.Name ∷ expected.OpenParen ∷ expected.Argument
-    ∷ expected.Semicolon ∷ expected.Start ∷ []) [] c.args.self.now _ c.called.new.self
-    (passed_calm (token.Call) c.args.self.now _ (λ k. refl) stands (grind arith))
-    (c.requires.alike (token.Call) c.in-Some.rest.now stands)
-    (stops_more _ (expected.Name ∷ expected.OpenParen ∷ expected.Argument ∷ expected.Semicolon ∷ [])
-    (expected.Start ∷ []) _ c.called.new.self c.in_err-called-in-Call.ensures.err))
-    c.from_residual-in_err-called-in-Call.ensures.1
+    let p = passed c.args.self.now c.in-Some.ensures.some c.in-Call.is (λ k. refl) c.pass-in-Call.ensures in
+    fails_part _ _ _ (expected.Name ∷ expected.OpenParen ∷ expected.Argument ∷ expected.Semicolon ∷ [])
+    (expected.Start ∷ []) (one p (c.requires.alike _ _ p.stands) none)
+    c.in_err-called-in-Call.ensures.err c.from_residual-in_err-called-in-Call.ensures.1
 
 pub statement-returns-in_ok-called-in-Call-clause-ok : goal.statement-returns-in_ok-called-in-Call-clause-ok
 statement-returns-in_ok-called-in-Call-clause-ok t c =
-    let same : c.self.inside.here.now ≡ c.args.self.now.here = grind arith in
-    let stands = subst (λ u. Stands c.args.self.now.here u c.in-Some.rest.now) c.in-Call.is
-    (subst (λ x. Stands x c.token_at.new.token c.in-Some.rest.now) same c.in-Some.ensures.some) in
-    added_behind expected.Start [] (token.Call) c.args.self.now _ c.called.new.self c.args.block.now c.called.new.block
-    (passed_calm (token.Call) c.args.self.now _ (λ k. refl) stands (grind arith)) c.in_ok-called-in-Call.ensures.ok
+    let p = passed c.args.self.now c.in-Some.ensures.some c.in-Call.is (λ k. refl) c.pass-in-Call.ensures in
+    added_behind expected.Start [] token.Call c.args.self.now _ c.called.new.self c.args.block.now
+    c.called.new.block p c.in_ok-called-in-Call.ensures.ok
 
 pub statement-returns-in_ok-called-in-Call-clause-alike : goal.statement-returns-in_ok-called-in-Call-clause-alike
 statement-returns-in_ok-called-in-Call-clause-alike t c = λ t rest s. refl
 
 pub statement-branch-self-requires : goal.statement-branch-self-requires
 statement-branch-self-requires t c =
-    let same : c.self.inside.here.now ≡ c.args.self.now.here = grind arith in
-    let stands = subst (λ u. Stands c.args.self.now.here u c.in-Some.rest.now) c.in-If.is
-    (subst (λ x. Stands x c.token_at.new.token c.in-Some.rest.now) same c.in-Some.ensures.some) in
-    omega (arith, shorter c.args.self.now.here _ stands.count stands.lexed, ap length stands.behind)
+    let p = passed c.args.self.now c.in-Some.ensures.some c.in-If.is (λ k. refl) c.pass-in-If.ensures in
+    omega (arith, passed_shorter c.args.self.now _ token.If p)
 
 pub statement-returns-in-If-clause-ok : goal.statement-returns-in-If-clause-ok
 statement-returns-in-If-clause-ok t c =
-    let same : c.self.inside.here.now ≡ c.args.self.now.here = grind arith in
-    let stands = subst (λ u. Stands c.args.self.now.here u c.in-Some.rest.now) c.in-If.is
-    (subst (λ x. Stands x c.token_at.new.token c.in-Some.rest.now) same c.in-Some.ensures.some) in
-    IfOk-weaker c.branch-self.result _
-    (λ e. HasAdded e [] c.args.self.now c.branch-self.new.self c.args.block.now c.branch-self.new.block)
-    (λ e h. added_behind e [] token.If c.args.self.now _ c.branch-self.new.self c.args.block.now c.branch-self.new.block
-    (passed_calm token.If c.args.self.now _ (λ k. refl) stands (grind arith)) h) c.branch-self.ensures.ok
+    let p = passed c.args.self.now c.in-Some.ensures.some c.in-If.is (λ k. refl) c.pass-in-If.ensures in
+    adds_so _ (λ e. e) _ _ _ _ p c.branch-self.ensures.ok
 
 pub statement-returns-in-If-clause-alike : goal.statement-returns-in-If-clause-alike
 statement-returns-in-If-clause-alike t c = c.branch-self.ensures.alike
 
 pub statement-returns-in-If-clause-err : goal.statement-returns-in-If-clause-err
 statement-returns-in-If-clause-err t c =
-    let same : c.self.inside.here.now ≡ c.args.self.now.here = grind arith in
-    let stands = subst (λ u. Stands c.args.self.now.here u c.in-Some.rest.now) c.in-If.is
-    (subst (λ x. Stands x c.token_at.new.token c.in-Some.rest.now) same c.in-Some.ensures.some) in
-    IfErr-weaker c.branch-self.result _ (λ s. StopsIn s (c.args.expected ∷ []) c.args.self.now c.branch-self.new.self)
-    (λ s h. stops_behind s c.args.expected token.If (test_places (expected.OpenBrace ∷ expected.StartOrElse ∷ [])) []
-    c.args.self.now _ c.branch-self.new.self (passed_calm token.If c.args.self.now _ (λ k. refl) stands (grind arith))
-    (c.requires.alike token.If c.in-Some.rest.now stands) h) c.branch-self.ensures.err
+    let p = passed c.args.self.now c.in-Some.ensures.some c.in-If.is (λ k. refl) c.pass-in-If.ensures in
+    stops_so _ _ (one p (c.requires.alike _ _ p.stands) none) c.branch-self.ensures.err
 
 pub statements-read-init : goal.statements-read-init
 statements-read-init t c = record {
@@ -480,13 +362,10 @@ statements-statement-requires t c =
 pub statements-returns-in_err-expected-clause-err : goal.statements-returns-in_err-expected-clause-err
 statements-returns-in_err-expected-clause-err t c =
     let going : c.takes_close.result ≡ false = grind arith in
-    let stays = c.takes_close.ensures.stays going in
-    given c.from_residual.result (λ s. StopsIn s (expected.Start ∷ []) c.args.self.now c.statement.new.self)
-    c.in_err-expected.field-0.0
-    (stops_after _ (expected.Start ∷ []) (c.read.expected ∷ []) (block_tokens c.read.block []) c.args.self.now
-    c.takes_close.new.self c.statement.new.self
-    (subst (ArePassed c.args.self.now (block_tokens c.read.block [])) (sym stays) c.read.invariant.are)
-    c.read.invariant.next c.in_err-expected.ensures.err) c.from_residual.ensures.1
+    let are = subst (ArePassed c.args.self.now (block_tokens c.read.block []))
+    (sym (c.takes_close.ensures.stays going)) c.read.invariant.are in
+    fails_in _ _ _ (rule (block_tokens c.read.block []) are c.read.invariant.next none)
+    c.in_err-expected.ensures.err c.from_residual.ensures.1
 
 pub statements-read-smaller : goal.statements-read-smaller
 statements-read-smaller t c =

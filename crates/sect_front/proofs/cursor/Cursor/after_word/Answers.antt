@@ -1,23 +1,19 @@
 use Rattle.std.proofs.Common.{[], ◌∷◌, refl, ◌∙◌, ap, subst}
-use Rattle.sect_lemmas.proofs.Results.{given}
 use Rattle.sect_front.specs.Tokens.{declarations_tokens}
-use Rattle.sect_front.specs.steps.{Places.{store_places}, Passing.{Passes, IsAbsent, IsRefused, StopsIn}}
+use Rattle.sect_front.specs.steps.{Places.{store_places}, Passing.{Passes, IsAbsent, IsRefused}}
 use Rattle.sect_front.proofs.{Growing.{declarations_grow}, Begun.{named_begun}}
-use Rattle.sect_front.proofs.Stopping.{stops_behind, stops_here, stops_more, refused_word}
+use Rattle.sect_front.proofs.Stopping.{refused_word}
 use Rattle.sect_front.specs.declared.token.Token.TheVariants as token
 use Rattle.sect_front.specs.declared.tree.Kind.TheVariants as kind
 use Rattle.sect_front.specs.declared.expected.Expected.TheVariants as expected
-use Rattle.sect_front.specs.declared.cursor.Stop.TheVariants as stop
+use Rattle.sect_front.proofs.Chains.{none, one, stops, fails, fails_part}
 use Rattle.sect_front.proofs.cursor.Cursor.after_word.Goals as goal
 
 pub returns-in_err-value-clause-err : goal.returns-in_err-value-clause-err
 returns-in_err-value-clause-err c =
-    given c.from_residual.result (λ s. StopsIn s (expected.NameOrAfterName ∷ []) c.args.self.now c.value.new.self)
-    c.in_err-value.field-0.0
-    (stops_behind _ expected.NameOrAfterName token.Equal (expected.Value ∷ expected.Start ∷ []) [] c.args.self.now
-    c.takes_equal.new.self c.value.new.self (c.takes_equal.ensures.taken c.if-takes_equal.true) refl
-    (stops_more _ (expected.Value ∷ []) (expected.Start ∷ []) c.takes_equal.new.self c.value.new.self
-    c.in_err-value.ensures.err)) c.from_residual.ensures.1
+    fails_part _ _ _ (expected.Value ∷ []) (expected.Start ∷ [])
+    (one (c.takes_equal.ensures.taken c.if-takes_equal.true) refl none)
+    c.in_err-value.ensures.err c.from_residual.ensures.1
 
 pub returns-then-takes_equal-clause-ok : goal.returns-then-takes_equal-clause-ok
 returns-then-takes_equal-clause-ok c =
@@ -30,14 +26,10 @@ returns-then-takes_equal-clause-alike c = λ ne t rest s. refl
 
 pub returns-in_err-store-clause-err : goal.returns-in_err-store-clause-err
 returns-in_err-store-clause-err c =
-    given c.from_residual-in_err-store.result
-    (λ s. StopsIn s (expected.NameOrAfterName ∷ []) c.args.self.now c.store.new.self) c.in_err-store.field-0.0
-    (stops_behind _ expected.NameOrAfterName token.Dot (store_places (expected.Start ∷ [])) [] c.args.self.now
-    c.takes.new.self c.store.new.self (subst (λ x. Passes x token.Dot c.takes.new.self)
+    fails_part _ _ _ (store_places []) (expected.Start ∷ []) (one (subst (λ x. Passes x token.Dot c.takes.new.self)
     (c.takes_equal.ensures.stays c.if-takes_equal.false)
-    (c.takes.ensures.taken token.Dot refl (λ k. refl) c.if-takes.true)) refl
-    (stops_more _ (store_places []) (expected.Start ∷ []) c.takes.new.self c.store.new.self
-    c.in_err-store.ensures.err)) c.from_residual-in_err-store.ensures.1
+    (c.takes.ensures.taken token.Dot refl (λ k. refl) c.if-takes.true)) refl none)
+    c.in_err-store.ensures.err c.from_residual-in_err-store.ensures.1
 
 pub returns-then-takes-clause-ok : goal.returns-then-takes-clause-ok
 returns-then-takes-clause-ok c =
@@ -53,24 +45,17 @@ pub returns-in_default-clause-err : goal.returns-in_default-clause-err
 returns-in_default-clause-err c =
     let one = c.takes_equal.ensures.stays c.if-takes_equal.false in
     let two = c.takes.ensures.stays c.if-takes.false ∙ one in
-    stops_here (stop.At expected.NameOrAfterName) expected.NameOrAfterName [] c.args.self.now c.takes_name.new.self (
-      refl,
-      (rw c.in_default.is at c.takes_name.ensures.stays) ∙ two,
-      refused_word c.args.self.now (c.takes_equal.ensures.none c.if-takes_equal.false)
-          (subst (IsAbsent token.Dot) one (c.takes.ensures.none token.Dot refl c.if-takes.false))
-          (subst (IsRefused expected.Name) two (rw c.in_default.is at c.takes_name.ensures.none)),
-    )
+    stops none ((rw c.in_default.is at c.takes_name.ensures.stays) ∙ two)
+    (refused_word c.args.self.now (c.takes_equal.ensures.none c.if-takes_equal.false)
+    (subst (IsAbsent token.Dot) one (c.takes.ensures.none token.Dot refl c.if-takes.false))
+    (subst (IsRefused expected.Name) two (rw c.in_default.is at c.takes_name.ensures.none)))
 
 pub returns-in_err-sign-clause-err : goal.returns-in_err-sign-clause-err
 returns-in_err-sign-clause-err c =
     let two = c.takes.ensures.stays c.if-takes.false ∙ c.takes_equal.ensures.stays c.if-takes_equal.false in
-    let t = token.Name c.in-Some.name in
-    given c.from_residual-in_err-sign.result
-    (λ s. StopsIn s (expected.NameOrAfterName ∷ []) c.args.self.now c.sign.new.self) c.in_err-sign.field-0.0
-    (stops_behind _ expected.NameOrAfterName t (expected.Semicolon ∷ expected.StartOrLocal ∷ []) [] c.args.self.now
-    c.takes_name.new.self c.sign.new.self (subst (λ x. Passes x t c.takes_name.new.self) two c.in-Some.ensures.some)
-    refl (stops_here _ expected.Semicolon (expected.StartOrLocal ∷ []) c.takes_name.new.self c.sign.new.self
-    c.in_err-sign.ensures.err)) c.from_residual-in_err-sign.ensures.1
+    fails _ (one (subst (λ x. Passes x (token.Name c.in-Some.name) c.takes_name.new.self) two c.in-Some.ensures.some)
+    refl none)
+    c.in_err-sign.ensures.err c.from_residual-in_err-sign.ensures.1
 
 pub returns-clause-ok : goal.returns-clause-ok
 returns-clause-ok c =

@@ -1,14 +1,13 @@
 use Rattle.std.proofs.Common.{◌≡◌, [], ◌∷◌, ◌++◌, true, false, refl, sym, ◌∙◌, ap, subst, arith}
-use Rattle.sect_lemmas.proofs.Results.{given}
 use Rattle.sect_front.specs.Grammar.{operand_token}
 use Rattle.sect_front.specs.Tokens.{operands_tokens}
-use Rattle.sect_front.specs.steps.Passing.{Passes, ArePassed, IsAbsent, IsRefused, StopsIn}
+use Rattle.sect_front.specs.steps.Passing.{Passes, ArePassed, IsAbsent, IsRefused}
 use Rattle.sect_front.proofs.Growing.{operands_behind, operands_grow, arguments_after, some_grown}
-use Rattle.sect_front.proofs.Stopping.{stops_after, stops_here, stops_behind, passed_append, passed_shorter}
+use Rattle.sect_front.proofs.Stopping.{passed_append, passed_shorter}
 use Rattle.sect_front.proofs.Stopping.{refused_argument, refused_after_argument}
 use Rattle.sect_front.specs.declared.token.Token.TheVariants as token
 use Rattle.sect_front.specs.declared.expected.Expected.TheVariants as expected
-use Rattle.sect_front.specs.declared.cursor.Stop.TheVariants as stop
+use Rattle.sect_front.proofs.Chains.{none, rule, one, stops, fails}
 use Rattle.sect_front.proofs.cursor.Cursor.arguments.Goals as goal
 
 pub returns-then-takes-clause-ok : goal.returns-then-takes-clause-ok
@@ -20,12 +19,9 @@ returns-then-takes-clause-ok c =
 pub returns-in_default-clause-err : goal.returns-in_default-clause-err
 returns-in_default-clause-err c =
     let stays = c.takes.ensures.stays c.if-takes.false in
-    stops_here (stop.At expected.Argument) expected.Argument [] c.args.self.now c.takes_operand.new.self (
-      refl,
-      (rw c.in_default.is at c.takes_operand.ensures.stays) ∙ stays,
-      refused_argument c.args.self.now (c.takes.ensures.none token.CloseParen refl c.if-takes.false)
-          (subst (IsRefused expected.Operand) stays (rw c.in_default.is at c.takes_operand.ensures.none)),
-    )
+    stops none ((rw c.in_default.is at c.takes_operand.ensures.stays) ∙ stays)
+    (refused_argument c.args.self.now (c.takes.ensures.none token.CloseParen refl c.if-takes.false)
+    (subst (IsRefused expected.Operand) stays (rw c.in_default.is at c.takes_operand.ensures.none)))
 
 pub more-init : goal.more-init
 more-init c =
@@ -46,30 +42,20 @@ pub returns-then-not-takes-clause-err : goal.returns-then-not-takes-clause-err
 returns-then-not-takes-clause-err c =
     let going : c.takes-in-more.result ≡ false = grind arith in
     let stays = c.takes-in-more.ensures.stays going in
-    stops_after (stop.At expected.AfterArgument) (expected.Argument ∷ []) (expected.AfterArgument ∷ [])
-    (operands_tokens c.more.values []) c.args.self.now c.more.self c.takes-in-more-2.new.self c.more.invariant.are
-    (arguments_after c.more.values c.more.invariant.some [] [])
-    (stops_here (stop.At expected.AfterArgument) expected.AfterArgument [] c.more.self c.takes-in-more-2.new.self (
-      refl,
-      c.takes-in-more-2.ensures.stays c.if-not-takes.true ∙ stays,
-      refused_after_argument c.more.self (c.takes-in-more.ensures.none token.CloseParen refl going)
-          (subst (IsAbsent token.Comma) stays (c.takes-in-more-2.ensures.none token.Comma refl c.if-not-takes.true)),
-    ))
+    stops (rule (operands_tokens c.more.values []) c.more.invariant.are
+    (arguments_after c.more.values c.more.invariant.some [] []) none)
+    (c.takes-in-more-2.ensures.stays c.if-not-takes.true ∙ stays)
+    (refused_after_argument c.more.self (c.takes-in-more.ensures.none token.CloseParen refl going)
+    (subst (IsAbsent token.Comma) stays (c.takes-in-more-2.ensures.none token.Comma refl c.if-not-takes.true)))
 
 pub returns-in_err-next-clause-err : goal.returns-in_err-next-clause-err
 returns-in_err-next-clause-err c =
     let going : c.takes-in-more.result ≡ false = grind arith in
     let comma = subst (λ x. Passes x token.Comma c.takes-in-more-2.new.self) (c.takes-in-more.ensures.stays going)
     (c.takes-in-more-2.ensures.taken token.Comma refl (λ k. refl) c.if-not-takes.false) in
-    given c.from_residual-in_err-next.result
-    (λ s. StopsIn s (expected.Argument ∷ []) c.args.self.now c.operand.new.self) c.in_err-next.field-0.0
-    (stops_after _ (expected.Argument ∷ []) (expected.AfterArgument ∷ [])
-    (operands_tokens c.more.values []) c.args.self.now c.more.self c.operand.new.self c.more.invariant.are
-    (arguments_after c.more.values c.more.invariant.some [] [])
-    (stops_behind _ expected.AfterArgument token.Comma (expected.Operand ∷ expected.AfterArgument ∷ []) []
-    c.more.self c.takes-in-more-2.new.self c.operand.new.self comma refl
-    (stops_here _ expected.Operand (expected.AfterArgument ∷ []) c.takes-in-more-2.new.self c.operand.new.self
-    c.in_err-next.ensures.err))) c.from_residual-in_err-next.ensures.1
+    fails _ (rule (operands_tokens c.more.values []) c.more.invariant.are
+    (arguments_after c.more.values c.more.invariant.some [] []) (one comma refl none))
+    c.in_err-next.ensures.err c.from_residual-in_err-next.ensures.1
 
 pub more-smaller : goal.more-smaller
 more-smaller c =

@@ -1,12 +1,11 @@
 use Rattle.std.proofs.Common.{◌≡◌, [], ◌∷◌, true, false, length, refl, sym, ap, subst, arith}
-use Rattle.sect_lemmas.proofs.Results.{given}
 use Rattle.sect_front.specs.{Tokens.{block_tokens, declarations_tokens}}
 use Rattle.sect_front.specs.steps.Places.{after}
-use Rattle.sect_front.specs.steps.Passing.{ArePassed, IsAbsent, IsAlike, StopsIn}
+use Rattle.sect_front.specs.steps.Passing.{ArePassed, IsAbsent, IsAlike}
 use Rattle.sect_front.proofs.Begun.{begun_are, begun_leads, begun_shorter, body_ends}
-use Rattle.sect_front.proofs.Stopping.{stops_after}
 use Rattle.sect_front.specs.declared.token.Token.TheVariants as token
 use Rattle.sect_front.specs.declared.expected.Expected.TheVariants as expected
+use Rattle.sect_front.proofs.Chains.{none, rule, fails_in}
 use Rattle.sect_front.proofs.cursor.Cursor.body.Goals as goal
 
 pub read-init : goal.read-init
@@ -34,11 +33,9 @@ pub returns-in_err-expected-clause-err : goal.returns-in_err-expected-clause-err
 returns-in_err-expected-clause-err c =
     let going : c.takes_close.result ≡ false = grind arith in
     let tokens = declarations_tokens c.read.locals (block_tokens c.read.block []) in
-    given c.from_residual.result (λ s. StopsIn s (expected.StartOrLocal ∷ []) c.args.self.now c.next.new.self)
-    c.in_err-expected.field-0.0
-    (stops_after _ (expected.StartOrLocal ∷ []) (c.read.expected ∷ []) tokens c.args.self.now c.takes_close.new.self
-    c.next.new.self (subst (ArePassed c.args.self.now tokens) (sym (c.takes_close.ensures.stays going))
-    c.read.invariant.are) c.read.invariant.next c.in_err-expected.ensures.err) c.from_residual.ensures.1
+    let are = subst (ArePassed c.args.self.now tokens) (sym (c.takes_close.ensures.stays going)) c.read.invariant.are in
+    fails_in _ _ _ (rule tokens are c.read.invariant.next none)
+    c.in_err-expected.ensures.err c.from_residual.ensures.1
 
 pub read-smaller : goal.read-smaller
 read-smaller c =

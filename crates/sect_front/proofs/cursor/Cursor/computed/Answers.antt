@@ -1,15 +1,13 @@
 use Rattle.std.proofs.Common.{[], ◌∷◌, refl, ◌∙◌, subst}
-use Rattle.sect_lemmas.proofs.Results.{given}
 use Rattle.sect_front.specs.Syntax.{Primitive}
 use Rattle.sect_front.specs.Grammar.{operand_token, operator_token}
-use Rattle.sect_front.specs.steps.Passing.{Passes, IsAbsent, StopsIn}
-use Rattle.sect_front.proofs.Leading.{operand_after}
-use Rattle.sect_front.proofs.Stopping.{stops_after, stops_here, stops_behind, refused_alike, refused_first}
+use Rattle.sect_front.specs.steps.Passing.{Passes, IsAbsent}
+use Rattle.sect_front.proofs.Stopping.{refused_alike, refused_first}
 use Rattle.sect_front.proofs.Stopping.{operator_follows}
 use Rattle.sect_front.specs.declared.token.Token.TheVariants as token
 use Rattle.sect_front.specs.declared.tree.Primitive.TheVariants as primitive
 use Rattle.sect_front.specs.declared.expected.Expected.TheVariants as expected
-use Rattle.sect_front.specs.declared.cursor.Stop.TheVariants as stop
+use Rattle.sect_front.proofs.Chains.{none, one, operand, stops, fails}
 use Rattle.sect_front.proofs.cursor.Cursor.computed.Goals as goal
 
 pub returns-then-takes-clause-ok : goal.returns-then-takes-clause-ok
@@ -25,46 +23,28 @@ returns-then-takes-clause-ok c = record {
 pub returns-in_default-clause-err : goal.returns-in_default-clause-err
 returns-in_default-clause-err c =
     let stays = c.takes.ensures.stays c.if-takes.false in
-    let none = rw c.in_default.is at c.takes_operator.ensures.none in
+    let absent = rw c.in_default.is at c.takes_operator.ensures.none in
     let same = rw c.in_default.is at c.takes_operator.ensures.stays in
-    stops_here (stop.At c.args.expected) c.args.expected [] c.args.self.now c.takes_operator.new.self (
-      refl,
-      same ∙ stays,
-      refused_alike c.args.expected expected.AfterFirst c.args.self.now c.requires.alike
-          (refused_first c.args.self.now (c.takes.ensures.none token.Semicolon refl c.if-takes.false)
-          (λ o. subst (IsAbsent (operator_token o)) stays (none o))),
-    )
+    stops none (same ∙ stays) (refused_alike c.args.expected expected.AfterFirst c.args.self.now c.requires.alike
+    (refused_first c.args.self.now (c.takes.ensures.none token.Semicolon refl c.if-takes.false)
+    (λ o. subst (IsAbsent (operator_token o)) stays (absent o))))
 
 pub returns-in_err-w-clause-err : goal.returns-in_err-w-clause-err
 returns-in_err-w-clause-err c =
     let stays = c.takes.ensures.stays c.if-takes.false in
     let t = operator_token c.in-Some.o in
     let p = subst (λ x. Passes x t c.takes_operator.new.self) stays c.in-Some.ensures.some in
-    given c.from_residual-in_err-w.result (λ stop. StopsIn stop (c.args.expected ∷ []) c.args.self.now
-    c.operand.new.self)
-    c.in_err-w.field-0.0
-    (stops_behind _ c.args.expected t (expected.Operand ∷ expected.Semicolon ∷ []) [] c.args.self.now
-    c.takes_operator.new.self c.operand.new.self p
-    (c.requires.alike t c.takes_operator.new.self.here p.stands ∙ operator_follows c.in-Some.o)
-    (stops_here _ expected.Operand (expected.Semicolon ∷ []) c.takes_operator.new.self c.operand.new.self
-    c.in_err-w.ensures.err)) c.from_residual-in_err-w.ensures.1
+    fails _ (one p (c.requires.alike t c.takes_operator.new.self.here p.stands ∙ operator_follows c.in-Some.o) none)
+    c.in_err-w.ensures.err c.from_residual-in_err-w.ensures.1
 
 pub returns-in_err-sign-clause-err : goal.returns-in_err-sign-clause-err
 returns-in_err-sign-clause-err c =
     let stays = c.takes.ensures.stays c.if-takes.false in
     let t = operator_token c.in-Some.o in
     let p = subst (λ x. Passes x t c.takes_operator.new.self) stays c.in-Some.ensures.some in
-    given c.from_residual-in_err-sign.result (λ stop. StopsIn stop (c.args.expected ∷ []) c.args.self.now
-    c.sign.new.self)
-    c.in_err-sign.field-0.0
-    (stops_behind _ c.args.expected t (expected.Operand ∷ expected.Semicolon ∷ []) [] c.args.self.now
-    c.takes_operator.new.self c.sign.new.self p
-    (c.requires.alike t c.takes_operator.new.self.here p.stands ∙ operator_follows c.in-Some.o)
-    (stops_after _ (expected.Operand ∷ expected.Semicolon ∷ []) (expected.Semicolon ∷ [])
-    (operand_token c.in_ok-w.w ∷ []) c.takes_operator.new.self c.operand.new.self c.sign.new.self
-    (c.operand.new.self, c.in_ok-w.ensures.ok, refl) (operand_after c.in_ok-w.w (expected.Semicolon ∷ []) [])
-    (stops_here _ expected.Semicolon [] c.operand.new.self c.sign.new.self c.in_err-sign.ensures.err)))
-    c.from_residual-in_err-sign.ensures.1
+    fails _ (one p (c.requires.alike t c.takes_operator.new.self.here p.stands ∙ operator_follows c.in-Some.o)
+    (operand c.in_ok-w.w c.in_ok-w.ensures.ok none))
+    c.in_err-sign.ensures.err c.from_residual-in_err-sign.ensures.1
 
 pub returns-clause-ok : goal.returns-clause-ok
 returns-clause-ok c =

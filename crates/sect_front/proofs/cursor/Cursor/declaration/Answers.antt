@@ -1,59 +1,47 @@
-use Rattle.std.proofs.Common.{◌≡◌, [], ◌∷◌, true, refl, sym, ◌∙◌, ap, subst, arith}
-use Rattle.sect_lemmas.proofs.Results.{given}
+use Rattle.std.proofs.Common.{◌≡◌, [], ◌∷◌, true, refl, sym, ◌∙◌, ap, subst}
 use Rattle.sect_front.specs.Tokens.{record_tokens, source_tokens}
 use Rattle.sect_front.specs.Tokens.{block_tokens, declarations_tokens, hints_tokens, parameters_tokens}
 use Rattle.sect_front.specs.steps.Places.{takes, follows, after}
-use Rattle.sect_front.specs.steps.Passing.{Stands, IsBare}
-use Rattle.sect_front.specs.steps.Declaring.{Halts, Starved, Before, Within, FitsPart}
+use Rattle.sect_front.specs.steps.Declaring.{Starved, Before, Within, FitsPart}
 use Rattle.sect_front.proofs.Leading.{record_after, global_after, procedure_after, thread_after}
 use Rattle.sect_front.proofs.Sources.{is_records, may_globals, may_procedures, may_threads, globals_fit, procedures_fit}
 use Rattle.sect_front.proofs.Sources.{global_follows, procedure_follows, thread_follows, no_other}
 use Rattle.sect_front.proofs.Sources.{record_grown, global_grown, procedure_grown, thread_grown}
-use Rattle.sect_front.proofs.Stopping.{passed_calm, refused_bare, refused_by}
+use Rattle.sect_front.proofs.Stopping.{refused_bare, refused_by}
 use Rattle.sect_front.specs.declared.token.Token.TheVariants as token
 use Rattle.sect_front.specs.declared.expected.Expected.TheVariants as expected
+use Rattle.sect_front.proofs.Chains.{passed, halts}
 use Rattle.sect_front.proofs.cursor.Cursor.declaration.Goals as goal
 
 pub returns-in_default-clause-err : goal.returns-in_default-clause-err
 returns-in_default-clause-err c =
-    let same : c.self.inside.here.now ≡ c.args.self.now.here = grind arith in
-    Before refl (grind arith)
-    (refused_bare c.args.part c.args.self.now (subst IsBare same (rw c.in_default.is at c.token_at.ensures.none)))
+    Before refl refl (refused_bare c.args.part c.args.self.now (rw c.in_default.is at c.token.ensures.none))
 
 pub returns-then-not-takes-clause-err : goal.returns-then-not-takes-clause-err
 returns-then-not-takes-clause-err c =
-    let same : c.self.inside.here.now ≡ c.args.self.now.here = grind arith in
-    Before refl (grind arith)
-    (refused_by c.args.part c.args.self.now c.in-Some.rest.now c.token_at.new.token
-    (subst (λ x. Stands x c.token_at.new.token c.in-Some.rest.now) same c.in-Some.ensures.some)
-    (sym c.takes.ensures ∙ c.if-not-takes.true))
+    Before refl refl (refused_by c.args.part c.args.self.now c.in-Some.rest.now c.token.new.token
+    c.in-Some.ensures.some (sym c.takes.ensures ∙ c.if-not-takes.true))
 
 pub returns-in_default-token : goal.returns-in_default-token
 returns-in_default-token c =
-    absurd (no_other c.args.part c.args.source.now c.token_at.new.token c.requires
+    absurd (no_other c.args.part c.args.source.now c.token.new.token c.requires
     (sym c.takes.ensures ∙ c.if-not-takes.false) c.in_default-token.not-Record c.in_default-token.not-Global
     c.in_default-token.not-Proc c.in_default-token.not-Thread)
 
 pub returns-in_err-record-in-Record-clause-err : goal.returns-in_err-record-in-Record-clause-err
 returns-in_err-record-in-Record-clause-err c =
-    let same : c.self.inside.here.now ≡ c.args.self.now.here = grind arith in
-    let stands = subst (λ u. Stands c.args.self.now.here u c.in-Some.rest.now) c.in-Record.is
-    (subst (λ x. Stands x c.token_at.new.token c.in-Some.rest.now) same c.in-Some.ensures.some) in
+    let p = passed c.args.self.now c.in-Some.ensures.some c.in-Record.is (λ k. refl) c.pass.ensures in
     let may : takes c.args.part token.Record ≡ true =
     subst (λ u. takes c.args.part u ≡ true) c.in-Record.is (sym c.takes.ensures ∙ c.if-not-takes.false) in
     let s = c.args.source.now in
     let is = is_records c.args.part s c.requires may in
-    given c.from_residual.result (λ x. Halts x c.args.part c.args.self.now c.record.new.self)
-    c.in_err-record-in-Record.field-0.0
-    (Within token.Record _ (expected.Name ∷ expected.HintOrBrace ∷ []) expected.Records
-    (passed_calm token.Record c.args.self.now _ (λ k. refl) stands (grind arith)) (ap (λ e. follows e token.Record) is)
+    halts _ (Within token.Record _ (expected.Name ∷ expected.HintOrBrace ∷ []) expected.Records
+    p (ap (λ e. follows e token.Record) is)
     c.in_err-record-in-Record.ensures.err) c.from_residual.ensures.1
 
 pub returns-in_ok-add_record-in-Record-clause-ok : goal.returns-in_ok-add_record-in-Record-clause-ok
 returns-in_ok-add_record-in-Record-clause-ok c =
-    let same : c.self.inside.here.now ≡ c.args.self.now.here = grind arith in
-    let stands = subst (λ u. Stands c.args.self.now.here u c.in-Some.rest.now) c.in-Record.is
-    (subst (λ x. Stands x c.token_at.new.token c.in-Some.rest.now) same c.in-Some.ensures.some) in
+    let p = passed c.args.self.now c.in-Some.ensures.some c.in-Record.is (λ k. refl) c.pass.ensures in
     let may : takes c.args.part token.Record ≡ true =
     subst (λ u. takes c.args.part u ≡ true) c.in-Record.is (sym c.takes.ensures ∙ c.if-not-takes.false) in
     let s = c.args.source.now in
@@ -63,12 +51,7 @@ returns-in_ok-add_record-in-Record-clause-ok c =
       first = token.Record;
       tokens = token.Name c.in_ok-record-in-Record.record.name ∷ hints_tokens c.in_ok-record-in-Record.record.hints
           (token.OpenBrace ∷ declarations_tokens c.in_ok-record-in-Record.record.fields (token.CloseBrace ∷ []));
-      are = (
-        _,
-        passed_calm token.Record c.args.self.now _ (λ k. refl) stands
-            (grind arith),
-        c.in_ok-record-in-Record.ensures.ok,
-      );
+      are = (_, p, c.in_ok-record-in-Record.ensures.ok);
       next = (ap (λ e. after (e ∷ []) (record_tokens c.in_ok-record-in-Record.record [])) is
           ∙ record_after c.in_ok-record-in-Record.record []);
       spelled = ap (λ x. source_tokens x []) added ∙ record_grown s c.in_ok-record-in-Record.record
@@ -78,25 +61,19 @@ returns-in_ok-add_record-in-Record-clause-ok c =
 
 pub returns-in_err-global-in-Global-clause-err : goal.returns-in_err-global-in-Global-clause-err
 returns-in_err-global-in-Global-clause-err c =
-    let same : c.self.inside.here.now ≡ c.args.self.now.here = grind arith in
-    let stands = subst (λ u. Stands c.args.self.now.here u c.in-Some.rest.now) c.in-Global.is
-    (subst (λ x. Stands x c.token_at.new.token c.in-Some.rest.now) same c.in-Some.ensures.some) in
+    let p = passed c.args.self.now c.in-Some.ensures.some c.in-Global.is (λ k. refl) c.pass-in-Global.ensures in
     let may : takes c.args.part token.Global ≡ true =
     subst (λ u. takes c.args.part u ≡ true) c.in-Global.is (sym c.takes.ensures ∙ c.if-not-takes.false) in
     let s = c.args.source.now in
     let m = may_globals c.args.part s c.requires may in
     let fits = globals_fit c.args.part s m c.requires in
-    given c.from_residual-in_err-global-in-Global.result (λ x. Halts x c.args.part c.args.self.now c.global.new.self)
-    c.in_err-global-in-Global.field-0.0
-    (Within token.Global _ (expected.Name ∷ expected.Name ∷ expected.Semicolon ∷ []) expected.Globals
-    (passed_calm token.Global c.args.self.now _ (λ k. refl) stands (grind arith)) (global_follows c.args.part m)
+    halts _ (Within token.Global _ (expected.Name ∷ expected.Name ∷ expected.Semicolon ∷ []) expected.Globals
+    p (global_follows c.args.part m)
     c.in_err-global-in-Global.ensures.err) c.from_residual-in_err-global-in-Global.ensures.1
 
 pub returns-in_ok-add_global-in-Global-clause-ok : goal.returns-in_ok-add_global-in-Global-clause-ok
 returns-in_ok-add_global-in-Global-clause-ok c =
-    let same : c.self.inside.here.now ≡ c.args.self.now.here = grind arith in
-    let stands = subst (λ u. Stands c.args.self.now.here u c.in-Some.rest.now) c.in-Global.is
-    (subst (λ x. Stands x c.token_at.new.token c.in-Some.rest.now) same c.in-Some.ensures.some) in
+    let p = passed c.args.self.now c.in-Some.ensures.some c.in-Global.is (λ k. refl) c.pass-in-Global.ensures in
     let may : takes c.args.part token.Global ≡ true =
     subst (λ u. takes c.args.part u ≡ true) c.in-Global.is (sym c.takes.ensures ∙ c.if-not-takes.false) in
     let s = c.args.source.now in
@@ -107,12 +84,7 @@ returns-in_ok-add_global-in-Global-clause-ok c =
       first = token.Global;
       tokens = token.Name c.in_ok-global-in-Global.global.of ∷ token.Name c.in_ok-global-in-Global.global.name
           ∷ token.Semicolon ∷ [];
-      are = (
-        _,
-        passed_calm token.Global c.args.self.now _ (λ k. refl) stands
-            (grind arith),
-        c.in_ok-global-in-Global.ensures.ok,
-      );
+      are = (_, p, c.in_ok-global-in-Global.ensures.ok);
       next = (global_after c.args.part m c.in_ok-global-in-Global.global []);
       spelled = ap (λ x. source_tokens x []) added ∙ global_grown s c.in_ok-global-in-Global.global fits;
       fits = subst (FitsPart expected.Globals) (sym added) (fits);
@@ -120,26 +92,20 @@ returns-in_ok-add_global-in-Global-clause-ok c =
 
 pub returns-in_err-procedure-in-Proc-clause-err : goal.returns-in_err-procedure-in-Proc-clause-err
 returns-in_err-procedure-in-Proc-clause-err c =
-    let same : c.self.inside.here.now ≡ c.args.self.now.here = grind arith in
-    let stands = subst (λ u. Stands c.args.self.now.here u c.in-Some.rest.now) c.in-Proc.is
-    (subst (λ x. Stands x c.token_at.new.token c.in-Some.rest.now) same c.in-Some.ensures.some) in
+    let p = passed c.args.self.now c.in-Some.ensures.some c.in-Proc.is (λ k. refl) c.pass-in-Proc.ensures in
     let may : takes c.args.part token.Proc ≡ true =
     subst (λ u. takes c.args.part u ≡ true) c.in-Proc.is (sym c.takes.ensures ∙ c.if-not-takes.false) in
     let s = c.args.source.now in
     let m = may_procedures c.args.part s c.requires may in
     let fits = procedures_fit c.args.part s m c.requires in
-    given c.from_residual-in_err-procedure-in-Proc.result (λ x. Halts x c.args.part c.args.self.now
-    c.procedure.new.self) c.in_err-procedure-in-Proc.field-0.0
-    (Within token.Proc _ (expected.Name ∷ expected.OpenParen ∷ expected.Parameter ∷ expected.OpenBody ∷ [])
+    halts _ (Within token.Proc _ (expected.Name ∷ expected.OpenParen ∷ expected.Parameter ∷ expected.OpenBody ∷ [])
     expected.Procedures
-    (passed_calm token.Proc c.args.self.now _ (λ k. refl) stands (grind arith)) (procedure_follows c.args.part m)
+    p (procedure_follows c.args.part m)
     c.in_err-procedure-in-Proc.ensures.err) c.from_residual-in_err-procedure-in-Proc.ensures.1
 
 pub returns-in_ok-add_procedure-in-Proc-clause-ok : goal.returns-in_ok-add_procedure-in-Proc-clause-ok
 returns-in_ok-add_procedure-in-Proc-clause-ok c =
-    let same : c.self.inside.here.now ≡ c.args.self.now.here = grind arith in
-    let stands = subst (λ u. Stands c.args.self.now.here u c.in-Some.rest.now) c.in-Proc.is
-    (subst (λ x. Stands x c.token_at.new.token c.in-Some.rest.now) same c.in-Some.ensures.some) in
+    let p = passed c.args.self.now c.in-Some.ensures.some c.in-Proc.is (λ k. refl) c.pass-in-Proc.ensures in
     let may : takes c.args.part token.Proc ≡ true =
     subst (λ u. takes c.args.part u ≡ true) c.in-Proc.is (sym c.takes.ensures ∙ c.if-not-takes.false) in
     let s = c.args.source.now in
@@ -152,12 +118,7 @@ returns-in_ok-add_procedure-in-Proc-clause-ok c =
           c.in_ok-procedure-in-Proc.procedure.parameters (token.CloseParen ∷ token.OpenBrace ∷ declarations_tokens
           c.in_ok-procedure-in-Proc.procedure.locals (block_tokens c.in_ok-procedure-in-Proc.procedure.body
           (token.CloseBrace ∷ [])));
-      are = (
-        _,
-        passed_calm token.Proc c.args.self.now _ (λ k. refl) stands
-            (grind arith),
-        c.in_ok-procedure-in-Proc.ensures.ok,
-      );
+      are = (_, p, c.in_ok-procedure-in-Proc.ensures.ok);
       next = (procedure_after c.args.part m c.in_ok-procedure-in-Proc.procedure []);
       spelled = ap (λ x. source_tokens x []) added ∙ procedure_grown s c.in_ok-procedure-in-Proc.procedure fits;
       fits = subst (FitsPart expected.Procedures) (sym added) (fits);
@@ -165,24 +126,18 @@ returns-in_ok-add_procedure-in-Proc-clause-ok c =
 
 pub returns-in_err-thread-in-Thread-clause-err : goal.returns-in_err-thread-in-Thread-clause-err
 returns-in_err-thread-in-Thread-clause-err c =
-    let same : c.self.inside.here.now ≡ c.args.self.now.here = grind arith in
-    let stands = subst (λ u. Stands c.args.self.now.here u c.in-Some.rest.now) c.in-Thread.is
-    (subst (λ x. Stands x c.token_at.new.token c.in-Some.rest.now) same c.in-Some.ensures.some) in
+    let p = passed c.args.self.now c.in-Some.ensures.some c.in-Thread.is (λ k. refl) c.pass-in-Thread.ensures in
     let may : takes c.args.part token.Thread ≡ true =
     subst (λ u. takes c.args.part u ≡ true) c.in-Thread.is (sym c.takes.ensures ∙ c.if-not-takes.false) in
     let s = c.args.source.now in
     let m = may_threads c.args.part s c.requires in
-    given c.from_residual-in_err-thread-in-Thread.result (λ x. Halts x c.args.part c.args.self.now c.thread.new.self)
-    c.in_err-thread-in-Thread.field-0.0
-    (Within token.Thread _ (expected.Name ∷ expected.OpenBody ∷ []) expected.Threads
-    (passed_calm token.Thread c.args.self.now _ (λ k. refl) stands (grind arith)) (thread_follows c.args.part m)
+    halts _ (Within token.Thread _ (expected.Name ∷ expected.OpenBody ∷ []) expected.Threads
+    p (thread_follows c.args.part m)
     c.in_err-thread-in-Thread.ensures.err) c.from_residual-in_err-thread-in-Thread.ensures.1
 
 pub returns-in_ok-add_thread-in-Thread-clause-ok : goal.returns-in_ok-add_thread-in-Thread-clause-ok
 returns-in_ok-add_thread-in-Thread-clause-ok c =
-    let same : c.self.inside.here.now ≡ c.args.self.now.here = grind arith in
-    let stands = subst (λ u. Stands c.args.self.now.here u c.in-Some.rest.now) c.in-Thread.is
-    (subst (λ x. Stands x c.token_at.new.token c.in-Some.rest.now) same c.in-Some.ensures.some) in
+    let p = passed c.args.self.now c.in-Some.ensures.some c.in-Thread.is (λ k. refl) c.pass-in-Thread.ensures in
     let may : takes c.args.part token.Thread ≡ true =
     subst (λ u. takes c.args.part u ≡ true) c.in-Thread.is (sym c.takes.ensures ∙ c.if-not-takes.false) in
     let s = c.args.source.now in
@@ -193,12 +148,7 @@ returns-in_ok-add_thread-in-Thread-clause-ok c =
       tokens = token.Name c.in_ok-thread-in-Thread.thread.name ∷ token.OpenBrace ∷ declarations_tokens
           c.in_ok-thread-in-Thread.thread.locals (block_tokens c.in_ok-thread-in-Thread.thread.body
           (token.CloseBrace ∷ []));
-      are = (
-        _,
-        passed_calm token.Thread c.args.self.now _ (λ k. refl) stands
-            (grind arith),
-        c.in_ok-thread-in-Thread.ensures.ok,
-      );
+      are = (_, p, c.in_ok-thread-in-Thread.ensures.ok);
       next = (thread_after c.args.part m c.in_ok-thread-in-Thread.thread []);
       spelled = ap (λ x. source_tokens x []) added ∙ thread_grown s c.in_ok-thread-in-Thread.thread;
       fits = subst (FitsPart expected.Threads) (sym added) (tt);
@@ -206,28 +156,20 @@ returns-in_ok-add_thread-in-Thread-clause-ok c =
 
 pub returns-in_err-add_record-in-Record-clause-err : goal.returns-in_err-add_record-in-Record-clause-err
 returns-in_err-add_record-in-Record-clause-err c =
-    given c.from_residual-in_err-add_record-in-Record.result (λ x. Halts x c.args.part c.args.self.now
-    c.record.new.self)
-    c.in_err-add_record-in-Record.field-0.0 (Starved c.in_err-add_record-in-Record.ensures.err)
+    halts _ (Starved c.in_err-add_record-in-Record.ensures.err)
     c.from_residual-in_err-add_record-in-Record.ensures.1
 
 pub returns-in_err-add_global-in-Global-clause-err : goal.returns-in_err-add_global-in-Global-clause-err
 returns-in_err-add_global-in-Global-clause-err c =
-    given c.from_residual-in_err-add_global-in-Global.result (λ x. Halts x c.args.part c.args.self.now
-    c.global.new.self)
-    c.in_err-add_global-in-Global.field-0.0 (Starved c.in_err-add_global-in-Global.ensures.err)
+    halts _ (Starved c.in_err-add_global-in-Global.ensures.err)
     c.from_residual-in_err-add_global-in-Global.ensures.1
 
 pub returns-in_err-add_procedure-in-Proc-clause-err : goal.returns-in_err-add_procedure-in-Proc-clause-err
 returns-in_err-add_procedure-in-Proc-clause-err c =
-    given c.from_residual-in_err-add_procedure-in-Proc.result (λ x. Halts x c.args.part c.args.self.now
-    c.procedure.new.self)
-    c.in_err-add_procedure-in-Proc.field-0.0 (Starved c.in_err-add_procedure-in-Proc.ensures.err)
+    halts _ (Starved c.in_err-add_procedure-in-Proc.ensures.err)
     c.from_residual-in_err-add_procedure-in-Proc.ensures.1
 
 pub returns-in_err-add_thread-in-Thread-clause-err : goal.returns-in_err-add_thread-in-Thread-clause-err
 returns-in_err-add_thread-in-Thread-clause-err c =
-    given c.from_residual-in_err-add_thread-in-Thread.result (λ x. Halts x c.args.part c.args.self.now
-    c.thread.new.self)
-    c.in_err-add_thread-in-Thread.field-0.0 (Starved c.in_err-add_thread-in-Thread.ensures.err)
+    halts _ (Starved c.in_err-add_thread-in-Thread.ensures.err)
     c.from_residual-in_err-add_thread-in-Thread.ensures.1

@@ -1,17 +1,16 @@
 use Rattle.std.proofs.Common.{◌≡◌, [], ◌∷◌, true, false, refl, sym, ◌∙◌, subst, arith}
-use Rattle.sect_lemmas.proofs.Results.{given}
 use Rattle.sect_front.specs.Grammar.{kind_token}
 use Rattle.sect_front.specs.Tokens.{declarations_tokens}
-use Rattle.sect_front.specs.steps.Passing.{Passes, ArePassed, IsRefused, StopsIn}
+use Rattle.sect_front.specs.steps.Passing.{Passes, ArePassed, IsRefused}
 use Rattle.sect_front.proofs.Leading.{fields_after}
 use Rattle.sect_front.proofs.Growing.{declarations_behind, declarations_grow}
-use Rattle.sect_front.proofs.Stopping.{stops_after, stops_here, stops_behind, stops_more, passed_append, passed_shorter}
+use Rattle.sect_front.proofs.Stopping.{passed_append, passed_shorter}
 use Rattle.sect_front.proofs.Stopping.{no_longer}
 use Rattle.sect_front.proofs.Stopping.{refused_field}
 use Rattle.sect_front.proofs.Stopping.{field_follows}
 use Rattle.sect_front.specs.declared.token.Token.TheVariants as token
 use Rattle.sect_front.specs.declared.expected.Expected.TheVariants as expected
-use Rattle.sect_front.specs.declared.cursor.Stop.TheVariants as stop
+use Rattle.sect_front.proofs.Chains.{none, rule, one, stops, fails_part}
 use Rattle.sect_front.proofs.cursor.Cursor.fields.Goals as goal
 
 pub more-init : goal.more-init
@@ -22,15 +21,10 @@ pub returns-in_default-clause-err : goal.returns-in_default-clause-err
 returns-in_default-clause-err c =
     let going : c.takes_close.result ≡ false = grind arith in
     let stays = c.takes_close.ensures.stays going in
-    stops_after (stop.At expected.Field) (expected.Field ∷ []) (expected.Field ∷ [])
-    (declarations_tokens c.more.fields []) c.args.self.now c.more.self c.takes_kind.new.self c.more.invariant
-    (fields_after c.more.fields [] [])
-    (stops_here (stop.At expected.Field) expected.Field [] c.more.self c.takes_kind.new.self (
-      refl,
-      (rw c.in_default.is at c.takes_kind.ensures.stays) ∙ stays,
-      refused_field c.more.self (c.takes_close.ensures.none going)
-          (subst (IsRefused expected.Kind) stays (rw c.in_default.is at c.takes_kind.ensures.none)),
-    ))
+    stops (rule (declarations_tokens c.more.fields []) c.more.invariant (fields_after c.more.fields [] []) none)
+    ((rw c.in_default.is at c.takes_kind.ensures.stays) ∙ stays)
+    (refused_field c.more.self (c.takes_close.ensures.none going)
+    (subst (IsRefused expected.Kind) stays (rw c.in_default.is at c.takes_kind.ensures.none)))
 
 pub returns-in_err-declared-clause-err : goal.returns-in_err-declared-clause-err
 returns-in_err-declared-clause-err c =
@@ -38,14 +32,10 @@ returns-in_err-declared-clause-err c =
     let k = c.in-Some.kind in
     let p = subst (λ x. Passes x (kind_token k) c.takes_kind.new.self) (c.takes_close.ensures.stays going)
     c.in-Some.ensures.some in
-    given c.from_residual.result (λ s. StopsIn s (expected.Field ∷ []) c.args.self.now c.declared.new.self)
-    c.in_err-declared.field-0.0
-    (stops_after _ (expected.Field ∷ []) (expected.Field ∷ []) (declarations_tokens c.more.fields [])
-    c.args.self.now c.more.self c.declared.new.self c.more.invariant (fields_after c.more.fields [] [])
-    (stops_behind _ expected.Field (kind_token k) (expected.Name ∷ expected.Semicolon ∷ expected.Field ∷ []) []
-    c.more.self c.takes_kind.new.self c.declared.new.self p (field_follows k)
-    (stops_more _ (expected.Name ∷ expected.Semicolon ∷ []) (expected.Field ∷ []) c.takes_kind.new.self
-    c.declared.new.self c.in_err-declared.ensures.err))) c.from_residual.ensures.1
+    fails_part _ _ _ (expected.Name ∷ expected.Semicolon ∷ []) (expected.Field ∷ [])
+    (rule (declarations_tokens c.more.fields []) c.more.invariant (fields_after c.more.fields [] [])
+    (one p (field_follows k) none))
+    c.in_err-declared.ensures.err c.from_residual.ensures.1
 
 pub more-smaller : goal.more-smaller
 more-smaller c =

@@ -1,27 +1,20 @@
 use Rattle.std.proofs.Common.{[], ◌∷◌, refl, sym, subst}
 use Rattle.std.proofs.lemmas.Result.{IfOk-weaker, IfErr-weaker}
 use Rattle.sect_front.specs.steps.Passing.{IsAlike, StopsIn, HasAdded}
-use Rattle.sect_front.proofs.Stopping.{stops_behind, added_behind, alike_name}
+use Rattle.sect_front.proofs.Stopping.{alike_name}
 use Rattle.sect_front.specs.declared.token.Token.TheVariants as token
 use Rattle.sect_front.specs.declared.expected.Expected.TheVariants as expected
+use Rattle.sect_front.proofs.Chains.{none, one, stops_so, adds_so}
 use Rattle.sect_front.proofs.cursor.Cursor.first_name.Goals as goal
 
 pub returns-then-takes-clause-ok : goal.returns-then-takes-clause-ok
 returns-then-takes-clause-ok c =
-    let front = token.Name c.args.x.now ∷ token.Equal ∷ token.Name c.args.y.now ∷ [] in
-    IfOk-weaker c.load.result _
-    (λ _. HasAdded expected.Start front c.args.self.now c.load.new.self c.args.block.now c.load.new.block)
-    (λ _ h. added_behind expected.Start front token.Dot c.args.self.now c.takes.new.self c.load.new.self
-    c.args.block.now
-    c.load.new.block (c.takes.ensures.taken token.Dot refl (λ k. refl) c.if-takes.true) h)
+    adds_so _ (λ _. expected.Start) _ _ _ _ (c.takes.ensures.taken token.Dot refl (λ k. refl) c.if-takes.true)
     c.load.ensures.ok
 
 pub returns-then-takes-clause-err : goal.returns-then-takes-clause-err
 returns-then-takes-clause-err c =
-    IfErr-weaker c.load.result _ (λ s. StopsIn s (expected.AfterFirstName ∷ []) c.args.self.now c.load.new.self)
-    (λ s h. stops_behind s expected.AfterFirstName token.Dot (expected.Name ∷ expected.Semicolon ∷ []) []
-    c.args.self.now c.takes.new.self c.load.new.self (c.takes.ensures.taken token.Dot refl (λ k. refl) c.if-takes.true)
-    refl h) c.load.ensures.err
+    stops_so _ _ (one (c.takes.ensures.taken token.Dot refl (λ k. refl) c.if-takes.true) refl none) c.load.ensures.err
 
 pub computed-requires : goal.computed-requires
 computed-requires c = record {

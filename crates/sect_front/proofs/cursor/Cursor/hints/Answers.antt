@@ -1,12 +1,11 @@
 use Rattle.std.proofs.Common.{◌≡◌, [], ◌∷◌, true, false, refl, sym, ◌∙◌, subst, arith}
-use Rattle.sect_lemmas.proofs.Results.{given}
 use Rattle.sect_front.specs.Tokens.{hints_tokens}
-use Rattle.sect_front.specs.steps.Passing.{ArePassed, IsAbsent, StopsIn}
+use Rattle.sect_front.specs.steps.Passing.{ArePassed, IsAbsent}
 use Rattle.sect_front.proofs.Leading.{hints_after}
 use Rattle.sect_front.proofs.Growing.{hints_behind, hints_grow}
-use Rattle.sect_front.proofs.Stopping.{stops_after, stops_here, stops_behind, passed_append, passed_shorter}
+use Rattle.sect_front.proofs.Stopping.{passed_append, passed_shorter}
 use Rattle.sect_front.specs.declared.token.Token.TheVariants as token
-use Rattle.sect_front.specs.declared.expected.Expected.TheVariants as expected
+use Rattle.sect_front.proofs.Chains.{none, rule, one, fails}
 use Rattle.sect_front.proofs.cursor.Cursor.hints.Goals as goal
 
 pub more-init : goal.more-init
@@ -16,14 +15,9 @@ more-init c =
 pub returns-in_err-hint-clause-err : goal.returns-in_err-hint-clause-err
 returns-in_err-hint-clause-err c =
     let going : c.takes_keyword.result ≡ true = grind arith in
-    given c.from_residual.result (λ s. StopsIn s (expected.HintOrBrace ∷ []) c.args.self.now c.name.new.self)
-    c.in_err-hint.field-0.0
-    (stops_after _ (expected.HintOrBrace ∷ []) (expected.HintOrBrace ∷ []) (hints_tokens c.more.hints [])
-    c.args.self.now c.more.self c.name.new.self c.more.invariant (hints_after c.more.hints [] [])
-    (stops_behind _ expected.HintOrBrace token.ProtectedBy (expected.Name ∷ expected.HintOrBrace ∷ []) []
-    c.more.self c.takes_keyword.new.self c.name.new.self (c.takes_keyword.ensures.taken going) refl
-    (stops_here _ expected.Name (expected.HintOrBrace ∷ []) c.takes_keyword.new.self c.name.new.self
-    c.in_err-hint.ensures.err))) c.from_residual.ensures.1
+    fails _ (rule (hints_tokens c.more.hints []) c.more.invariant (hints_after c.more.hints [] [])
+    (one (c.takes_keyword.ensures.taken going) refl none))
+    c.in_err-hint.ensures.err c.from_residual.ensures.1
 
 pub more-smaller : goal.more-smaller
 more-smaller c =

@@ -1,16 +1,15 @@
 use Rattle.std.proofs.Common.{◌≡◌, [], ◌∷◌, ◌++◌, true, false, refl, sym, ◌∙◌, ap, subst, arith}
-use Rattle.sect_lemmas.proofs.Results.{given}
 use Rattle.sect_front.specs.Grammar.{kind_token}
 use Rattle.sect_front.specs.Tokens.{parameters_tokens}
-use Rattle.sect_front.specs.steps.Passing.{Passes, ArePassed, IsAbsent, IsRefused, StopsIn}
+use Rattle.sect_front.specs.steps.Passing.{Passes, ArePassed, IsAbsent, IsRefused}
 use Rattle.sect_front.proofs.Growing.{some_grown, list_after}
 use Rattle.sect_front.proofs.Growing.{parameters_behind, parameters_grow}
-use Rattle.sect_front.proofs.Stopping.{stops_after, stops_here, stops_behind, passed_append, passed_shorter}
+use Rattle.sect_front.proofs.Stopping.{passed_append, passed_shorter}
 use Rattle.sect_front.proofs.Stopping.{refused_parameter}
 use Rattle.sect_front.proofs.Stopping.{refused_after_parameter, parameter_follows, kind_follows}
 use Rattle.sect_front.specs.declared.token.Token.TheVariants as token
 use Rattle.sect_front.specs.declared.expected.Expected.TheVariants as expected
-use Rattle.sect_front.specs.declared.cursor.Stop.TheVariants as stop
+use Rattle.sect_front.proofs.Chains.{none, rule, one, stops, fails}
 use Rattle.sect_front.proofs.cursor.Cursor.parameters.Goals as goal
 
 pub returns-then-takes-clause-ok : goal.returns-then-takes-clause-ok
@@ -22,24 +21,17 @@ returns-then-takes-clause-ok c =
 pub returns-in_default-clause-err : goal.returns-in_default-clause-err
 returns-in_default-clause-err c =
     let stays = c.takes.ensures.stays c.if-takes.false in
-    stops_here (stop.At expected.Parameter) expected.Parameter [] c.args.self.now c.takes_kind.new.self (
-      refl,
-      (rw c.in_default.is at c.takes_kind.ensures.stays) ∙ stays,
-      refused_parameter c.args.self.now (c.takes.ensures.none token.CloseParen refl c.if-takes.false)
-          (subst (IsRefused expected.Kind) stays (rw c.in_default.is at c.takes_kind.ensures.none)),
-    )
+    stops none ((rw c.in_default.is at c.takes_kind.ensures.stays) ∙ stays)
+    (refused_parameter c.args.self.now (c.takes.ensures.none token.CloseParen refl c.if-takes.false)
+    (subst (IsRefused expected.Kind) stays (rw c.in_default.is at c.takes_kind.ensures.none)))
 
 pub returns-in_err-first_name-clause-err : goal.returns-in_err-first_name-clause-err
 returns-in_err-first_name-clause-err c =
     let k = c.in-Some.first in
     let p = subst (λ x. Passes x (kind_token k) c.takes_kind.new.self) (c.takes.ensures.stays c.if-takes.false)
     c.in-Some.ensures.some in
-    given c.from_residual.result (λ s. StopsIn s (expected.Parameter ∷ []) c.args.self.now c.name.new.self)
-    c.in_err-first_name.field-0.0
-    (stops_behind _ expected.Parameter (kind_token k) (expected.Name ∷ expected.AfterParameter ∷ []) []
-    c.args.self.now c.takes_kind.new.self c.name.new.self p (parameter_follows k)
-    (stops_here _ expected.Name (expected.AfterParameter ∷ []) c.takes_kind.new.self c.name.new.self
-    c.in_err-first_name.ensures.err)) c.from_residual.ensures.1
+    fails _ (one p (parameter_follows k) none)
+    c.in_err-first_name.ensures.err c.from_residual.ensures.1
 
 pub more-init : goal.more-init
 more-init c =
@@ -59,53 +51,31 @@ pub returns-then-not-takes-clause-err : goal.returns-then-not-takes-clause-err
 returns-then-not-takes-clause-err c =
     let going : c.takes-in-more.result ≡ false = grind arith in
     let stays = c.takes-in-more.ensures.stays going in
-    stops_after (stop.At expected.AfterParameter) (expected.Parameter ∷ []) (expected.AfterParameter ∷ [])
-    (parameters_tokens c.more.parameters []) c.args.self.now c.more.self c.takes-in-more-2.new.self
-    c.more.invariant.are (list_after c.more.parameters c.more.invariant.some [] [])
-    (stops_here (stop.At expected.AfterParameter) expected.AfterParameter [] c.more.self c.takes-in-more-2.new.self (
-      refl,
-      c.takes-in-more-2.ensures.stays c.if-not-takes.true ∙ stays,
-      refused_after_parameter c.more.self (c.takes-in-more.ensures.none token.CloseParen refl going)
-          (subst (IsAbsent token.Comma) stays (c.takes-in-more-2.ensures.none token.Comma refl c.if-not-takes.true)),
-    ))
+    stops (rule (parameters_tokens c.more.parameters []) c.more.invariant.are
+    (list_after c.more.parameters c.more.invariant.some [] []) none)
+    (c.takes-in-more-2.ensures.stays c.if-not-takes.true ∙ stays)
+    (refused_after_parameter c.more.self (c.takes-in-more.ensures.none token.CloseParen refl going)
+    (subst (IsAbsent token.Comma) stays (c.takes-in-more-2.ensures.none token.Comma refl c.if-not-takes.true)))
 
 pub returns-in_default-takes_kind-clause-err : goal.returns-in_default-takes_kind-clause-err
 returns-in_default-takes_kind-clause-err c =
     let going : c.takes-in-more.result ≡ false = grind arith in
     let comma = subst (λ x. Passes x token.Comma c.takes-in-more-2.new.self) (c.takes-in-more.ensures.stays going)
     (c.takes-in-more-2.ensures.taken token.Comma refl (λ k. refl) c.if-not-takes.false) in
-    stops_after (stop.At expected.Kind) (expected.Parameter ∷ []) (expected.AfterParameter ∷ [])
-    (parameters_tokens c.more.parameters []) c.args.self.now c.more.self c.takes_kind-in-more.new.self
-    c.more.invariant.are (list_after c.more.parameters c.more.invariant.some [] [])
-    (stops_behind (stop.At expected.Kind) expected.AfterParameter token.Comma
-    (expected.Kind ∷ expected.Name ∷ expected.AfterParameter ∷ []) []
-    c.more.self c.takes-in-more-2.new.self c.takes_kind-in-more.new.self comma refl
-    (stops_here (stop.At expected.Kind) expected.Kind (expected.Name ∷ expected.AfterParameter ∷ [])
-    c.takes-in-more-2.new.self c.takes_kind-in-more.new.self (
-      refl,
-      rw c.in_default-takes_kind.is at c.takes_kind-in-more.ensures.stays,
-      rw c.in_default-takes_kind.is at c.takes_kind-in-more.ensures.none,
-    )))
+    stops (rule (parameters_tokens c.more.parameters []) c.more.invariant.are
+    (list_after c.more.parameters c.more.invariant.some [] []) (one comma refl none))
+    (rw c.in_default-takes_kind.is at c.takes_kind-in-more.ensures.stays)
+    (rw c.in_default-takes_kind.is at c.takes_kind-in-more.ensures.none)
 
 pub returns-in_err-name-clause-err : goal.returns-in_err-name-clause-err
 returns-in_err-name-clause-err c =
     let going : c.takes-in-more.result ≡ false = grind arith in
     let comma = subst (λ x. Passes x token.Comma c.takes-in-more-2.new.self) (c.takes-in-more.ensures.stays going)
     (c.takes-in-more-2.ensures.taken token.Comma refl (λ k. refl) c.if-not-takes.false) in
-    let k = c.in-Some-takes_kind.kind in
-    given c.from_residual-in_err-name.result
-    (λ s. StopsIn s (expected.Parameter ∷ []) c.args.self.now c.name-in-more.new.self) c.in_err-name.field-0.0
-    (stops_after _ (expected.Parameter ∷ []) (expected.AfterParameter ∷ [])
-    (parameters_tokens c.more.parameters []) c.args.self.now c.more.self c.name-in-more.new.self
-    c.more.invariant.are (list_after c.more.parameters c.more.invariant.some [] [])
-    (stops_behind _ expected.AfterParameter token.Comma
-    (expected.Kind ∷ expected.Name ∷ expected.AfterParameter ∷ []) []
-    c.more.self c.takes-in-more-2.new.self c.name-in-more.new.self comma refl
-    (stops_behind _ expected.Kind (kind_token k) [] (expected.Name ∷ expected.AfterParameter ∷ [])
-    c.takes-in-more-2.new.self c.takes_kind-in-more.new.self c.name-in-more.new.self c.in-Some-takes_kind.ensures.some
-    (kind_follows k)
-    (stops_here _ expected.Name (expected.AfterParameter ∷ []) c.takes_kind-in-more.new.self c.name-in-more.new.self
-    c.in_err-name.ensures.err)))) c.from_residual-in_err-name.ensures.1
+    fails _ (rule (parameters_tokens c.more.parameters []) c.more.invariant.are
+    (list_after c.more.parameters c.more.invariant.some [] []) (one comma refl
+    (one c.in-Some-takes_kind.ensures.some (kind_follows c.in-Some-takes_kind.kind) none)))
+    c.in_err-name.ensures.err c.from_residual-in_err-name.ensures.1
 
 pub more-smaller : goal.more-smaller
 more-smaller c =

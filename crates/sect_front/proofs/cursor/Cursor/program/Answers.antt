@@ -6,6 +6,7 @@ use Rattle.sect_front.specs.steps.Declaring.{StopsText, FitsPart}
 use Rattle.sect_front.proofs.{Leading.{after_then}, Sources.{source_behind}}
 use Rattle.sect_front.proofs.Stopping.{passed_append, are_shorter}
 use Rattle.sect_front.specs.declared.expected.Expected.TheVariants as expected
+use Rattle.sect_front.proofs.Chains.{halts}
 use Rattle.sect_front.proofs.cursor.Cursor.program.Goals as goal
 
 pub read-init : goal.read-init

@@ -1,23 +1,22 @@
-use Rattle.std.proofs.Common.{◌≡◌, subst, arith}
-use Rattle.sect_front.specs.steps.Passing.{Stands, IsBare}
-use Rattle.sect_front.proofs.Stopping.{refused_bare, refused_by, passed_kind}
+use Rattle.sect_front.proofs.Stopping.{refused_bare, refused_by}
 use Rattle.sect_front.specs.declared.expected.Expected.TheVariants as expected
+use Rattle.sect_front.proofs.Stopping.{calm_kind}
+use Rattle.sect_front.proofs.Stopping.{calm_kind}
+use Rattle.sect_front.proofs.Stopping.{calm_kind}
+use Rattle.sect_front.proofs.Chains.{passed}
+use Rattle.sect_front.proofs.Stopping.{calm_kind}
 use Rattle.sect_front.proofs.cursor.Cursor.takes_kind.Goals as goal
 
 pub returns-in_default-clause-none : goal.returns-in_default-clause-none
 returns-in_default-clause-none c =
-    let same : c.self.inside.here.now ≡ c.args.self.now.here = grind arith in
-    refused_bare expected.Kind c.args.self.now (subst IsBare same (rw c.in_default.is at c.token_at.ensures.none))
+    refused_bare expected.Kind c.args.self.now (rw c.in_default.is at c.token.ensures.none)
 
 pub returns-in_default-kind-clause-none : goal.returns-in_default-kind-clause-none
 returns-in_default-kind-clause-none c =
-    let same : c.self.inside.here.now ≡ c.args.self.now.here = grind arith in
-    refused_by expected.Kind c.args.self.now c.in-Some.rest.now c.token_at.new.token
-    (subst (λ x. Stands x c.token_at.new.token c.in-Some.rest.now) same c.in-Some.ensures.some)
+    refused_by expected.Kind c.args.self.now c.in-Some.rest.now c.token.new.token c.in-Some.ensures.some
     (rw c.in_default-kind.is at c.kind.ensures.none)
 
 pub returns-clause-some : goal.returns-clause-some
 returns-clause-some c =
-    let same : c.self.inside.here.now ≡ c.args.self.now.here = grind arith in
-    passed_kind c.in-Some-kind.kind c.token_at.new.token c.args.self.now _ c.in-Some-kind.ensures.some
-    (subst (λ x. Stands x c.token_at.new.token c.in-Some.rest.now) same c.in-Some.ensures.some) (grind arith)
+    passed c.args.self.now c.in-Some.ensures.some c.in-Some-kind.ensures.some
+    (calm_kind c.in-Some-kind.kind) c.pass.ensures

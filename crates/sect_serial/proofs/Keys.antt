@@ -1,9 +1,11 @@
 -- Keys that are kept once, each with a value, in order.
 use Rattle.std.proofs.Common.{true≢false, ◌≡◌, ◌⊎◌, inl, inr, Bool, true, false, List, [], ◌∷◌, ◌++◌, Some, cond, refl}
-use Rattle.std.proofs.{Common.{sym, ◌∙◌, map, is_some, subst}, lemmas.List.{map-append}}
+use Rattle.std.proofs.{Common.{sym, ap, ◌∙◌, map, is_some, slice_get, subst, option_map}, lemmas.List.{map-append}}
+use Rattle.std.proofs.lemmas.Option.{slice_get-map}
 use Rattle.std.specs.{Bool.{Decides}, Map.{lookup}}
 use Rattle.sect_lemmas.specs.{Lists.{Has}, Distinct.{AreDistinct}}
 use Rattle.sect_lemmas.proofs.{Distinct.{distinct_push}, Membership.{Has-left, Has-right}}
+use Rattle.sect_lemmas.proofs.{Options.{some_injective}, Places.{Has-index}}
 
 -- keys that are told apart by what g makes of them
 module _ {K L X : Type 0} (g : K → L) where
@@ -44,3 +46,14 @@ module _ {K L X : Type 0} (g : K → L) where
       by true same h later at = true≢false h
       by false other h later (inl own) = true≢false (sym ((tells k e.0).1 (sym own)) ∙ other)
       by false other h later (inr there) = later h there
+
+-- where what g makes of the elements is apart, so are they
+pub one_of_distinct : {X L : Type 0} (g : X → L) (xs : List X) (x y : X) → AreDistinct (map g xs) → Has xs x → Has xs y
+    → g x ≡ g y → x ≡ y
+one_of_distinct g xs x y distinct hx hy same =
+    let i = Has-index xs x hx in
+    let j = Has-index xs y hy in
+    let one = slice_get-map g xs i.0 ∙ ap (option_map g) i.1 in
+    let other = slice_get-map g xs j.0 ∙ ap (option_map g) j.1 in
+    let place = distinct i.0 j.0 (g x) one (other ∙ ap Some (sym same)) in
+    some_injective x y (sym i.1 ∙ ap (slice_get xs) place ∙ j.1)

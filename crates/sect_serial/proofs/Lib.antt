@@ -8,6 +8,9 @@ mod Keys
 mod Trimmed
 mod Comparing
 mod TellLemmas
+mod Shortlex
+mod AheadLemmas
 mod StateLemmas
 mod EndLemmas
+mod OneList
 pub mod shared

@@ -4,17 +4,22 @@ use Rattle.std.proofs.Common.{Option, Some, None, refl, sym, ap, subst, ◌∙�
 use Rattle.std.proofs.{Common.{length-append}, lemmas.Bool.{cases_lt}, lemmas.List.{length-map, append-nil}}
 use Rattle.std.proofs.{lemmas.Option.{slice_get_past, slice_get_within}, lemmas.List.{append_assoc}}
 use Rattle.sect_lemmas.specs.Lists.{Has}
-use Rattle.sect_lemmas.proofs.{Distinct.{distinct_none}, Membership.{Has-cases, Has-unmap}, Elements.{slice_get-left}}
+use Rattle.sect_lemmas.proofs.{Distinct.{distinct_none}, Membership.{Has-cases, Has-left, Has-right, Has-unmap}}
+use Rattle.sect_lemmas.proofs.{Elements.{slice_get-left}, Listing.{Has-map}}
 use Rattle.sect_lemmas.proofs.{Options.{some_injective, none_or_some}, Places.{Has-index}, Elements.{get_front}}
 use Rattle.sect_types.specs.Programs.{ProgramView}
-use Rattle.sect_types.specs.Whole.{RunView, begun, in_order, run_section, section_of_thread, option_then}
-use Rattle.sect_serial.specs.{Comparing.{run_eq}, Exploring.{Found, HasMoreThan, HasStates, IsReached, AreOutcomes}}
+use Rattle.sect_types.specs.Whole.{RunView, SerialEndView, RunsWhole, begun, in_order, run_section}
+use Rattle.sect_types.specs.Whole.{section_of_thread, option_then}
+use Rattle.sect_serial.specs.{Comparing.{run_eq}, Exploring.{Found, HasMoreThan, HasStates, IsReached, AreOutcomes, IsBefore}}
+use Rattle.sect_serial.specs.Exploring.{ends_in}
 use Rattle.sect_serial.specs.Trimming.{trimmed}
 use Rattle.sect_serial.specs.steps.Frames.{AreReady}
 use Rattle.sect_serial.specs.steps.States.{States, states_in, Leads, AreStates, Grows, GoesOn, Keeps, AreAll, AreEnds}
-use Rattle.sect_serial.specs.steps.States.{has_state}
-use Rattle.sect_serial.proofs.{Keys.{key_left, key_last, keys_push, lookup_has, lookup_none}, RunLemmas.{in_order_more}}
+use Rattle.sect_serial.specs.steps.States.{has_state, IsAtMost, IsKeptBy, IsFoundBy, IsAhead}
+use Rattle.sect_serial.proofs.{Keys.{keys_push, lookup_has, lookup_none, one_of_distinct}, RunLemmas.{in_order_more}}
 use Rattle.sect_serial.proofs.{TellLemmas.{run_tells}, Trimmed.{trimmed_section, trimmed_ends}}
+use Rattle.sect_serial.proofs.Shortlex.{before_itself, before_at_most, at_most_longer, at_most_transitive, rising_push}
+use Rattle.sect_serial.proofs.AheadLemmas.{behind_all}
 
 -- a section more of a thread leads on
 pub leads_on : (p : ProgramView) (fuel t : ℕ) (order : List ℕ) (s r : RunView) → Leads p fuel order s
@@ -44,28 +49,33 @@ led_push p fuel es r order all led e h = elim (Has-cases es ((r, order) ∷ []) 
 
 -- a state more
 states_push : (p : ProgramView) (fuel most : ℕ) (es : States) (r : RunView) (order : List ℕ)
-    → AreStates p fuel most es → Leads p fuel order r → has_state es r ≡ false → length es < most
-    → AreStates p fuel most (es ++ (r, order) ∷ [])
-states_push p fuel most es r order all led new lt = record {
+    → AreStates p fuel most es → Leads p fuel order r → ((x : RunView × List ℕ) → Has es x → IsBefore x.1 order)
+    → has_state es r ≡ false → length es < most → AreStates p fuel most (es ++ (r, order) ∷ [])
+states_push p fuel most es r order all led behind new lt = record {
   led = led_push p fuel es r order all.led led;
   distinct = keys_push trimmed es r order all.distinct (lookup_none trimmed run_eq run_tells es r new);
   few = rw length-append (omega (arith, lt));
+  rising = rising_push es (r, order) all.rising behind;
 }
 
 -- what is kept leaves states
 pub states_keep : (p : ProgramView) (fuel most : ℕ) (es fs : States) (r : RunView) (order : List ℕ)
-    → AreStates p fuel most es → Leads p fuel order r → Keeps most r order es fs → AreStates p fuel most fs
-states_keep p fuel most es fs r order all led (inl k) = subst (AreStates p fuel most) (sym k.1) all
-states_keep p fuel most es fs r order all led (inr k) =
-    subst (AreStates p fuel most) (sym k.2) (states_push p fuel most es r order all led k.0 k.1)
+    → AreStates p fuel most es → Leads p fuel order r → ((x : RunView × List ℕ) → Has es x → IsBefore x.1 order)
+    → Keeps most r order es fs → AreStates p fuel most fs
+states_keep p fuel most es fs r order all led behind (inl k) = subst (AreStates p fuel most) (sym k.1) all
+states_keep p fuel most es fs r order all led behind (inr k) =
+    subst (AreStates p fuel most) (sym k.2) (states_push p fuel most es r order all led behind k.0 k.1)
 
--- what is kept is there
-pub kept_is_there : (most : ℕ) (es fs : States) (r : RunView) (order : List ℕ) → Keeps most r order es fs
-    → Has (states_in fs) (trimmed r)
-kept_is_there most es fs r order (inl k) =
-    subst (λ (xs : States). Has (states_in xs) (trimmed r)) (sym k.1) (lookup_has trimmed run_eq run_tells es r k.0)
-kept_is_there most es fs r order (inr k) =
-    subst (λ (xs : States). Has (states_in xs) (trimmed r)) (sym k.2) (key_last trimmed es r order)
+-- what is kept is there, with its order or one before it
+pub kept_is_there : (most : ℕ) (es fs : States) (r : RunView) (order : List ℕ)
+    → ((x : RunView × List ℕ) → Has es x → IsBefore x.1 order) → Keeps most r order es fs → IsKeptBy fs r order
+kept_is_there most es fs r order behind (inl k) =
+    let there = Has-unmap (λ (x : RunView × List ℕ). trimmed x.0) es (trimmed r)
+    (lookup_has trimmed run_eq run_tells es r k.0) in
+    subst (λ (xs : States). IsKeptBy xs r order) (sym k.1)
+    (there.0, there.1, there.2, inl (behind there.0 there.1))
+kept_is_there most es fs r order behind (inr k) = subst (λ (xs : States). IsKeptBy xs r order) (sym k.2)
+    ((r, order), Has-right es ((r, order) ∷ []) (r, order) (inl refl), refl, inr refl)
 
 pub grows_none : (es : States) → Grows es es
 grows_none es = ([], sym (append-nil es))
@@ -80,8 +90,10 @@ grows_more es fs gs a b = (
   b.1 ∙ ap (λ (xs : States). xs ++ b.0) a.1 ∙ append_assoc es a.0 b.0,
 )
 
-pub grows_has : (es fs : States) (r : RunView) → Grows es fs → Has (states_in es) r → Has (states_in fs) r
-grows_has es fs r g h = subst (λ (xs : States). Has (states_in xs) r) (sym g.1) (key_left trimmed es g.0 r h)
+pub grows_kept : (es fs : States) (r : RunView) (order : List ℕ) → Grows es fs → IsKeptBy es r order
+    → IsKeptBy fs r order
+grows_kept es fs r order g k = subst (λ (xs : States). IsKeptBy xs r order) (sym g.1)
+    (k.0, Has-left es g.0 k.0 k.1, k.2, k.3)
 
 pub grows_get : (es fs : States) (n : ℕ) (e : RunView × List ℕ) → Grows es fs → slice_get es n ≡ Some e
     → slice_get fs n ≡ Some e
@@ -91,15 +103,16 @@ grows_get es fs n e g at = ap (λ (xs : States). slice_get xs n) g.1 ∙ slice_g
 pub grows_on : (p : ProgramView) (es fs : States) (n t : ℕ) → Grows es fs → n < length es → GoesOn p es n t
     → GoesOn p fs n t
 grows_on p es fs n t g lt on e r at ran =
-    grows_has es fs (trimmed r) g (on e r (get_front es g.0 n e lt
+    grows_kept es fs r (e.1 ++ t ∷ []) g (on e r (get_front es g.0 n e lt
     (sym (ap (λ (xs : States). slice_get xs n) g.1) ∙ at)) ran)
 
 -- one state is at a place
 on_at : (p : ProgramView) (es : States) (n t : ℕ) (e : RunView × List ℕ) → slice_get es n ≡ Some e
-    → ((r : RunView) → run_section p t e.0 ≡ Some r → Has (states_in es) (trimmed r)) → GoesOn p es n t
+    → ((r : RunView) → run_section p t e.0 ≡ Some r → IsKeptBy es r (e.1 ++ t ∷ [])) → GoesOn p es n t
 on_at p es n t e at has d r there ran =
     let same : d ≡ e = some_injective d e (sym there ∙ at) in
-    has r (ap (λ (x : RunView × List ℕ). run_section p t x.0) (sym same) ∙ ran)
+    subst (λ (x : RunView × List ℕ). IsKeptBy es r (x.1 ++ t ∷ [])) (sym same)
+    (has r (ap (λ (x : RunView × List ℕ). run_section p t x.0) (sym same) ∙ ran))
 
 -- states that are led to are reached
 reached_in : (p : ProgramView) (fuel : ℕ) (es : States)
@@ -123,27 +136,43 @@ too_many p fuel most es r order all led new full =
       reached_in p fuel more (led_push p fuel es r order all.led led),
     )
 
--- whatever whole sections lead to from a state that is there is there
-closed_from : (p : ProgramView) (es : States) → ((n t : ℕ) → GoesOn p es n t) → (order : List ℕ) (s r : RunView)
-    → Has (states_in es) (trimmed s) → in_order p order s ≡ Some r → Has (states_in es) (trimmed r)
-closed_from p es on [] s r h ran = subst (λ x. Has (states_in es) (trimmed x)) (some_injective s r ran) h
-closed_from p es on (t ∷ ts) s r h ran = by (run_section p t s) refl ran (λ q. closed_from p es on ts q r) where
-  by : (o : Option RunView) → run_section p t s ≡ o → option_then o (in_order p ts) ≡ Some r
-      → ((q : RunView) → Has (states_in es) (trimmed q) → in_order p ts q ≡ Some r → Has (states_in es) (trimmed r))
-      → Has (states_in es) (trimmed r)
-  by None is g rest = absurd (none_or_some r g)
-  by (Some q) is g rest =
-      let there = Has-unmap (λ (x : RunView × List ℕ). trimmed x.0) es (trimmed s) h in
-      let at = Has-index es there.0 there.1 in
-      let next = trimmed_section p t s there.0.0 q (sym there.2) is in
-      rest q (subst (Has (states_in es)) next.2 (on at.0 t there.0 next.0 at.1 next.1)) g
+-- whatever whole sections lead to from a state that is there is there, with the order of that state and theirs behind
+-- it, or one before that
+closed_from : (p : ProgramView) (es : States) → ((n t : ℕ) → GoesOn p es n t) → (behind order : List ℕ)
+    (s r : RunView) → IsKeptBy es s behind → in_order p order s ≡ Some r → IsKeptBy es r (behind ++ order)
+closed_from p es on behind [] s r k ran =
+    subst (λ x. IsKeptBy es x (behind ++ [])) (some_injective s r ran)
+    (subst (IsKeptBy es s) (sym (append-nil behind)) k)
+closed_from p es on behind (t ∷ ts) s r k ran =
+    by (run_section p t s) refl ran (λ q. closed_from p es on (behind ++ t ∷ []) ts q r) where
+      by : (o : Option RunView) → run_section p t s ≡ o → option_then o (in_order p ts) ≡ Some r
+          → ((q : RunView) → IsKeptBy es q (behind ++ t ∷ []) → in_order p ts q ≡ Some r
+          → IsKeptBy es r ((behind ++ t ∷ []) ++ ts))
+          → IsKeptBy es r (behind ++ t ∷ ts)
+      by None is g rest = absurd (none_or_some r g)
+      by (Some q) is g rest =
+          let at = Has-index es k.0 k.1 in
+          let next = trimmed_section p t s k.0.0 q (sym k.2) is in
+          let there = on at.0 t k.0 next.0 at.1 next.1 in
+          subst (IsKeptBy es r) (append_assoc behind (t ∷ []) ts) (rest q (
+            there.0,
+            there.1,
+            there.2 ∙ next.2,
+            at_most_transitive there.0.1 (k.0.1 ++ t ∷ []) (behind ++ t ∷ []) there.3
+                (at_most_longer k.0.1 behind t k.3),
+          ) g)
 
--- all states that whole sections lead to are there
+-- each state that whole sections lead to is there, with their order or one before it
+pub kept_by : (p : ProgramView) (fuel most : ℕ) (es : States) → AreAll p fuel most es → (order : List ℕ)
+    (r : RunView) → in_order p order (begun p fuel) ≡ Some r → IsKeptBy es r order
+kept_by p fuel most es all order r ran = closed_from p es all.closed [] order (begun p fuel) r all.first ran
+
+-- so all of them are there
 pub all_there : (p : ProgramView) (fuel most : ℕ) (es : States) → AreAll p fuel most es → (s : RunView)
     → IsReached p fuel s → Has (states_in es) s
 all_there p fuel most es all s reached =
-    subst (Has (states_in es)) reached.3
-    (closed_from p es all.closed reached.0 (begun p fuel) reached.1 all.first reached.2)
+    let k = kept_by p fuel most es all reached.0 reached.1 reached.2 in
+    subst (Has (states_in es)) (k.2 ∙ reached.3) (Has-map (λ (x : RunView × List ℕ). trimmed x.0) es k.0 k.1)
 
 -- so these are the states, each once
 pub all_states : (p : ProgramView) (fuel most : ℕ) (es : States) → AreAll p fuel most es
@@ -155,18 +184,31 @@ all_states p fuel most es all = (
   λ s. (reached_in p fuel es all.states.led s, all_there p fuel most es all s),
 )
 
+-- what some order comes to was found, with that order or one before it
+found_by : (p : ProgramView) (fuel most : ℕ) (es : States) (all : Found) → AreAll p fuel most es
+    → AreEnds p fuel es (length es) all → (order : List ℕ) (e : SerialEndView) → RunsWhole p fuel order e
+    → IsFoundBy all e order
+found_by p fuel most es all states ends order e w =
+    let k = kept_by p fuel most es states order w.0 w.1 in
+    let at = Has-index es k.0 k.1 in
+    let f = ends.found at.0 k.0 e (slice_get_within es at.0 k.0 at.1) at.1 (trimmed_ends p w.0 k.0.0 e (sym k.2) w.2) in
+    (f.0, f.1, f.2, at_most_transitive f.0.1 k.0.1 order f.3 k.3)
+
 -- the ends of all states are all outcomes
 pub all_outcomes : (p : ProgramView) (fuel most : ℕ) (es : States) (all : Found) → AreAll p fuel most es
     → AreEnds p fuel es (length es) all → AreOutcomes p fuel all
 all_outcomes p fuel most es all states ends = record {
   right = ends.right;
   complete = λ order e w.
-      let reached = all_there p fuel most es states (trimmed w.0) (order, w.0, w.1, refl) in
-      let h = Has-unmap (λ (x : RunView × List ℕ). trimmed x.0) es (trimmed w.0) reached in
-      let at = Has-index es h.0 h.1 in
-      ends.found at.0 h.0 e (slice_get_within es at.0 h.0 at.1) at.1
-      (trimmed_ends p w.0 h.0.0 e (sym h.2) w.2);
+      let f = found_by p fuel most es all states ends order e w in
+      subst (Has (ends_in all)) f.2 (Has-map (λ (x : SerialEndView × List ℕ). x.0) all f.0 f.1);
   once = ends.once;
+  first = λ x h order w before.
+      let f = found_by p fuel most es all states ends order x.0 w in
+      let same = one_of_distinct (λ (y : SerialEndView × List ℕ). y.0) all f.0 x ends.once f.1 h f.2 in
+      before_itself order (before_at_most order x.1 order before
+      (subst (λ (y : SerialEndView × List ℕ). IsAtMost y.1 order) same f.3));
+  rising = ends.rising;
 }
 
 -- one thread more is followed
@@ -191,14 +233,15 @@ kept_leads p fuel t e r longer led ran ready many is =
 pub followed_some : (p : ProgramView) (most : ℕ) (es fs : States) (n t : ℕ) (e : RunView × List ℕ) (r : RunView)
     (longer : List ℕ)
     → ((u : ℕ) → u < t → GoesOn p es n u) → slice_get es n ≡ Some e → run_section p t e.0 ≡ Some r
-    → Keeps most r longer es fs → (u : ℕ) → u < t + 1 → GoesOn p fs n u
-followed_some p most es fs n t e r longer before at ran kept =
+    → longer ≡ e.1 ++ t ∷ [] → IsAhead es n t → Keeps most r longer es fs → (u : ℕ) → u < t + 1 → GoesOn p fs n u
+followed_some p most es fs n t e r longer before at ran is ahead kept =
     let grown = kept_grows most es fs r longer kept in
     let within = slice_get_within es n e at in
+    let there = kept_is_there most es fs r longer (behind_all es n t e longer at is ahead) kept in
     followed_to p fs n t (λ u lt. grows_on p es fs n u grown within (before u lt))
     (on_at p fs n t e (grows_get es fs n e grown at)
-    (λ q there. subst (λ x. Has (states_in fs) (trimmed x)) (some_injective r q (sym ran ∙ there))
-    (kept_is_there most es fs r longer kept)))
+    (λ q other. subst (λ x. IsKeptBy fs x (e.1 ++ t ∷ [])) (some_injective r q (sym ran ∙ other))
+    (subst (IsKeptBy fs r) is there)))
 
 -- no states are states
 pub none_states : (p : ProgramView) (fuel most : ℕ) → AreStates p fuel most []
@@ -206,6 +249,7 @@ none_states p fuel most = record {
   led = λ e h. absurd h;
   distinct = distinct_none;
   few = omega arith;
+  rising = tt;
 }
 
 -- no section leads to the start

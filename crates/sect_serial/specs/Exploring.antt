@@ -1,5 +1,5 @@
 -- All outcomes of a program. `outcomes` cites it.
-use Rattle.std.specs.Prelude.{◌≡◌, ◌≤◌, ◌+◌, ◌↔◌, ⊤, ℕ, List, Some, length, map}
+use Rattle.std.specs.Prelude.{◌≡◌, ◌≤◌, ◌<◌, ◌+◌, ◌↔◌, ◌⊎◌, ⊤, ℕ, List, [], ◌∷◌, Some, length, map}
 use Rattle.sect_lemmas.specs.{Lists.{Has}, Distinct.{AreDistinct}}
 use Rattle.sect_types.specs.{Programs.{ProgramView}, Whole.{RunView, SerialEndView, begun, in_order, RunsWhole}}
 use Rattle.sect_serial.specs.{Trimming.{trimmed}, declared.exploring.OutcomesFault.{OutcomesFault}}
@@ -18,6 +18,21 @@ pub record OutcomesView : Type 0 where
   pub states : ℕ
   pub found : Found
 
+-- where the first of two orders has another thread than the second for the first time, it has the smaller one
+abbrev pub IsLess : List ℕ → List ℕ → Type 0
+IsLess [] ws = ⊥
+IsLess (v ∷ vs) [] = ⊥
+IsLess (v ∷ vs) (w ∷ ws) = (v < w) ⊎ ((v ≡ w) × IsLess vs ws)
+
+-- a shorter order comes before a longer one, and orders of one length come as their threads do (known as shortlex)
+abbrev pub IsBefore : List ℕ → List ℕ → Type 0
+IsBefore v w = (length v < length w) ⊎ ((length v ≡ length w) × IsLess v w)
+
+-- the order of each comes before those of all that stand behind it
+abbrev pub AreRising : {X : Type 0} → List (X × List ℕ) → Type 0
+AreRising [] = ⊤
+AreRising {X} (x ∷ xs) = ((y : X × List ℕ) → Has xs y → IsBefore x.1 y.1) × AreRising xs
+
 -- these are all outcomes of the program with this fuel, each once
 pub record AreOutcomes (p : ProgramView) (fuel : ℕ) (found : Found) : Type 0 where
   -- in its order the program comes to its end
@@ -25,6 +40,11 @@ pub record AreOutcomes (p : ProgramView) (fuel : ℕ) (found : Found) : Type 0 w
   -- whatever the program comes to, in any order, is there
   pub complete : (order : List ℕ) (e : SerialEndView) → RunsWhole p fuel order e → Has (ends_in found) e
   pub once : AreDistinct (ends_in found)
+  -- no order that gives an outcome comes before the one that it stands with
+  pub first : (x : SerialEndView × List ℕ) → Has found x → (order : List ℕ) → RunsWhole p fuel order x.0
+      → IsBefore order x.1 → ⊥
+  -- and they stand as these orders come
+  pub rising : AreRising found
 
 -- whole sections of some threads, one after another, lead to this state, told apart without the locals of threads that
 -- have ended
@@ -49,6 +69,11 @@ pub record Explores (p : ProgramView) (fuel : ℕ) (most : ℕ) (o : OutcomesVie
   pub outcomes : AreOutcomes p fuel o.found
   pub states : HasStates p fuel o.states
   pub few : o.states ≤ most
+
+-- a program has one list of outcomes, with one number of states
+abbrev pub OutcomesAreOne : Type 0
+OutcomesAreOne =
+    (p : ProgramView) (fuel most : ℕ) (o q : OutcomesView) → Explores p fuel most o → Explores p fuel most q → o ≡ q
 
 -- why none are listed: more states than that, or want of memory
 abbrev pub IsUnlisted : ProgramView → ℕ → ℕ → OutcomesFault → Type 0

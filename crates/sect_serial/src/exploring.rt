@@ -5,7 +5,7 @@
 ghost use Rattle.std.specs.Prelude.{◌≡◌, ◌<◌, length, MatchResult};
 ghost use Rattle.sect_serial.specs.Exploring.{Explores, IsUnlisted};
 ghost use Rattle.sect_serial.specs.declared.exploring.OutcomesFault.TheVariants.{Memory};
-ghost use Rattle.sect_serial.specs.steps.States.{AreStates, AreAll, AreEnds, IsFollowed, Keeps, Leads};
+ghost use Rattle.sect_serial.specs.steps.States.{AreStates, AreAhead, AreAll, AreEnds, IsFollowed, Keeps, Leads};
 
 use crate::run::Run;
 use crate::states::{Ends, Order, Outcomes, States};
@@ -82,6 +82,7 @@ impl<'a> Search<'a> {
     ) -> Result<(), OutcomesFault>
         requires states { AreStates self.now.program.now self.now.fuel self.now.most states.old }
         requires there { place < length states.old }
+        requires ahead { AreAhead states.old place }
         ensures { MatchResult result
             (λ _. IsFollowed self.now.program.now self.now.fuel self.now.most states.old place states.new)
             (IsUnlisted self.now.program.now self.now.fuel self.now.most) }
@@ -134,8 +135,9 @@ impl<'a> Search<'a> {
     }
 }
 
-/// All outcomes that a program can have where each thread has this much fuel, each once, with an order of whole
-/// sections that gives it. Where whole sections lead to more than `most` states, the first included, none is listed.
+/// All outcomes that a program can have where each thread has this much fuel, each once, with the first order of whole
+/// sections that gives it, and as these orders come: the shorter first, and those of one length as their threads do, by
+/// number. Where whole sections lead to more than `most` states, the first included, none is listed.
 /// Hints aren't looked at.
 pub fn outcomes(
     alloc: Global,

@@ -3,6 +3,7 @@
 
 mod exploring;
 mod frame;
+mod laws;
 mod rest;
 mod run;
 mod same;
@@ -11,5 +12,6 @@ mod step;
 mod whole;
 
 pub use crate::exploring::{OutcomesFault, outcomes};
+pub use crate::laws::outcomes_are_one;
 pub use crate::states::{Order, Outcomes};
 pub use crate::whole::{SerialEnd, SerialFault, serial};

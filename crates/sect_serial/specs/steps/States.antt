@@ -1,10 +1,11 @@
 -- States that are kept while outcomes are sought. The private functions of `exploring` and `states` cite it.
-use Rattle.std.specs.Prelude.{◌≡◌, ◌≤◌, ◌<◌, ◌++◌, ◌∷◌, [], ◌⊎◌, ℕ, Bool, true, false, List, Some, length, map}
+use Rattle.std.specs.Prelude.{◌≡◌, ◌≤◌, ◌<◌, ◌+◌, ◌++◌, ◌∷◌, [], ◌⊎◌, ℕ, Bool, true, false, List, Some, length, map}
 use Rattle.std.specs.{Prelude.{slice_get, is_some}, Map.{lookup}}
 use Rattle.sect_lemmas.specs.{Lists.{Has}, Distinct.{AreDistinct}}
 use Rattle.sect_types.specs.Programs.{ProgramView}
 use Rattle.sect_types.specs.Whole.{RunView, SerialEndView, begun, in_order, run_section, RunsWhole, EndsAs}
-use Rattle.sect_serial.specs.{Comparing.{run_eq, end_eq}, Exploring.{Found, ends_in}, Trimming.{trimmed}}
+use Rattle.sect_serial.specs.{Comparing.{run_eq, end_eq}, Trimming.{trimmed}}
+use Rattle.sect_serial.specs.Exploring.{Found, ends_in, IsBefore, AreRising}
 use Rattle.sect_serial.specs.steps.Frames.{AreReady}
 
 -- states, each with an order of whole sections that leads to it
@@ -27,21 +28,40 @@ pub record Leads (p : ProgramView) (fuel : ℕ) (order : List ℕ) (r : RunView)
   pub ready : AreReady p 0 r.frames
   pub many : length r.frames ≡ length p.texts
 
--- at most so many states, each with an order that leads to it, no two of them the same but for locals that aren't used
+-- at most so many states, each with an order that leads to it, as these orders come, no two of them the same but for
+-- locals that aren't used
 pub record AreStates (p : ProgramView) (fuel : ℕ) (most : ℕ) (es : States) : Type 0 where
   pub led : (e : RunView × List ℕ) → Has es e → Leads p fuel e.1 e.0
   pub distinct : AreDistinct (states_in es)
   pub few : length es ≤ most
+  pub rising : AreRising es
 
 -- more states at the end
 abbrev pub Grows : States → States → Type 0
 Grows es fs = (more : States) × (fs ≡ es ++ more)
 
+-- the first order is the other, or comes before it
+abbrev pub IsAtMost : List ℕ → List ℕ → Type 0
+IsAtMost v w = IsBefore v w ⊎ (v ≡ w)
+
+-- the state is there, with this order or one that comes before it
+abbrev pub IsKeptBy : States → RunView → List ℕ → Type 0
+IsKeptBy es r order = (x : RunView × List ℕ) × Has es x × (trimmed x.0 ≡ trimmed r) × IsAtMost x.1 order
+
 -- what a section of thread t leads to from the state at place n is there
 abbrev pub GoesOn : ProgramView → States → ℕ → ℕ → Type 0
 GoesOn p es n t =
     (e : RunView × List ℕ) (r : RunView) → slice_get es n ≡ Some e → run_section p t e.0 ≡ Some r
-    → Has (states_in es) (trimmed r)
+    → IsKeptBy es r (e.1 ++ t ∷ [])
+
+-- each order comes before that of one section of thread t more than the state at place n has
+abbrev pub IsAhead : States → ℕ → ℕ → Type 0
+IsAhead es n t =
+    (e x : RunView × List ℕ) → slice_get es n ≡ Some e → Has es x → IsBefore x.1 (e.1 ++ t ∷ [])
+
+-- so it is for the states from place n on
+abbrev pub AreAhead : States → ℕ → Type 0
+AreAhead es n = (k : ℕ) → n ≤ k → IsAhead es k 0
 
 -- the state is there, or is added at the end
 abbrev pub Keeps : ℕ → RunView → List ℕ → States → States → Type 0
@@ -59,16 +79,24 @@ pub record IsFollowed (p : ProgramView) (fuel : ℕ) (most : ℕ) (es : States) 
   pub states : AreStates p fuel most fs
   pub grown : Grows es fs
   pub followed : (t : ℕ) → GoesOn p fs n t
+  pub ahead : AreAhead fs (n + 1)
 
 -- these are all states
 pub record AreAll (p : ProgramView) (fuel : ℕ) (most : ℕ) (es : States) : Type 0 where
   pub states : AreStates p fuel most es
-  pub first : Has (states_in es) (trimmed (begun p fuel))
+  pub first : IsKeptBy es (begun p fuel) []
   pub closed : (n t : ℕ) → GoesOn p es n t
+
+-- the end is there, with this order or one that comes before it
+abbrev pub IsFoundBy : Found → SerialEndView → List ℕ → Type 0
+IsFoundBy all e order = (x : SerialEndView × List ℕ) × Has all x × (x.0 ≡ e) × IsAtMost x.1 order
 
 -- the ends of the first n states, each once
 pub record AreEnds (p : ProgramView) (fuel : ℕ) (es : States) (n : ℕ) (all : Found) : Type 0 where
   pub right : (x : SerialEndView × List ℕ) → Has all x → RunsWhole p fuel x.1 x.0
   pub once : AreDistinct (ends_in all)
   pub found : (i : ℕ) (e : RunView × List ℕ) (x : SerialEndView) → i < n → slice_get es i ≡ Some e
-      → EndsAs p e.0 x → Has (ends_in all) x
+      → EndsAs p e.0 x → IsFoundBy all x e.1
+  pub ahead : (x : SerialEndView × List ℕ) (i : ℕ) (e : RunView × List ℕ) → Has all x → n ≤ i
+      → slice_get es i ≡ Some e → IsBefore x.1 e.1
+  pub rising : AreRising all

@@ -33,8 +33,8 @@ loop-place-preserved c =
       | in-Ok+in_ok-keep-in-Ok w ↦
           let ends = subst (λ (r : RunView). EndsAs p r w.in-Ok.end) c.in_ok-try_clone.ensures
           (subst (Finishes p s) w.in-Ok.is c.finish.ensures) in
-          rw (w.ends-is) (end_kept p fuel es n c.loop-place.ends c.loop-place.invariant e c.at.ensures led
-          w.in-Ok.end ends
+          rw (w.ends-is) (end_kept p fuel es n c.loop-place.ends c.loop-place.invariant e c.at.ensures
+          c.requires.states.rising led w.in-Ok.end ends
           w.keep.new.self w.in_ok-keep-in-Ok.ensures)
       | in-Err-SectionsLeft w ↦
           let t = w.in-Err-SectionsLeft.field-0-0 in

@@ -5,7 +5,7 @@ use Rattle.sect_lemmas.proofs.{Membership.{Has-slice_get}, Options.{none_or_some
 use Rattle.sect_types.specs.Whole.{RunView, run_section}
 use Rattle.sect_serial.specs.steps.Frames.{AreReady, RanSection}
 use Rattle.sect_serial.proofs.StateLemmas.{no_thread, followed_none, followed_some, kept_leads, states_keep, grows_more}
-use Rattle.sect_serial.proofs.StateLemmas.{kept_grows}
+use Rattle.sect_serial.proofs.{StateLemmas.{kept_grows, grows_none}, AheadLemmas.{behind_all, ahead_next, ahead_kept, later_kept}}
 use Rattle.sect_serial.proofs.exploring.Search.follow.Goals.{then-branch+in_ok-push+in_ok-keep, else-branch}
 use Rattle.sect_serial.proofs.exploring.Search.follow.Goals as goal
 
@@ -29,6 +29,15 @@ keep-requires-clause-leads c =
     kept_leads p c.args.self.now.fuel t e r c.push.new.self led ran c.in_ok-run_section.ensures.ready
     (c.in_ok-run_section.ensures.many ∙ ap (λ (x : RunView). length x.frames) c.in_ok-next.ensures)
     (c.in_ok-push.ensures ∙ ap (λ (o : List ℕ). o ++ t ∷ []) c.in_ok-longer.ensures)
+
+pub loop-thread-init : goal.loop-thread-init
+loop-thread-init c = record {
+  states = c.requires.states;
+  grown = grows_none c.args.states.now;
+  followed = λ t lt. absurd (omega (arith, lt));
+  ahead = c.requires.ahead c.args.place (omega arith);
+  later = λ k le. c.requires.ahead k (omega (arith, le));
+}
 
 pub loop-thread-preserved : goal.loop-thread-preserved
 loop-thread-preserved c =
@@ -54,11 +63,16 @@ loop-thread-preserved c =
           ∙ ap (λ (x : RunView). length x.frames) c.in_ok-next.ensures in
           let new = kept_leads p fuel t e r longer led ran c.in_ok-run_section.ensures.ready many is in
           let kept = w.in_ok-keep.ensures in
+          let behind = behind_all es c.args.place t e longer at is i.ahead in
           rw (w.states-is) (record {
-            states = states_keep p fuel most es w.keep.new.states r longer i.states new kept;
+            states = states_keep p fuel most es w.keep.new.states r longer i.states new behind kept;
             grown = grows_more c.args.states.now es w.keep.new.states i.grown
                 (kept_grows most es w.keep.new.states r longer kept);
-            followed = followed_some p most es w.keep.new.states c.args.place t e r longer i.followed at ran kept;
+            followed = followed_some p most es w.keep.new.states c.args.place t e r longer i.followed at ran is
+                i.ahead kept;
+            ahead = ahead_kept es c.args.place t e longer at is i.ahead r most w.keep.new.states kept;
+            later = later_kept es c.args.place t e longer at is i.ahead r most w.keep.new.states i.states.rising
+                i.later kept;
           })
       | else-branch w ↦
           let none : run_section p t e.0 ≡ None =
@@ -69,6 +83,8 @@ loop-thread-preserved c =
             states = i.states;
             grown = i.grown;
             followed = followed_none p es c.args.place t i.followed e at none;
+            ahead = ahead_next es c.args.place t i.ahead;
+            later = i.later;
           })
     ]
 
@@ -88,4 +104,5 @@ returns c =
             (let many = (states.led e (Has-slice_get es c.args.place e at)).many in
             omega (arith, many, count, all, ge))) ∙ ran))
       ];
+      ahead = c.loop-thread.invariant.later;
     }

@@ -1,10 +1,9 @@
-use Rattle.std.proofs.Common.{◌≡◌, sym, subst, arith, inl, inr, ℕ}
+use Rattle.std.proofs.Common.{◌≡◌, sym, subst, arith, inl, inr, ℕ, List, []}
 use Rattle.std.proofs.{lemmas.Bool.{cases_lt}, lemmas.Option.{slice_get_within}}
-use Rattle.sect_lemmas.specs.Lists.{Has}
-use Rattle.sect_types.specs.Whole.{begun}
-use Rattle.sect_serial.specs.Trimming.{trimmed}
-use Rattle.sect_serial.specs.steps.States.{AreStates, GoesOn, states_in}
-use Rattle.sect_serial.proofs.StateLemmas.{none_states, begun_leads, states_keep, kept_is_there, grows_has, grows_on}
+use Rattle.sect_types.specs.Whole.{RunView, begun}
+use Rattle.sect_serial.specs.{Exploring.{IsBefore}, steps.States.{AreStates, GoesOn, IsKeptBy}}
+use Rattle.sect_serial.proofs.StateLemmas.{none_states, begun_leads, states_keep, kept_is_there, grows_kept, grows_on}
+use Rattle.sect_serial.proofs.AheadLemmas.{first_ahead, none_behind}
 use Rattle.sect_serial.proofs.exploring.Search.states.Goals as goal
 
 pub keep-requires-clause-leads : goal.keep-requires-clause-leads
@@ -32,10 +31,13 @@ places-init c =
     let led = begun_leads p fuel o r c.new.ensures c.in_ok-run.ensures.begun c.in_ok-run.ensures.ready
     c.in_ok-run.ensures.many in
     let kept = c.in_ok-keep.ensures in
+    let behind = none_behind es o c.new-states.ensures in
     record {
-      states = states_keep p fuel most es fs r o none led kept;
-      first = subst (λ x. Has (states_in fs) (trimmed x)) c.in_ok-run.ensures.begun (kept_is_there most es fs r o kept);
+      states = states_keep p fuel most es fs r o none led behind kept;
+      first = subst (IsKeptBy fs (begun p fuel)) c.new.ensures
+          (subst (λ x. IsKeptBy fs x o) c.in_ok-run.ensures.begun (kept_is_there most es fs r o behind kept));
       followed = λ n lt. absurd (omega (arith, lt));
+      ahead = first_ahead most r o es fs c.new-states.ensures c.new.ensures kept;
     }
 
 pub places-preserved : goal.places-preserved
@@ -51,11 +53,12 @@ places-preserved c =
     let done = c.in_ok-follow.ensures in
     record {
       states = done.states;
-      first = grows_has es fs (trimmed (begun p fuel)) done.grown i.first;
+      first = grows_kept es fs (begun p fuel) [] done.grown i.first;
       followed = λ m lt t. elim (cases_lt m n) [
         | inl less ↦ grows_on p es fs m t done.grown (omega (arith, less, long, test)) (i.followed m less t)
         | inr more ↦ subst (λ (k : ℕ). GoesOn p fs k t) (let e : n ≡ m = omega (arith, lt, more) in e) (done.followed t)
       ];
+      ahead = done.ahead;
     }
 
 pub returns : goal.returns

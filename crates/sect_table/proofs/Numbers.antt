@@ -1,7 +1,10 @@
 -- The numbers of keys.
-use Rattle.std.proofs.Common.{◌≡◌, ℕ, suc, ◌+◌, ◌≤◌, List, [], ◌∷◌, length, Bool, true, false, Some, None, refl, sym}
-use Rattle.std.proofs.{Common.{◌∙◌, ap, arith, rules}, lemmas.List.Recursion.{is_position_or_len}}
+use Rattle.std.proofs.Common.{◌≡◌, ℕ, zero, suc, ◌+◌, ◌≤◌, List, [], ◌∷◌, length, Bool, true, false, Some, None, refl, sym}
+use Rattle.std.proofs.{Common.{◌∙◌, ap, arith, rules, slice_get}, lemmas.List.Recursion.{is_position_or_len}}
+use Rattle.std.proofs.lemmas.{Option.{slice_get_within}, Map.Keys.{IsDistinct-head, IsDistinct-tail}}
 use Rattle.std.specs.{Prelude.{if◌then◌else◌, nat_lt}, List.{position, position_or_len, list_any}}
+use Rattle.std.specs.List.{AllByRecursion, IsDistinct}
+use Rattle.sect_modes.proofs.shared.Keys.{key_itself, other_key}
 use Rattle.sect_modes.specs.{declared.key.Key.{Key}, declared.key.Key.TheVariants.{All, Class, Global, Made}}
 use Rattle.sect_modes.specs.{Key.{is_same_key}, contracts.key.KeyPartialEq.TheImpl.{eq-value}}
 use Rattle.sect_table.specs.steps.Keys.{place_in}
@@ -72,3 +75,24 @@ none_has k (x ∷ xs) is = go (is_same_key k x) (key_eq-same k x) is (λ p. none
         → (place_in k xs ≡ length xs → list_any (eq-value.it k) xs ≡ false) → list_any (eq-value.it k) (x ∷ xs) ≡ false
     go true e p rest = absurd (omega arith)
     go false e p rest = let later = rest (omega arith) in simp (e, later)
+
+-- a key that differs from all of these isn't the one that stands at a place among them
+apart_from : (k x : Key) (xs : List Key) (n : ℕ) → AllByRecursion (λ y. eq-value.it x y ≡ false) xs
+    → slice_get xs n ≡ Some k → is_same_key k x ≡ false
+apart_from k x [] n apart is = let lt = slice_get_within [] n k is in absurd (omega arith)
+apart_from k x (y ∷ ys) zero apart is =
+    let e : y ≡ k = cc in
+    other_key x k (ap (is_same_key x) (sym e) ∙ (sym (key_eq-same x y) ∙ apart.0))
+apart_from k x (y ∷ ys) (suc n) apart is = apart_from k x ys n apart.1 is
+
+-- where each key stands once, its place is its number
+pub distinct_place : (k : Key) (xs : List Key) (n : ℕ) → IsDistinct eq-value.it xs → slice_get xs n ≡ Some k
+    → n ≡ place_in k xs
+distinct_place k [] n distinct is = let lt = slice_get_within [] n k is in absurd (omega arith)
+distinct_place k (x ∷ xs) zero distinct is =
+    let e : x ≡ k = cc in
+    sym (ap (λ b. if b then 0 else suc (place_in k xs)) (ap (is_same_key k) e ∙ key_itself k))
+distinct_place k (x ∷ xs) (suc n) distinct is =
+    ap suc (distinct_place k xs n (IsDistinct-tail eq-value.it x xs distinct) is)
+    ∙ sym (ap (λ b. if b then 0 else suc (place_in k xs))
+    (apart_from k x xs n (IsDistinct-head eq-value.it x xs distinct) is))

@@ -1,6 +1,7 @@
 //! Asking for keys.
 
 ghost use Rattle.std.specs.Prelude.{◌≡◌, ◌≢◌, ◌<◌, ◌+◌, ◌-◌, [], length, true, ℕ, Err, OnOk, OnErr, IfOk, IfErr};
+ghost use Rattle.std.specs.Prelude.{IsOk};
 ghost use Rattle.sect_modes.specs.declared.mode.Mode.TheVariants.{Exclusive};
 ghost use Rattle.sect_table.specs.declared.claims.Answer.TheVariants.{Granted};
 ghost use Rattle.sect_table.specs.declared.claims.TableFault.TheVariants.{Memory};
@@ -80,6 +81,27 @@ fn enter(arena: &mut Arena, thread: u16, mode: Mode, key: Key, at: usize) -> Ans
     }
 }
 
+/// Asks for a key for a thread that neither waits nor holds the key.
+pub(crate) fn admit(
+    arena: &mut Arena,
+    thread: u16,
+    key: Key,
+    mode: Mode,
+) -> Result<Answer, AllocError>
+    requires thread { thread < length arena.old.held }
+    requires kept { IsKept arena.old }
+    requires admitted { IsAdmitted thread key arena.old }
+    ensures ok { IfOk result (λ answer. IsAnswered answer thread key mode arena.old arena.new) }
+    ensures spare { OnOk result (arena.new.spare ≡ arena.old.spare - 1) }
+    ensures kept { IsKept arena.new }
+    ensures enough { (holder : ℕ) → holds holder key arena.old ≡ true → 0 < arena.old.spare → IsOk result }
+    ensures err { OnErr result (arena.new ≡ arena.old) }
+{
+    let at = arena.number_of(key);
+    arena.prepare(key, at)?;
+    Ok(enter(arena, thread, mode, key, at))
+}
+
 /// Asks for a key.
 pub(crate) fn request(
     arena: &mut Arena,
@@ -100,12 +122,10 @@ pub(crate) fn request(
     if arena.waits(thread) {
         return Err(TableFault::AlreadyWaiting);
     }
-    let at = arena.number_of(key);
     if held(arena, thread, key).is_some() {
         return Err(TableFault::AlreadyHeld);
     }
-    arena.prepare(key, at)?;
-    Ok(enter(arena, thread, mode, key, at))
+    Ok(admit(arena, thread, key, mode)?)
 }
 
 /// Gives a thread a key that nobody holds or waits for.

@@ -1,7 +1,7 @@
 //! The lock table.
 
 ghost use Rattle.std.specs.Prelude.{◌≡◌, ◌≢◌, ◌+◌, ◌-◌, ◌<◌, ◌≤◌, [], ℕ, length, true, false, Err, OnOk, OnErr, IfOk};
-ghost use Rattle.std.specs.Prelude.{IfErr};
+ghost use Rattle.std.specs.Prelude.{IfErr, IsOk};
 ghost use Rattle.sect_modes.specs.declared.mode.Mode.TheVariants.{Exclusive};
 ghost use Rattle.sect_table.specs.declared.claims.Answer.TheVariants.{Granted};
 ghost use Rattle.sect_table.specs.declared.claims.TableFault.TheVariants.{Memory};
@@ -107,6 +107,19 @@ impl Table {
         ensures kept { IsKept self.new }
     {
         requests::request(&mut *self.arena, thread, key, mode)
+    }
+
+    /// Asks for a key for a thread that neither waits nor holds the key, as `request` does.
+    pub fn admit(&mut self, thread: u16, key: Key, mode: Mode) -> Result<Answer, AllocError>
+        requires thread { thread < length self.old.held }
+        requires admitted { IsAdmitted thread key self.old }
+        ensures ok { IfOk result (λ answer. IsAnswered answer thread key mode self.old self.new) }
+        ensures err { OnErr result (self.new ≡ self.old) }
+        ensures spare { OnOk result (self.new.spare ≡ self.old.spare - 1) }
+        ensures enough { (holder : ℕ) → holds holder key self.old ≡ true → 0 < self.old.spare → IsOk result }
+        ensures kept { IsKept self.new }
+    {
+        requests::admit(&mut *self.arena, thread, key, mode)
     }
 
     /// Gives a thread a key that nobody holds or waits for, in exclusive mode.

@@ -1,13 +1,7 @@
-use Rattle.std.proofs.Common.{ap, sym, ◌∙◌}
-use Rattle.sect_table.specs.steps.Keys.{place_in}
-use Rattle.sect_table.proofs.Numbers.{found_place, no_place}
+use Rattle.std.proofs.Common.{◌≤◌, length, sym, subst}
+use Rattle.sect_table.proofs.Numbers.{place_in-le}
 use Rattle.sect_table.proofs.keys.Keys.number_of.Goals as goal
 
-pub returns-in-Some-clause-place : goal.returns-in-Some-clause-place
-returns-in-Some-clause-place c = found_place c.args.key c.self.inside.set.keys c.in-Some.number c.in-Some.ensures.index
-    ∙ ap (place_in c.args.key) c.self.view_is
-
-pub returns-in-None-clause-place : goal.returns-in-None-clause-place
-returns-in-None-clause-place c =
-    c.len.ensures.len ∙ (sym (no_place c.args.key c.self.inside.set.keys c.in-None.ensures.index)
-    ∙ ap (place_in c.args.key) c.self.view_is)
+pub returns-in-Some-clause-within : goal.returns-in-Some-clause-within
+returns-in-Some-clause-within c =
+    subst (λ n. n ≤ length c.args.self.now) (sym c.in-Some.ensures) (place_in-le c.args.key c.args.self.now)

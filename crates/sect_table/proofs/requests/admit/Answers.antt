@@ -1,7 +1,5 @@
-use Rattle.std.proofs.Common.{ap, sym, ◌∙◌}
-use Rattle.std.specs.Prelude.{is_some}
 use Rattle.sect_table.proofs.Keeping.{prepared_answer, prepared_together, answer_kept}
-use Rattle.sect_table.proofs.requests.request.Goals as goal
+use Rattle.sect_table.proofs.requests.admit.Goals as goal
 
 pub enter-requires-clause-together : goal.enter-requires-clause-together
 enter-requires-clause-together c =
@@ -15,6 +13,4 @@ returns-clause-ok c = prepared_answer c.enter.result c.args.thread c.args.key c.
 pub returns-clause-kept : goal.returns-clause-kept
 returns-clause-kept c =
     answer_kept c.enter.result c.args.thread c.args.key c.args.mode c.args.arena.now c.enter.new.arena c.requires.kept
-    c.requires.thread
-    (sym c.waits.ensures ∙ c.if-waits.false)
-    (ap is_some (sym c.held.ensures) ∙ (sym c.is_some.ensures ∙ c.if-is_some.false)) (returns-clause-ok c)
+    c.requires.thread c.requires.admitted.0 c.requires.admitted.1 (returns-clause-ok c)

@@ -1,5 +1,5 @@
 -- An item or a record that is at fault is there.
-use Rattle.std.proofs.Common.{◌≡◌, ◌≢◌, ℕ, zero, suc, ◌+◌, ◌<◌, ◌≤◌, List, [], ◌∷◌, ◌++◌, Some, Err, length, map, refl}
+use Rattle.std.proofs.Common.{◌≡◌, ◌≢◌, ℕ, zero, suc, ◌+◌, ◌<◌, List, [], ◌∷◌, ◌++◌, Some, Err, length, map, refl}
 use Rattle.std.proofs.Common.{sym, ◌∙◌, ap, arith}
 use Rattle.sect_lemmas.proofs.Options.{none_or_some}
 use Rattle.std.specs.Prelude.{slice_index_or}
@@ -9,13 +9,11 @@ use Rattle.sect_front.specs.declared.tree.Declaration.{Declaration}
 use Rattle.sect_types.specs.{First.{BreaksFrom, none_yet}, Items.{Item, items, field_items, record_items}}
 use Rattle.sect_types.specs.{Programs.{ProgramView}, Rules.{Declared, Counts, after, declared_in}}
 use Rattle.sect_types.specs.{declared.rules.rule.Rule.{Rule}, declared.rules.rule.TypeFault.{TypeFault}}
-use Rattle.sect_hints.specs.{Hints.{hints_of}, declared.fault.HintFault.{HintFault}}
-use Rattle.sect_names.specs.{Verdicts.{fault_of}, declared.fault.SchemeFault.{SchemeFault}}
+use Rattle.sect_hints.specs.Hints.{hints_of}
+use Rattle.sect_names.specs.declared.fault.SchemeFault.{SchemeFault}
 use Rattle.sect_lint.specs.{declared.mistake.Mistake.{Mistake}, Places.{of_types, of_scheme, record_item, item_number}}
 use Rattle.sect_types.specs.First as types
 use Rattle.sect_types.specs.declared.rules.rule.TypeFault.TheVariants as type_fault
-use Rattle.sect_hints.specs.Faults as hints
-use Rattle.sect_hints.specs.declared.fault.HintFault.TheVariants as hint_fault
 use Rattle.sect_names.specs.Verdicts as schemes
 use Rattle.sect_names.specs.declared.fault.SchemeFault.TheVariants as scheme_fault
 use Rattle.sect_lint.specs.Mistakes as mistakes
@@ -90,17 +88,3 @@ types_known fault m h e = none_or_some m (sym (h ∙ ap mistakes.of_types e))
 pub scheme_known : (fault : SchemeFault) (m : Mistake) → Some m ≡ mistakes.of_scheme fault
     → fault ≢ scheme_fault.Memory
 scheme_known fault m h e = none_or_some m (sym (h ∙ ap mistakes.of_scheme e))
-
--- a fault of hints is one of the scheme, for any k that is offered
-pub hint_judged : (p : ProgramView) (k : ℕ) → k ≤ 3 → (fault : HintFault) → hints.Judges {A = ℕ} p (Err fault)
-    → schemes.Judges p k (Err (fault_of fault))
-hint_judged p k few hint_fault.Memory h = few
-hint_judged p k few (hint_fault.NoSuchGlobal r) h = (few, h)
-hint_judged p k few (hint_fault.GuardIsGuarded r) h = (few, h)
-hint_judged p k few (hint_fault.HintTwice r) h = (few, h)
-
-pub hint_known : (fault : HintFault) → fault_of fault ≢ scheme_fault.BadK
-hint_known hint_fault.Memory e = cc
-hint_known (hint_fault.NoSuchGlobal r) e = cc
-hint_known (hint_fault.GuardIsGuarded r) e = cc
-hint_known (hint_fault.HintTwice r) e = cc

@@ -24,13 +24,10 @@ use crate::mistake::Mistake;
 use crate::naming::{declared_at, earlier_detail, found, unknown_name};
 use crate::plain::{is_plain, plain_detail};
 use crate::wishes::wish_of;
-use sect_front::{
-    FrontFault, GappedText, PlacedFault, Span, Token, Tree, innermost_brace, parse_gapped,
-};
-use sect_hints::guards;
-use sect_names::{Scheme, SchemeFault, SourceRefusal, check_k, scheme_of};
+use sect_front::{FrontFault, GappedText, PlacedFault, Span, Token, Tree, innermost_brace};
+use sect_names::{Refused, Scheme, SchemeFault, SourceRefusal, Unguarded, judge};
 use sect_places::NameSpan;
-use sect_types::{Mistyped, Program, TypeFault, check_tree};
+use sect_types::{Mistyped, Program, TypeFault};
 use std::alloc::{AllocError, Global};
 
 /// What a source text is found to be.
@@ -270,54 +267,6 @@ fn hints_diagnostic(
     })
 }
 
-/// Judges a program of a source text.
-fn lint_program(
-    alloc: Global,
-    text: GappedText,
-    program: Program,
-    k: u16,
-) -> Result<Judgment, SourceRefusal>
-    requires gaps { AreGaps text.bytes.now text.gaps.now }
-    requires text { IsTypedText text.bytes.now program }
-    requires offered { k ≤ 3 }
-    ensures judged { IfOk result (IsJudged text.entry.bytes.now k) }
-    ensures fails { IfErr result (λ why. why ≡ refusal.Memory) }
-{
-    // the program is still there for what is told of a hint
-    match guards(alloc, &program) {
-        Ok(_) => {
-            let scheme = scheme_of(alloc, program, k)?;
-            scheme.facts();
-            Ok(Judgment::Accepted(scheme))
-        }
-        Err(fault) => {
-            let fault = SchemeFault::from(fault);
-            let diagnostic = hints_diagnostic(alloc, text, &program, &fault)?;
-            Ok(Judgment::Refused(diagnostic))
-        }
-    }
-}
-
-/// Judges a tree that a source text spells.
-fn lint_tree(alloc: Global, text: GappedText, tree: Tree, k: u16) -> Result<Judgment, SourceRefusal>
-    requires gaps { AreGaps text.bytes.now text.gaps.now }
-    requires text { IsSpelled text.bytes.now tree }
-    requires offered { k ≤ 3 }
-    ensures judged { IfOk result (IsJudged text.entry.bytes.now k) }
-    ensures fails { IfErr result (λ why. why ≡ refusal.Memory) }
-{
-    match check_tree(alloc, tree) {
-        Ok(program) => {
-            let _facts = program.tree();
-            lint_program(alloc, text, program, k)
-        }
-        Err(mistyped) => {
-            let diagnostic = types_diagnostic(alloc, text, &mistyped)?;
-            Ok(Judgment::Refused(diagnostic))
-        }
-    }
-}
-
 /// Whether a source text is accepted, and with which scheme, or refused, for which mistake, and where that stands. How
 /// many fields a path may have is judged before the source. `Memory` is answered only where a growth was refused.
 pub fn lint(alloc: Global, source: &[u8], k: u16) -> Result<Judgment, SourceRefusal>
@@ -326,17 +275,21 @@ pub fn lint(alloc: Global, source: &[u8], k: u16) -> Result<Judgment, SourceRefu
     // Nothing else is answered but that no path may have so many fields.
     ensures fails { IfErr result (IsNotJudged k) }
 {
-    check_k(k)?;
-    let mut gaps = Vec::new(alloc);
-    let parsed = parse_gapped(alloc, source, &mut gaps);
-    let text = GappedText {
-        bytes: source,
-        gaps: gaps.as_slice(),
-    };
-    match parsed {
-        Ok(tree) => lint_tree(alloc, text, tree, k),
-        Err(placed) => {
+    let text = GappedText::new(source);
+    match judge(alloc, source, k) {
+        Ok(scheme) => Ok(Judgment::Accepted(scheme)),
+        Err(Refused::BadK) => Err(SourceRefusal::Scheme(SchemeFault::BadK)),
+        Err(Refused::Front(placed)) => {
             let diagnostic = front_diagnostic(alloc, text, placed)?;
+            Ok(Judgment::Refused(diagnostic))
+        }
+        Err(Refused::Types(mistyped)) => {
+            let diagnostic = types_diagnostic(alloc, text, &mistyped)?;
+            Ok(Judgment::Refused(diagnostic))
+        }
+        Err(Refused::Hints(unguarded)) => {
+            let Unguarded { fault, program } = &unguarded;
+            let diagnostic = hints_diagnostic(alloc, text, program, fault)?;
             Ok(Judgment::Refused(diagnostic))
         }
     }

@@ -15,5 +15,6 @@ pub mod Along
 pub mod steps
 pub mod Printing
 pub mod Sources
+pub mod Refusals
 pub mod Climbing
 pub mod Above

@@ -1,6 +1,6 @@
 //! What lock inference knows of a program.
 
-ghost use Rattle.std.specs.Prelude.{◌≡◌, ◌≤◌, ◌↔◌, ◌<◌, ℕ, Some, Err, length, IsOkUnless, IfOk, OnOk, IfErr};
+ghost use Rattle.std.specs.Prelude.{◌≡◌, ◌≤◌, ◌↔◌, ◌<◌, ℕ, Some, Ok, Err, length, IsOkUnless, IfOk, OnOk, IfErr};
 ghost use Rattle.sect_hints.specs.Hints.{ObeysHints};
 ghost use Rattle.sect_names.specs.{declared.fault.SchemeFault.TheVariants.{Memory, BadK}, Schemes.{IsScheme}};
 ghost use Rattle.sect_names.specs.Verdicts.{Judges};
@@ -80,20 +80,43 @@ pub fn check_k(k: u16) -> Result<(), SchemeFault>
     Ok(())
 }
 
+/// Why a program has no scheme, and the program.
+#[derive(Drop)]
+pub struct Unguarded {
+    pub fault: SchemeFault,
+    pub program: Program,
+}
+
+/// The scheme of a program for paths of at most `k` fields. A program that has none is given back: with `BadK` where
+/// `k` is above 3, else with the first fault of the hints.
+pub fn guard(alloc: Global, program: Program, k: u16) -> Result<Scheme, Unguarded>
+    ensures scheme { IfOk result (λ s. Judges program k (Ok s)) }
+    ensures fault { IfErr result (λ u. Judges program k (Err u.fault)) }
+    ensures only { k ≤ 3 → ObeysHints program → IfErr result (λ u. u.fault ≡ Memory) }
+    ensures back { IfErr result (λ u. u.program ≡ program) }
+{
+    match parts_of(alloc, &program, k) {
+        Ok((guards, classes, graph)) => Ok(Scheme {
+            program,
+            k,
+            classes,
+            guards,
+            graph,
+        }),
+        Err(fault) => Err(Unguarded { fault, program }),
+    }
+}
+
 /// The scheme of a program for paths of at most `k` fields: `BadK` where `k` is above 3, else the first fault of the
 /// hints. `Memory` is answered only where a growth was refused.
 pub fn scheme_of(alloc: Global, program: Program, k: u16) -> Result<Scheme, SchemeFault>
     ensures judges { Judges program k result }
     ensures only { k ≤ 3 → ObeysHints program → IsOkUnless result Memory }
 {
-    let (guards, classes, graph) = parts_of(alloc, &program, k)?;
-    Ok(Scheme {
-        program,
-        k,
-        classes,
-        guards,
-        graph,
-    })
+    match guard(alloc, program, k) {
+        Ok(scheme) => Ok(scheme),
+        Err(unguarded) => Err(unguarded.fault),
+    }
 }
 
 /// The guards, the classes and the graphs of a program's scheme, or the fault.

@@ -176,13 +176,12 @@ module _ (c : CompiledView) (compiled : IsCompiled c) where
         (planned j after v theirs) pair.second m.1 o m.3 eq in
         (key_of o, x.0, y.0, x.1, y.1, both_stronger x.0 y.0 (object_mode m.0) (object_mode m.1) x.2 y.2 m.4)
 
-  -- in one state
+  -- each in its state
   pub clash_where_paths_meet : PlansClashWherePathsMeet c
-  clash_where_paths_meet i j pairs together store w v mine theirs =
-      let stay : ObjectsStay store store = λ o x at. (x, at, refl) in (
-        clash_meets i j pairs together store store store w v mine theirs stay stay,
-        meets_clash i j pairs together store store store w v mine theirs stay stay,
-      )
+  clash_where_paths_meet i j pairs together store after now w v mine theirs stay remain = (
+    clash_meets i j pairs together store after now w v mine theirs stay remain,
+    meets_clash i j pairs together store after now w v mine theirs stay remain,
+  )
 
   -- no pair, no clash
   pub never_clashing : PlansNeverClash c

@@ -5,4 +5,6 @@ mod Firsts
 mod Clashing
 mod Progressing
 mod Profiling
+mod OtherSections
+mod TakenKeys
 pub mod shared

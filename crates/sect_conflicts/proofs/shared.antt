@@ -2,3 +2,4 @@
 pub mod Stronger
 pub mod PathNames
 pub mod Selecting
+pub mod Taking

@@ -15,10 +15,10 @@ pub record IsSectionOver (c : CompiledView) (i : ℕ) (store : StoreView) (w : W
   pub at : slice_get (sections_of (program_of c).texts) i ≡ Some section
   pub pointed : IsPointed c.scheme section.thread store w
 
--- both paths denote one object over this store, each for a thread with these locals
-abbrev pub Meets : StoreView → List Datum → List Datum → PathPair → Type 0
-Meets store mine theirs pair =
-    (o : ObjectName) × (path_datum store mine pair.first ≡ Refers o) × (path_datum store theirs pair.second ≡ Refers o)
+-- both paths denote one object, each over its store for a thread with its locals
+abbrev pub Meets : StoreView → StoreView → List Datum → List Datum → PathPair → Type 0
+Meets store after mine theirs pair =
+    (o : ObjectName) × (path_datum store mine pair.first ≡ Refers o) × (path_datum after theirs pair.second ≡ Refers o)
 
 -- where two sections ask for a key in every state, in modes that aren't compatible, their plans clash, though each is
 -- made in another state
@@ -27,16 +27,16 @@ PlansAlwaysClash c =
     (i j : ℕ) (k : Key) → AlwaysClash c i j k → (store after : StoreView) (mine theirs : List Datum)
     → Clash (plan_at c i store mine) (plan_at c j after theirs)
 
--- else their plans clash in exactly the states where some pair of the paths denotes one object
+-- else their plans clash exactly where some pair of the paths denotes one object, each as its plan is made, in two
+-- states of a run: what exists in both exists in some state now
 abbrev pub PlansClashWherePathsMeet : CompiledView → Type 0
 PlansClashWherePathsMeet c =
-    (i j : ℕ) (pairs : List PathPair) → MayGoTogether c i j pairs → (store : StoreView) (w v : WorkView)
-    → IsSectionOver c i store w → IsSectionOver c j store v
-    → Clash (plan_at c i store w.locals) (plan_at c j store v.locals)
-    ↔ ((pair : PathPair) × Has pairs pair × Meets store w.locals v.locals pair)
+    (i j : ℕ) (pairs : List PathPair) → MayGoTogether c i j pairs → (store after now : StoreView) (w v : WorkView)
+    → IsSectionOver c i store w → IsSectionOver c j after v → ObjectsStay store now → ObjectsStay after now
+    → Clash (plan_at c i store w.locals) (plan_at c j after v.locals)
+    ↔ ((pair : PathPair) × Has pairs pair × Meets store after w.locals v.locals pair)
 
--- where there is no such pair, their plans don't clash, though each is made in another state of a run: what exists in
--- both states exists in some state now
+-- where there is no such pair, their plans don't clash
 abbrev pub PlansNeverClash : CompiledView → Type 0
 PlansNeverClash c =
     (i j : ℕ) → MayGoTogether c i j [] → (store after now : StoreView) (w v : WorkView)

@@ -3,4 +3,5 @@ pub mod Comparing
 pub mod Laws
 pub mod Naming
 pub mod Selecting
+pub mod Taken
 pub mod steps

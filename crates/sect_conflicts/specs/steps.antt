@@ -2,3 +2,4 @@
 pub mod Steady
 pub mod Profiles
 pub mod Progress
+pub mod Taking

@@ -79,7 +79,7 @@ fn clashes(wish: Grip, other: Grip) -> bool
 }
 
 /// The mode in which a list has the key of a wish, if that isn't compatible with the wish's mode.
-fn mode_against(wish: Grip, others: &[Grip]) -> Option<Mode>
+pub fn mode_against(wish: Grip, others: &[Grip]) -> Option<Mode>
     ensures some { IfSome result (λ n. Has others.now (grip wish.key n) × (are_compatible wish.mode n ≡ false)) }
     ensures none { IfNone result ((y : GripOf) → Has others.now y → wish.key ≡ y.key
         → are_compatible wish.mode y.mode ≡ false → ⊥) }

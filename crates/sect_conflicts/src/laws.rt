@@ -9,7 +9,8 @@ pub fn sections_always_clash()
     ensures { (c : CompiledView) → PlansAlwaysClash c }
 {}
 
-/// Else their plans clash in exactly the states where some pair of the paths that are named denotes one object.
+/// Else their plans clash exactly where some pair of the paths that are named denotes one object, each path as its plan
+/// is made.
 pub fn plans_clash_where_paths_meet()
     ensures { (c : CompiledView) → IsCompiled c → PlansClashWherePathsMeet c }
 {}

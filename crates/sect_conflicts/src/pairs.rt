@@ -15,7 +15,7 @@ use sect_points::SiteSet;
 use std::alloc::{AllocError, Global};
 
 /// Whether two sets have a site in common.
-fn share_site(sites: &SiteSet, others: &SiteSet) -> bool
+pub fn share_site(sites: &SiteSet, others: &SiteSet) -> bool
     ensures { IsTrue result ↔ ((site : ℕ) × InBoth sites.now.words others.now.words site) }
 {
     sites.common(others).is_some()

@@ -11,7 +11,7 @@ use Rattle.sect_chains.specs.Chains.{AreChains}
 use Rattle.sect_emit.specs.Compiled.{CompiledView, IsCompiled}
 use Rattle.sect_emit.specs.Explaining.{deed_text, explained_lines, section_at, section_deed, section_explained}
 use Rattle.sect_emit.specs.{Explaining.{IsChained, IsExplained}, Listing.{by_number}}
-use Rattle.sect_emit.proofs.Numbered.{one_behind}
+use Rattle.sect_emit.proofs.shared.Numbered.{one_behind}
 
 -- the section that stands there
 module _ (v : CompiledView) (i : ℕ) (s : SectionView)

@@ -14,7 +14,7 @@ use Rattle.sect_types.specs.{Sound.{AreAlike, IsSound}, Kinds.{compares_integers
 use Rattle.sect_types.specs.{Statements.{TextView, Stop, Do, Choose, Loop, Section}, Traces.{node_count}}
 use Rattle.sect_graph.specs.{declared.flow.Node.{Node}, Layout.{entry_of, nodes_of, flow_nodes}}
 use Rattle.sect_names.specs.Locks.{IsField}
-use Rattle.sect_emit.specs.steps.Naming.{IsLocalOf, IsValueOf, IsBaseOf, IsActionOf, IsConditionOf, AreNodesOf}
+use Rattle.sect_emit.specs.Naming.{IsLocalOf, IsValueOf, IsBaseOf, IsActionOf, IsConditionOf, AreNodesOf}
 use Rattle.sect_types.specs.declared.expansion.action.Base.TheVariants as base
 use Rattle.sect_types.specs.declared.expansion.action.Value.TheVariants as value
 

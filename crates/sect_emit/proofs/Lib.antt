@@ -19,8 +19,6 @@ mod Working
 mod KnownLemmas
 mod Labelled
 mod Noded
-mod Numbered
-mod Graphed
 mod Explained
 pub mod shared
 mod OneCertificate

@@ -12,7 +12,8 @@ use Rattle.sect_names.specs.{Laws.{IsSoundStep, StandsIn}, Locks.{IsLockOf}, Nee
 use Rattle.sect_names.specs.Printing.{IsNamed, AreNamed}
 use Rattle.sect_names.proofs.shared.Named.{named_lock}
 use Rattle.sect_emit.specs.{Compiled.{CompiledView, IsCompiled}, Explaining.{section_at}}
-use Rattle.sect_emit.proofs.{Explained.{section_here}, Graphed.{section_graph}}
+use Rattle.sect_emit.proofs.Explained.{section_here}
+use Rattle.sect_emit.proofs.shared.Graphed.{section_graph}
 use Rattle.sect_front.specs.declared.tree.Locking.TheVariants as locking
 
 -- what the end of a section generates names nothing

@@ -9,6 +9,7 @@ pub mod Graphed
 pub mod Labels
 pub mod Listing
 pub mod ModeTests
+pub mod Naming
 pub mod NeededAccesses
 pub mod Plan
 pub mod PlanLaws

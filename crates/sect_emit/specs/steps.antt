@@ -2,6 +2,5 @@
 pub mod Inferred
 pub mod Wishes
 pub mod Spelled
-pub mod Naming
 pub mod Known
 pub mod Certifying

@@ -9,7 +9,7 @@ ghost use Rattle.sect_emit.specs.Words.{IsChainNamed};
 ghost use Rattle.sect_emit.specs.Explaining.{deed_text, node_text, widest, line_end, step_line, lock_line, chain_lines};
 ghost use Rattle.sect_emit.specs.Explaining.{chains_lines, explained_lines, section_explained, IsChained};
 ghost use Rattle.sect_emit.specs.Explaining.{IsExplanation};
-ghost use Rattle.sect_emit.specs.steps.Naming.{AreNodesOf};
+ghost use Rattle.sect_emit.specs.Naming.{AreNodesOf};
 
 use crate::compiled::Compiled;
 use crate::printing::put_thread_name;

@@ -8,7 +8,7 @@ ghost use Rattle.sect_names.specs.Printing.{IsNamed, AreNamed};
 ghost use Rattle.sect_emit.specs.Labels.{thread_name};
 ghost use Rattle.sect_emit.specs.Listing.{successors_text, node_line, exit_line, graph_lines, grip_line, path_line};
 ghost use Rattle.sect_emit.specs.Listing.{thread_lines, section_lines, thread_listed, section_listed, listing_text};
-ghost use Rattle.sect_emit.specs.steps.Naming.{AreNodesOf};
+ghost use Rattle.sect_emit.specs.Naming.{AreNodesOf};
 
 use crate::compiled::Compiled;
 use crate::plan::{Grip, object_mode};

@@ -4,7 +4,7 @@ ghost use Rattle.std.specs.{Prelude.{◌≡◌, ◌<◌, ◌++◌, length, codes
 ghost use Rattle.sect_names.specs.{Locks.{IsField}, Printing.{variable_text}};
 ghost use Rattle.sect_emit.specs.Labels.{record_name, operator_text, value_text, access_text, target_text, action_text};
 ghost use Rattle.sect_emit.specs.Labels.{condition_text, label_text};
-ghost use Rattle.sect_emit.specs.steps.Naming.{IsLocalOf, IsValueOf, IsBaseOf, IsActionOf, IsConditionOf, IsLabelOf};
+ghost use Rattle.sect_emit.specs.Naming.{IsLocalOf, IsValueOf, IsBaseOf, IsActionOf, IsConditionOf, IsLabelOf};
 ghost use Rattle.sect_points.specs.declared.holders.Variable.TheVariants as variable;
 
 use sect_front::Operator;

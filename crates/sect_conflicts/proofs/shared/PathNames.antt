@@ -17,7 +17,7 @@ use Rattle.sect_conflicts.proofs.shared.Selecting.{selected}
 use Rattle.sect_names.specs.declared.lock.Lock.TheVariants as lock
 
 -- a list that has something stands at its place
-stands_there : {X : Type 0} (xs : List (List X)) (i : ℕ) (x : X) → Has (slice_index_or xs i []) x
+pub stands_there : {X : Type 0} (xs : List (List X)) (i : ℕ) (x : X) → Has (slice_index_or xs i []) x
     → slice_get xs i ≡ Some (slice_index_or xs i [])
 stands_there [] i x h = absurd h
 stands_there (y ∷ xs) zero x h = refl

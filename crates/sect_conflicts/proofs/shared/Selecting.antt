@@ -1,5 +1,5 @@
 -- Elements that are chosen from a list.
-use Rattle.std.proofs.Common.{◌≡◌, ℕ, ◌+◌, ◌<◌, List, [], ◌∷◌, ◌++◌, length, take, get_or, refl, sym, ap, ◌∙◌}
+use Rattle.std.proofs.Common.{◌≡◌, ◌⊎◌, ℕ, ◌+◌, ◌<◌, List, [], ◌∷◌, ◌++◌, length, take, get_or, refl, sym, ap, ◌∙◌}
 use Rattle.std.proofs.{Common.{subst, inl, inr}, lemmas.List.{append_assoc, append-nil, get_or_default}}
 use Rattle.sect_lemmas.proofs.Making.{last_of}
 use Rattle.sect_lemmas.specs.Lists.{Has}
@@ -23,6 +23,17 @@ module _ {X : Type 0} (P : X → Type 0) where
       subst (λ zs. Has zs y) (sym is) (inr (all_selected xs rest more y k q))
   all_selected (x ∷ xs) ys (inr (fails, more)) y (inl e) q = absurd (fails (subst P (sym e) q))
   all_selected (x ∷ xs) ys (inr (fails, more)) y (inr k) q = all_selected xs ys more y k q
+
+  -- each of the list is chosen or doesn't have the property
+  pub chosen_or_not : (xs ys : List X) → Selects P xs ys → (y : X) → Has xs y → Has ys y ⊎ (P y → ⊥)
+  chosen_or_not [] ys none y h = absurd h
+  chosen_or_not (x ∷ xs) ys (inl (rest, p, is, more)) y (inl e) = inl (subst (λ zs. Has zs y) (sym is) (inl e))
+  chosen_or_not (x ∷ xs) ys (inl (rest, p, is, more)) y (inr k) = elim (chosen_or_not xs rest more y k) [
+    | inl h ↦ inl (subst (λ zs. Has zs y) (sym is) (inr h))
+    | inr fails ↦ inr fails
+  ]
+  chosen_or_not (x ∷ xs) ys (inr (fails, more)) y (inl e) = inr (subst (λ z. P z → ⊥) e fails)
+  chosen_or_not (x ∷ xs) ys (inr (fails, more)) y (inr k) = chosen_or_not xs ys more y k
 
   -- of two lists one after the other
   selects_both : (xs ys chosen more_chosen : List X) → Selects P xs chosen → Selects P ys more_chosen

@@ -3,7 +3,8 @@ use Rattle.std.specs.{Prelude.{slice_get}, String.{string_bytes}}
 use Rattle.sect_types.specs.{Programs.{ProgramView}, Sections.{sections_of, section_shown}}
 use Rattle.sect_graph.specs.Graphs.{GraphView}
 use Rattle.sect_names.specs.Schemes.{SchemeView}
-use Rattle.sect_emit.proofs.{Explained.{explained}, Graphed.{section_graph, section_named}, Numbered.{on_ok}}
+use Rattle.sect_emit.proofs.Explained.{explained}
+use Rattle.sect_emit.proofs.shared.{Graphed.{section_graph, section_named}, Numbered.{on_ok}}
 use Rattle.sect_emit.proofs.explaining.put_explained_section.Goals as goal
 
 pub put_explained-requires-clause-nodes : goal.put_explained-requires-clause-nodes

@@ -4,7 +4,7 @@ use Rattle.sect_types.specs.{Programs.{ProgramView}, Statements.{Stop}}
 use Rattle.sect_graph.specs.Layout.{flow_nodes}
 use Rattle.sect_names.specs.Schemes.{SchemeView}
 use Rattle.sect_emit.specs.Explaining.{deed_text}
-use Rattle.sect_emit.proofs.{Graphed.{thread_graph, thread_named}, Numbered.{on_ok}}
+use Rattle.sect_emit.proofs.shared.{Graphed.{thread_graph, thread_named}, Numbered.{on_ok}}
 use Rattle.sect_emit.proofs.graphs.put_thread_node.Goals as goal
 
 pub put_deed-requires : goal.put_deed-requires

@@ -3,7 +3,7 @@ use Rattle.std.specs.Prelude.{slice_get}
 use Rattle.sect_types.specs.{Programs.{ProgramView}, Statements.{Stop}}
 use Rattle.sect_graph.specs.Layout.{flow_nodes}
 use Rattle.sect_names.specs.Schemes.{SchemeView}
-use Rattle.sect_emit.proofs.Graphed.{thread_graph}
+use Rattle.sect_emit.proofs.shared.Graphed.{thread_graph}
 use Rattle.sect_emit.proofs.graphs.thread_flow.Goals as goal
 
 pub returns : goal.returns

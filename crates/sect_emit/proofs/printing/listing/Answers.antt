@@ -4,7 +4,7 @@ use Rattle.sect_lemmas.proofs.Places.{at_of}
 use Rattle.sect_types.specs.{Programs.{ProgramView}, Sections.{sections_of}}
 use Rattle.sect_names.specs.Schemes.{SchemeView}
 use Rattle.sect_emit.specs.Listing.{by_number, thread_listed, section_listed}
-use Rattle.sect_emit.proofs.Numbered.{added_on, all_added}
+use Rattle.sect_emit.proofs.shared.Numbered.{added_on, all_added}
 use Rattle.sect_emit.proofs.printing.listing.Goals as goal
 
 pub loop-thread-preserved : goal.loop-thread-preserved

@@ -2,7 +2,7 @@ use Rattle.std.proofs.Common.{◌++◌, length, ap, ◌∙◌, arith, append_ass
 use Rattle.std.specs.String.{string_bytes}
 use Rattle.sect_lemmas.proofs.Places.{at_of}
 use Rattle.sect_emit.specs.Listing.{by_number, node_line, exit_line}
-use Rattle.sect_emit.proofs.Numbered.{added_on, all_added, on_ok}
+use Rattle.sect_emit.proofs.shared.Numbered.{added_on, all_added, on_ok}
 use Rattle.sect_emit.proofs.printing.put_graph.Goals as goal
 
 pub loop-node-preserved : goal.loop-node-preserved

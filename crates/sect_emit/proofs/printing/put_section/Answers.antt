@@ -4,7 +4,7 @@ use Rattle.sect_types.specs.{Programs.{ProgramView}, Sections.{SectionView, sect
 use Rattle.sect_lemmas.proofs.Places.{one_at}
 use Rattle.sect_names.specs.{Schemes.{SchemeView}, Printing.{AreNamed}}
 use Rattle.sect_emit.specs.Listing.{section_lines}
-use Rattle.sect_emit.proofs.{Graphed.{section_graph, section_named}, Numbered.{on_ok}}
+use Rattle.sect_emit.proofs.shared.{Graphed.{section_graph, section_named}, Numbered.{on_ok}}
 use Rattle.sect_emit.proofs.shared.Sets.{set_named}
 use Rattle.sect_emit.proofs.printing.put_section.Goals as goal
 

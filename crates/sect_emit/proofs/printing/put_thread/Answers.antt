@@ -3,7 +3,7 @@ use Rattle.std.specs.String.{string_bytes}
 use Rattle.sect_types.specs.Programs.{ProgramView}
 use Rattle.sect_names.specs.Schemes.{SchemeView}
 use Rattle.sect_emit.specs.Listing.{thread_lines}
-use Rattle.sect_emit.proofs.{Graphed.{thread_graph, thread_named}, Numbered.{on_ok}}
+use Rattle.sect_emit.proofs.shared.{Graphed.{thread_graph, thread_named}, Numbered.{on_ok}}
 use Rattle.sect_emit.proofs.printing.put_thread.Goals as goal
 
 pub put_thread_lines-requires-clause-named : goal.put_thread_lines-requires-clause-named

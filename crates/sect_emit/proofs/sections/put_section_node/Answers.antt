@@ -2,7 +2,8 @@ use Rattle.std.proofs.Common.{◌≡◌, ◌++◌, Some, ap, ◌∙◌, subst}
 use Rattle.std.specs.{Prelude.{slice_get}, String.{string_bytes}}
 use Rattle.sect_types.specs.{Programs.{ProgramView}, Sections.{sections_of, section_shown}}
 use Rattle.sect_names.specs.Schemes.{SchemeView}
-use Rattle.sect_emit.proofs.{Explained.{deed_here}, Graphed.{section_graph, section_named}, Numbered.{on_ok}}
+use Rattle.sect_emit.proofs.Explained.{deed_here}
+use Rattle.sect_emit.proofs.shared.{Graphed.{section_graph, section_named}, Numbered.{on_ok}}
 use Rattle.sect_emit.proofs.sections.put_section_node.Goals as goal
 
 pub put_deed-requires : goal.put_deed-requires

@@ -3,7 +3,8 @@ use Rattle.std.specs.Prelude.{slice_get, slice_index_or}
 use Rattle.sect_types.specs.{Programs.{ProgramView}, Sections.{sections_of, section_shown}}
 use Rattle.sect_graph.specs.Graphs.{GraphView}
 use Rattle.sect_names.specs.Schemes.{SchemeView}
-use Rattle.sect_emit.proofs.{Explained.{set_here, chained_here}, Graphed.{section_graph}}
+use Rattle.sect_emit.proofs.Explained.{set_here, chained_here}
+use Rattle.sect_emit.proofs.shared.Graphed.{section_graph}
 use Rattle.sect_emit.proofs.sections.section_chains.Goals as goal
 
 pub returns-clause-chained : goal.returns-clause-chained

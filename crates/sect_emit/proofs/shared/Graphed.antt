@@ -5,7 +5,7 @@ use Rattle.sect_types.specs.{Programs.{ProgramView, environment_at}, Sound.{IsSo
 use Rattle.sect_types.specs.Sections.{SectionView, sections_of}
 use Rattle.sect_graph.specs.{declared.flow.Node.{Node}, Graphs.{GraphView}, Layout.{flow_nodes}}
 use Rattle.sect_emit.specs.Compiled.{CompiledView, IsCompiled}
-use Rattle.sect_emit.specs.steps.Naming.{AreNodesOf}
+use Rattle.sect_emit.specs.Naming.{AreNodesOf}
 use Rattle.sect_emit.proofs.Labelled.{flow_there}
 
 module _ (c : CompiledView) (compiled : IsCompiled c) (gs : GraphView) (graphs : gs ≡ c.scheme.graphs) where

@@ -1,0 +1,9 @@
+use Rattle.std.proofs.Common.{◌≡◌, ◌++◌, drop}
+use Rattle.std.specs.String.{string_bytes}
+use Rattle.sect_emit.specs.Listing.{by_number}
+use Rattle.sect_c.specs.Declarations.{opening_c}
+use Rattle.sect_c.proofs.program.put_openings.Given as goal
+
+abbrev pub invariant-loop-of : goal.invariant-loop-of
+invariant-loop-of l = (let line = opening_c l.program in string_bytes l.text
+    ++ by_number line l.of (drop l.of l.program.records) ≡ string_bytes l.fn.text ++ by_number line 0 l.program.records)

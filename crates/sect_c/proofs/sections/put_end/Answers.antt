@@ -1,0 +1,13 @@
+use Rattle.std.proofs.lemmas.List.{append_assoc}
+use Rattle.sect_c.proofs.sections.put_end.Goals as goal
+
+pub returns : goal.returns
+returns c =
+    simp (
+      c.in_ok-write.ensures.bytes,
+      c.in_ok-push_str-3.ensures.bytes,
+      c.in_ok-push_str-2.ensures.bytes,
+      c.in_ok-put_place.ensures,
+      c.in_ok-push_str.ensures.bytes,
+      append_assoc,
+    )

@@ -1,0 +1,15 @@
+use Rattle.std.proofs.lemmas.List.{append_assoc}
+use Rattle.sect_c.proofs.statements.put_opening.Goals as goal
+
+pub returns : goal.returns
+returns c =
+    simp (
+      c.in_ok-push_str-4.ensures.bytes,
+      c.in_ok-put_label.ensures,
+      c.in_ok-push_str-3.ensures.bytes,
+      c.in_ok-put_fuel.ensures,
+      c.in_ok-push_str-2.ensures.bytes,
+      c.in_ok-put_place.ensures,
+      c.in_ok-push_str.ensures.bytes,
+      append_assoc,
+    )

@@ -1,0 +1,6 @@
+use Rattle.std.proofs.Common.{◌<◌, ℕ}
+use Rattle.sect_conflicts.specs.steps.Taking.{IsPathMetBy}
+use Rattle.sect_conflicts.proofs.meeting.is_path_met.Given as goal
+
+abbrev pub invariant-loop-section : goal.invariant-loop-section
+invariant-loop-section l = (j : ℕ) → j < l.section → IsPathMetBy l.others.compiled.now l.others.thread l.lock j → ⊥

@@ -38,7 +38,7 @@ use Rattle.sect_world.specs.{Accesses.{change_in, Asks}, Excluding.{IsInSection}
 use Rattle.sect_world.specs.Held.{locked_object, may_read, may_write, Loading, next_access}
 use Rattle.sect_world.specs.{Kept.{HaveTheirClass, IsPlaced, IsWellKept}, Runs.{RunsTo, IsRun}}
 use Rattle.sect_world.specs.Secured.{AllSecured, Good}
-use Rattle.sect_world.specs.Together.{IsIn, HasEntered, GoTogether, taken_by, taken_after, TogetherNeverWaitForHeld}
+use Rattle.sect_world.specs.Together.{IsIn, HasEntered, GoTogether, taken_by, taken_after, ClashOnNoHeldKey}
 use Rattle.sect_world.proofs.AllowedChanges.{IsAllowed, asked_is_allowed, LeavesAlone, left_alone, next_is_none}
 use Rattle.sect_world.proofs.Denoting.{path_stays}
 use Rattle.sect_world.proofs.Excluding.{reader_and_writer_clash, readers_and_writers_exclude}
@@ -53,7 +53,7 @@ use Rattle.sect_world.proofs.AccessRights.{at_locked, own_grows, other_grows, to
 use Rattle.sect_world.proofs.SecuredSteps.{next_not_held}
 use Rattle.sect_world.proofs.StepChanges.{count_after, count-after_own, count-after_other, change_is_asked}
 use Rattle.sect_world.proofs.Together.{state_with, taken_next, each_taken, starts_outside, IsAsked, AllFollow}
-use Rattle.sect_world.proofs.Together.{same_stays, deed_follows, all_follow, together_never_wait}
+use Rattle.sect_world.proofs.Together.{same_stays, deed_follows, all_follow, clash_on_no_taken_key}
 use Rattle.sect_points.specs.declared.holders.Variable.TheVariants as variable
 use Rattle.sect_names.specs.declared.lock.Lock.TheVariants as lock
 use Rattle.sect_modes.specs.declared.key.Key.TheVariants as key
@@ -609,15 +609,15 @@ module _ (c : CompiledView) where
           starts_keep trace s run
 
     -- a section that goes together with another never waits for what that holds
-    pub held_never_wait : TogetherNeverWaitForHeld c
-    held_never_wait fuel trace s run t u th other at there i j together mine theirs k m n has wants =
+    pub clash_on_no_held_key : ClashOnNoHeldKey c
+    clash_on_no_held_key fuel trace s run t u th other at there i j together mine theirs k m n has wants =
         let keeps = all_keep fuel trace s run t th at in
         let differ : t ≢ u = λ same. (let one : th ≡ other =
         some_injective th other (sym at ∙ ap (slice_get s.threads) same ∙ there) in
         in_or_entered th.position (section_in i th.position mine)
         (ap (λ (x : ThreadState). x.position) one ∙ theirs.0)) in
         elim (keeps.keys (grip k m) has) [
-          | inl took ↦ together_never_wait c ok never fuel trace s run t u th other at there i j together mine theirs k
+          | inl took ↦ clash_on_no_taken_key c ok never fuel trace s run t u th other at there i j together mine theirs k
               m n took wants
           | inr (inside, (o, past, is)) ↦ absurd
               ((keeps.others u other differ there).1 o i j n past mine theirs together

@@ -20,7 +20,7 @@ use Rattle.sect_world.specs.declared.event.Event.{Event}
 use Rattle.sect_world.specs.Events.{entering, taking, beginning, giving_back, with_frame, acting, after_act, frame_out}
 use Rattle.sect_world.specs.{Events.{grips_of, step_in, changed_by, MayDo}, Kept.{IsWellKept}, Runs.{RunsTo, IsRun}}
 use Rattle.sect_world.specs.Together.{IsIn, HasEntered, taken_by, taken_after, ClashingSectionsExclude}
-use Rattle.sect_world.specs.Together.{TogetherNeverWait}
+use Rattle.sect_world.specs.Together.{ClashOnNoTakenKey}
 use Rattle.sect_world.proofs.{AllowedChanges.{sites_stay}, KeptPointed.{pointed_thread, its_section}}
 use Rattle.sect_world.proofs.{KeptStates.{runs_are_well_kept}, LongerRuns.{run_on}}
 
@@ -314,8 +314,8 @@ module _ (c : CompiledView) where
         (λ t th at. follows_outside (start c fuel).store th (starts_outside c fuel t th at)) trace s run
 
   -- a section that goes together with another never waits for what that has taken
-  pub together_never_wait : IsCompiled c → PlansNeverClash c → TogetherNeverWait c
-  together_never_wait ok never fuel trace s run t u th other at there i j together mine theirs k m n has wants =
+  pub clash_on_no_taken_key : IsCompiled c → PlansNeverClash c → ClashOnNoTakenKey c
+  clash_on_no_taken_key ok never fuel trace s run t u th other at there i j together mine theirs k m n has wants =
       by (are_compatible m n) refl
     where
       a : IsAsked s.store th (taken_after t trace []) i

@@ -1,6 +1,6 @@
 -- What is told of a thread of a state. The methods of `World` cite it.
-use Rattle.std.specs.Prelude.{ℕ, Option, Some, None, slice_get}
-use Rattle.sect_types.specs.declared.meaning.store.End.{End}
+use Rattle.std.specs.Prelude.{ℕ, [], Option, Some, None, slice_get}
+use Rattle.sect_types.specs.{declared.meaning.store.End.{End}, Meaning.{WorkView}}
 use Rattle.sect_modes.specs.{declared.mode.Mode.{Mode}, declared.key.Key.{Key}}
 use Rattle.sect_emit.specs.{declared.plan.Grip.{Grip}, Plan.{held_mode}, State.{ThreadState, State}}
 
@@ -27,3 +27,11 @@ end_in (Some th) = th.frame.ended
 -- how a thread has ended, if it has
 abbrev pub end_of : State → ℕ → Option End
 end_of s t = end_in (slice_get s.threads t)
+
+abbrev pub work_in : Option ThreadState → WorkView
+work_in None = record { locals = []; fuel = 0; made = 0; printed = [] }
+work_in (Some th) = th.frame.work
+
+-- what a thread works with
+abbrev pub work_of : State → ℕ → WorkView
+work_of s t = work_in (slice_get s.threads t)

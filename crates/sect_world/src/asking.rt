@@ -11,7 +11,7 @@ use crate::runner::Runner;
 use crate::trace::Trace;
 use crate::turned::{EventKind, Turned};
 use sect_emit::Grip;
-use sect_table::{Answer, Grant, Table, TableFault};
+use sect_table::{Answer, Grant, Table};
 use std::alloc::AllocError;
 
 /// The first key that a thread wants.
@@ -76,15 +76,12 @@ pub fn ask(
     }
     trace.reserve(1)?;
     let Grip { key, mode } = wish(&runners[thread as usize]);
-    match table.request(thread, key, mode) {
-        Ok(Answer::Granted) => {
+    match table.admit(thread, key, mode)? {
+        Answer::Granted => {
             take(trace, runners, Grant { thread, key, mode });
             Ok(Answer::Granted)
         }
-        Ok(Answer::Queued) => Ok(Answer::Queued),
-        Err(TableFault::Memory) => Err(AllocError),
-        Err(TableFault::AlreadyWaiting) => unreachable!(),
-        Err(TableFault::AlreadyHeld) => unreachable!(),
+        Answer::Queued => Ok(Answer::Queued),
     }
 }
 

@@ -2,16 +2,24 @@
 
 use crate::runner::Runner;
 use sect_emit::{Compiled, Grip};
+use sect_front::Items;
 use sect_modes::{Key, Mode, at_least};
 use sect_store::{Cell, Object, Store};
-use sect_types::{Datum, ObjectName};
+use sect_types::{Datum, ObjectName, ValueType};
 use std::alloc::AllocError;
 
 /// The most objects that a thread copies.
 const MOST_OBJECTS: usize = 64;
 
-/// Whether a key, held in a mode, is enough to read the object of this name and class. Of records with a guard nothing
-/// is said here.
+/// An object that a thread comes to, and the number of its record, if that is known. Who comes to an object by the
+/// object's own key needn't know it: an object of a record that has a guard is locked by the guard's key alone.
+#[derive(Clone, Copy)]
+struct Found {
+    name: ObjectName,
+    of: Option<u16>,
+}
+
+/// Whether a key, held in a mode, is enough to read the object of this name and class, of a record without a guard.
 fn is_enough(grip: Grip, name: ObjectName, class: Option<u16>) -> bool {
     match grip.key {
         Key::All => grip.mode == Mode::Exclusive,
@@ -21,37 +29,67 @@ fn is_enough(grip: Grip, name: ObjectName, class: Option<u16>) -> bool {
     }
 }
 
-/// Whether who holds these keys may read an object of this name.
-fn may_read(compiled: &Compiled, held: &[Grip], name: ObjectName, object: &Object) -> bool {
+/// The global that guards the record of an object, if one does.
+fn guard_of(compiled: &Compiled, found: Found) -> Option<u16> {
+    compiled.scheme().guards().guard(found.of?)
+}
+
+/// Whether who holds these keys may read an object: it, or what guards its record, is locked.
+fn may_read(compiled: &Compiled, held: &[Grip], found: Found, object: &Object) -> bool {
+    let (name, site) = match guard_of(compiled, found) {
+        None => (found.name, object.site()),
+        Some(guard) => (ObjectName::Global(guard), guard),
+    };
     let numbers = compiled.scheme().classes().numbers();
-    let class = numbers.get(object.site() as usize).copied();
+    let class = numbers.get(site as usize).copied();
     held.iter().any(|grip| is_enough(*grip, name, class))
 }
 
-/// Adds a name, unless it is there.
-fn put_name(names: &mut Vec<ObjectName>, name: ObjectName) -> Result<(), AllocError> {
-    if !names.contains(&name) {
-        names.push(name)?;
+/// Adds an object, unless it is there.
+fn put_found(all: &mut Vec<Found>, found: Found) -> Result<(), AllocError> {
+    if !all.iter().any(|known| known.name == found.name) {
+        all.push(found)?;
     }
     Ok(())
 }
 
-/// Adds the names of the objects to which data refer.
-fn put_names(names: &mut Vec<ObjectName>, data: &[Datum]) -> Result<(), AllocError> {
-    for datum in data {
-        if let Datum::Refers(name) = datum {
-            put_name(names, *name)?;
+/// The record of the objects to which a field or a local of this type refers, if it is known.
+fn record_of(types: Option<&Items<ValueType>>, place: usize) -> Option<u16> {
+    match types?.as_slice().get(place) {
+        Some(ValueType::Refers(of)) => Some(*of),
+        Some(ValueType::Int) => None,
+        None => None,
+    }
+}
+
+/// Adds the objects to which data refer, where these types are known of them.
+fn put_referred(
+    all: &mut Vec<Found>,
+    data: &[Datum],
+    types: Option<&Items<ValueType>>,
+) -> Result<(), AllocError> {
+    for place in 0..data.len() {
+        if let Datum::Refers(name) = data[place] {
+            let of = record_of(types, place);
+            put_found(all, Found { name, of })?;
         }
     }
     Ok(())
 }
 
-/// Adds the names of the objects whose keys these are.
-fn put_keys(names: &mut Vec<ObjectName>, grips: &[Grip]) -> Result<(), AllocError> {
+/// Adds the objects whose keys these are.
+fn put_keys(all: &mut Vec<Found>, globals: &[u16], grips: &[Grip]) -> Result<(), AllocError> {
     for grip in grips {
         match grip.key {
-            Key::Global(global) => put_name(names, ObjectName::Global(global))?,
-            Key::Made { thread, number } => put_name(names, ObjectName::Made { thread, number })?,
+            Key::Global(global) => {
+                let name = ObjectName::Global(global);
+                let of = globals.get(global as usize).copied();
+                put_found(all, Found { name, of })?;
+            }
+            Key::Made { thread, number } => {
+                let name = ObjectName::Made { thread, number };
+                put_found(all, Found { name, of: None })?;
+            }
             Key::All | Key::Class(_) => {}
         }
     }
@@ -70,27 +108,64 @@ fn put_cells(cells: &mut Vec<Cell>, name: ObjectName, fields: &[Datum]) -> Resul
     Ok(())
 }
 
+/// Whether the record of this number is guarded by a global whose key is among these.
+fn is_guarded_by(compiled: &Compiled, held: &[Grip], of: u16) -> bool {
+    match compiled.scheme().guards().guard(of) {
+        None => false,
+        Some(guard) => held.iter().any(|grip| grip.key == Key::Global(guard)),
+    }
+}
+
+/// Adds the globals of records that are guarded by the keys that are held: the section may name them, and has no key of
+/// theirs.
+fn put_guarded(all: &mut Vec<Found>, compiled: &Compiled, held: &[Grip]) -> Result<(), AllocError> {
+    let globals = compiled.scheme().program().globals();
+    for global in 0..u16::MAX {
+        let Some(of) = globals.get(global as usize) else {
+            break;
+        };
+        let of = *of;
+        if all.len() < MOST_OBJECTS && is_guarded_by(compiled, held, of) {
+            let name = ObjectName::Global(global);
+            put_found(all, Found { name, of: Some(of) })?;
+        }
+    }
+    Ok(())
+}
+
+/// The types of the fields of an object's record, if that is known.
+fn types_of(compiled: &Compiled, of: Option<u16>) -> Option<&Items<ValueType>> {
+    compiled.scheme().program().records().get(of? as usize)
+}
+
 /// What the fields of the objects hold that a thread with this plan may read and that it comes to first: those of its
-/// keys, those to which its locals refer, and those to which these refer, and so on.
+/// keys, globals that these guard, those to which its locals refer, and those to which these refer, and so on.
 pub fn copied(
     compiled: &Compiled,
+    thread: u16,
     runner: &Runner,
     store: &Store,
 ) -> Result<Vec<Cell>, AllocError> {
     let alloc = *runner.wanted.allocator();
-    let mut names = Vec::new(alloc);
-    put_keys(&mut names, runner.wanted.as_slice())?;
-    put_names(&mut names, runner.work.locals())?;
+    let program = compiled.scheme().program();
+    let mut all = Vec::new(alloc);
+    put_keys(&mut all, program.globals(), runner.wanted.as_slice())?;
+    put_guarded(&mut all, compiled, runner.wanted.as_slice())?;
+    put_referred(
+        &mut all,
+        runner.work.locals(),
+        program.locals().get(thread as usize),
+    )?;
     let mut cells = Vec::new(alloc);
     for at in 0..MOST_OBJECTS {
-        let Some(name) = names.get(at) else {
+        let Some(found) = all.get(at) else {
             break;
         };
-        let name = *name;
-        if let Some(object) = store.object(name) {
-            if may_read(compiled, runner.wanted.as_slice(), name, object) {
-                put_cells(&mut cells, name, object.fields())?;
-                put_names(&mut names, object.fields())?;
+        let found = *found;
+        if let Some(object) = store.object(found.name) {
+            if may_read(compiled, runner.wanted.as_slice(), found, object) {
+                put_cells(&mut cells, found.name, object.fields())?;
+                put_referred(&mut all, object.fields(), types_of(compiled, found.of))?;
             }
         }
     }

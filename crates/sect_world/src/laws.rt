@@ -7,11 +7,12 @@ ghost use Rattle.sect_world.specs.{Accesses.{ChangesAreAccesses, StepsLookWhereT
 ghost use Rattle.sect_world.specs.Laws.{StatesAreWellKept, NoStateIsStuck, SomethingHappens, AccessesAreHeld};
 ghost use Rattle.sect_world.specs.{Laws.{EveryRunIsSerial, EveryOrderIsRun}, Excluding.{ReadersAndWritersExclude}};
 ghost use Rattle.sect_world.specs.{HeldPaths.{HoldersHoldTheClass, BeginningsAreHeld, NeededPathsStay}, Secured.{Good}};
-ghost use Rattle.sect_world.specs.Together.{ClashingSectionsExclude, TogetherNeverWait, TogetherNeverWaitForHeld};
+ghost use Rattle.sect_world.specs.Together.{ClashingSectionsExclude, ClashWherePathsMeet, ClashOnNoTakenKey};
+ghost use Rattle.sect_world.specs.Together.{ClashOnNoHeldKey};
 ghost use Rattle.sect_world.specs.{Staying.{HeldObjectsStay}, Stretches.{StretchesAreRuns}};
 ghost use Rattle.sect_world.specs.SerialFacts.{OnlySectionsDiffer, SectionsAreReplayed};
 
-use sect_conflicts::sections_that_go_together_never_clash;
+use sect_conflicts::{plans_clash_where_paths_meet, sections_that_go_together_never_clash};
 
 /// Each state of a run of a compiled program is well kept, and good: each thread holds the classes of the objects that
 /// it holds, and has secured what it still needs.
@@ -57,13 +58,21 @@ pub fn clashing_sections_exclude_each_other()
     ensures { (c : CompiledView) → IsCompiled c → ClashingSectionsExclude c }
 {}
 
-/// While one of two sections that go together is in progress, it doesn't keep the other waiting: the mode in which it
-/// has taken a key goes with the one in which the other wants that key first. A third thread may hold the key too. With
-/// the least sets so it is with all that the first holds: the key of an object that the section has made itself, which
-/// it holds without a `take`, is one that the other never asks for.
-pub fn sections_that_go_together_never_wait()
-    ensures taken { (c : CompiledView) → IsCompiled c → TogetherNeverWait c }
-    ensures held { (c : CompiledView) → IsCompiled c → AreSetsLeast c → TogetherNeverWaitForHeld c }
+/// Of two sections that aren't said to exclude each other in every state, the plans that threads make in two states of
+/// a run clash exactly where a pair of the paths that are named denotes one object, each path in its state.
+pub fn sections_clash_where_paths_meet()
+    ensures { (c : CompiledView) → IsCompiled c → ClashWherePathsMeet c }
+{
+    plans_clash_where_paths_meet();
+}
+
+/// While one of two sections that go together is in progress, the mode in which it has taken a key goes with the one in
+/// which the other wants that key first. A third thread may hold the key too, or wait for it in front, and keep the
+/// other waiting so. With the least sets so it is with all that the first holds: the key of an object that the section
+/// has made itself, which it holds without a `take`, is one that the other never asks for.
+pub fn sections_that_go_together_clash_on_no_key()
+    ensures taken { (c : CompiledView) → IsCompiled c → ClashOnNoTakenKey c }
+    ensures held { (c : CompiledView) → IsCompiled c → AreSetsLeast c → ClashOnNoHeldKey c }
 {
     sections_that_go_together_never_clash();
 }

@@ -2,6 +2,7 @@
 
 ghost use Rattle.sect_emit.specs.Compiled.{CompiledView, IsCompiled, AreSetsLeast};
 ghost use Rattle.sect_world.specs.Loose.{EveryLooseRunIsStrict, EveryLooseRunIsSerial, LookedPathsStay, IsSeen};
+ghost use Rattle.sect_world.specs.Enough.{TakenKeysAreEnough};
 
 use sect_conflicts::sections_that_go_together_never_clash;
 
@@ -30,3 +31,11 @@ pub fn looked_paths_stay()
 pub fn keys_may_be_left_out()
     ensures { (c : CompiledView) → IsCompiled c → IsSeen c }
 {}
+
+/// So a thread that holds the keys which `sect_conflicts` says that a section takes may begin the section: each other
+/// key of the plan may be left out.
+pub fn taken_keys_are_enough()
+    ensures { (c : CompiledView) → IsCompiled c → TakenKeysAreEnough c }
+{
+    keys_may_be_left_out();
+}

@@ -13,6 +13,7 @@ ghost use Rattle.sect_world.specs.{Blocked.{IsStuck}, declared.event.Deed.TheVar
 ghost use Rattle.sect_world.specs.Moments.{IsMoment, world_at};
 ghost use Rattle.sect_world.specs.Worlds.{IsTurned, IsRefused, IsRunOf, AllEnded, first_world, outcome_at};
 ghost use Rattle.sect_world.specs.{Waiting.{Asks}, Sights.{first_wish as wish_of, mode_of, end_of as ended_as}};
+ghost use Rattle.sect_world.specs.{Sights.{work_of as work_by}, Standings.{IsStanding}};
 ghost use Rattle.sect_world.specs.Viewing.{body_at, position_of, IsSited};
 ghost use Rattle.sect_world.specs.{steps.Moves.{IsNext}, Acting.{IsApart, acts_of}};
 ghost use Rattle.sect_world.specs.{Locals.{IsLocalStretch, locals_of}, Stretches.{IsStretchOf, AreAdded, events_in}};
@@ -27,12 +28,13 @@ use crate::labels::next_label;
 use crate::local_stretch::{LocalStretch, go_to, lent_outside, stands_outside};
 use crate::outside::{Entrant, begin, enter, is_met, step_outside};
 use crate::runner::{Phase, Runner, first_runners, have_ended, put_ends};
+use crate::standing::{Standing, standing_of};
 use crate::stretch::Stretch;
 use crate::trace::Trace;
 use crate::turned::{EventKind, Turned, WorldFault};
 use sect_emit::{Compiled, Grip};
 use sect_modes::{Key, Mode};
-use sect_store::{Outcome, Store};
+use sect_store::{Outcome, Store, Work};
 use sect_table::{Grants, Table};
 use sect_types::{End, Fault, Label, Program};
 use std::alloc::{AllocError, Global};
@@ -234,6 +236,22 @@ impl<'a> World<'a> {
         ensures { result ≡ ended_as self.now.state thread }
     {
         self.moment.runners[thread as usize].ended
+    }
+
+    /// What a thread works with.
+    pub fn work(&self, thread: u16) -> &Work
+        requires { thread < length self.now.state.threads }
+        ensures { result.now ≡ work_by self.now.state thread }
+    {
+        &self.moment.runners[thread as usize].work
+    }
+
+    /// Where a thread stands.
+    pub fn standing(&self, thread: u16) -> Standing
+        requires { thread < length self.now.state.threads }
+        ensures { IsStanding self.now.compiled self.now.state thread result }
+    {
+        standing_of(thread, &self.moment.runners[thread as usize])
     }
 
     /// Whether all threads have ended.
@@ -457,7 +475,7 @@ impl<'a> World<'a> {
         ensures apart { IfOk result (IsApart self.now.compiled) }
     {
         let runner = &self.moment.runners[thread as usize];
-        let known = copied(self.compiled, runner, &self.moment.store)?;
+        let known = copied(self.compiled, thread, runner, &self.moment.store)?;
         let at = Inside {
             thread,
             section,

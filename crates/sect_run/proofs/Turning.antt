@@ -1,7 +1,8 @@
 -- Turns of one thread in a row.
 use Rattle.std.proofs.Common.{◌≡◌, ◌≤◌, ◌<◌, ◌+◌, ◌-◌, ℕ, zero, suc, List, [], ◌++◌, Result, Ok, Err, OnErr, refl, sym}
-use Rattle.std.proofs.Common.{subst, arith}
-use Rattle.std.proofs.lemmas.List.Elements.{All-append}
+use Rattle.std.proofs.Common.{subst, arith, ◌∷◌, length, true}
+use Rattle.std.proofs.lemmas.{List.{append-nil}, List.Elements.{All-append}, Bool.{eqb-true}}
+use Rattle.std.specs.Prelude.{◌==◌}
 use Rattle.sect_world.specs.{declared.turned.Turned.{Turned}, Worlds.{WorldView, IsTurned}}
 use Rattle.sect_run.specs.steps.{Shares.{AreBelow}, Turns.{MayGoOn, GoesOn, AreTurns, IsBrokenOff, AreBrokenOff}}
 
@@ -72,6 +73,11 @@ all_made t most count turned ts old now were whole = record {
   all = λ may. (let e = were.counted in let few = were.few in let most_made = whole may in
       omega (arith, e, few, most_made));
 }
+
+-- none are added
+pub none_more : (ts more : List ℕ) → (length more == 0) ≡ true → ts ≡ ts ++ more
+none_more ts [] e = sym (append-nil ts)
+none_more ts (t ∷ more) e = let is : suc (length more) ≡ 0 = eqb-true (length (t ∷ more)) 0 e in absurd (omega arith)
 
 -- where some and more are all below a number, so are all of them
 pub more_below : (n : ℕ) (some more all : List ℕ) → all ≡ some ++ more → AreBelow n some → AreBelow n more

@@ -1,10 +1,13 @@
 -- What a worker's visit to a world comes to.
-use Rattle.std.proofs.Common.{◌≡◌, ◌≤◌, ◌<◌, ◌-◌, ℕ, zero, Bool, true, false, List, [], length, inl, inr, refl, sym, ap}
+use Rattle.std.proofs.Common.{◌≡◌, ◌<◌, ℕ, zero, Bool, true, false, List, [], length, inl, inr, refl, sym, ap}
 use Rattle.std.proofs.Common.{subst, arith}
 use Rattle.std.proofs.Common.{Option, Some, None, Result, Ok, Err, OnErr}
 use Rattle.std.specs.Prelude.{IfSome, MatchBool}
 use Rattle.sect_lemmas.proofs.Options.{some_injective, none_or_some}
-use Rattle.sect_emit.specs.{Compiled.{CompiledView}, State.{State}}
+use Rattle.std.specs.Prelude.{slice_get}
+use Rattle.sect_emit.specs.{declared.plan.Grip.{Grip}, Compiled.{CompiledView}}
+use Rattle.sect_emit.specs.State.{Position, Outside, Entered, Running, Faulted, ThreadState, State, IsThread}
+use Rattle.sect_world.specs.{Kept.{IsPlaced, IsWellKept}, Sights.{wish_in, first_wish}}
 use Rattle.sect_world.specs.{declared.stretch.Stretch.{Stretch}, declared.event.Event.{Event}}
 use Rattle.sect_world.specs.Stretches.{AreAdded, events_in}
 use Rattle.sect_world.specs.{declared.turned.Turned.{Turned}, Laws.{StatesAreWellKept}, Runs.{IsRun}}
@@ -36,6 +39,24 @@ pub all_broken_off : (t most : ℕ) (turned : Turned) (ts : List ℕ) (old new :
     → AreTurns t most turned ts old new → AreBrokenOff t most old new
 all_broken_off t most turned ts old new turns =
     (turns.before, turns.made, turns.earlier, turns.goes, turns.few, inr (turned, turns.last))
+
+-- who wants a key first has entered a section
+wants_entered : (p : Position) (th : ThreadState) (g : Grip) → IsPlaced p th → slice_get th.wanted 0 ≡ Some g
+    → p ≡ Entered
+wants_entered Outside th g placed wants = let none = placed.1 in absurd (none_or_some g (rw none at wants))
+wants_entered Entered th g placed wants = refl
+wants_entered (Running i k) th g placed wants = let none = placed.1 in absurd (none_or_some g (rw none at wants))
+wants_entered (Faulted i why) th g placed wants = let none = placed.1 in absurd (none_or_some g (rw none at wants))
+
+wanting_entered : (c : CompiledView) (s : State) → IsWellKept c s → (t : ℕ) (g : Grip) (o : Option ThreadState)
+    → slice_get s.threads t ≡ o → wish_in o ≡ Some g → (th : ThreadState) × IsThread s t th × (th.position ≡ Entered)
+wanting_entered c s kept t g None is wants = absurd (none_or_some g wants)
+wanting_entered c s kept t g (Some th) is wants =
+    (th, is, wants_entered th.position th g (kept.threads t th is).asks wants)
+
+pub awaiting_entered : (c : CompiledView) (s : State) → IsWellKept c s → (t : ℕ) (g : Grip) → first_wish s t ≡ Some g
+    → (th : ThreadState) × IsThread s t th × (th.position ≡ Entered)
+awaiting_entered c s kept t g wants = wanting_entered c s kept t g (slice_get s.threads t) refl wants
 
 -- what holds if there is something, holds of it
 pub some_of : {A : Type 0} (P : A → Type 0) (o : Option A) (x : A) → o ≡ Some x → IfSome o P → P x

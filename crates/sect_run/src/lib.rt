@@ -3,6 +3,7 @@
 
 mod fault;
 mod gate;
+mod meter;
 mod patience;
 mod rest;
 mod run;
@@ -12,5 +13,6 @@ mod visit;
 mod worker;
 
 pub use fault::RunFault;
-pub use gate::{Gate, OpenGate};
+pub use gate::{Awaited, Gate, OpenGate};
+pub use meter::{Measured, Meter, Tally};
 pub use run::run_threads;

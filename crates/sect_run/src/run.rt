@@ -5,7 +5,7 @@ ghost use Rattle.sect_run.specs.Ends.{IsWholeRun};
 ghost use Rattle.sect_run.specs.steps.Shares.{threads_in};
 
 use crate::fault::RunFault;
-use crate::gate::Gate;
+use crate::gate::{Gate, Passage};
 use crate::rest::run_rest;
 use crate::share::{Naming, Post, SharedRun};
 use crate::worker::{Shared, start_workers};
@@ -64,12 +64,13 @@ fn run_named<J: Naming + Send + Sync, R: Threads + Wait + Sync, G: Gate>(
         unparkers: unparkers.as_slice(),
         refused: &refused,
     };
-    start_workers(rt, &shared, compiled, gate, posts);
+    let passage = Passage::by(gate);
+    start_workers(rt, &shared, compiled, &passage, posts);
     if refused.load(Ordering::SeqCst) {
         return Err(RunFault::Memory);
     }
     let mut world = run.into_inner().into_world(compiled);
-    run_rest(rt, gate, compiled, &mut world)?;
+    run_rest(rt, &passage, compiled, &mut world)?;
     world.facts();
     Ok(world.finish())
 }

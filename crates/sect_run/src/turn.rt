@@ -26,6 +26,7 @@ pub fn turn_of(world: &mut World<'_>, thread: u16) -> Result<Turned, RunFault>
 }
 
 /// The turn of a thread, and whom it lets in. Their numbers come behind those that stand in `woken`.
+#[tactic(auto, using(crate::proofs::Turning::none_more))]
 pub fn waking_turn_of(
     world: &mut World<'_>,
     thread: u16,
@@ -39,7 +40,9 @@ pub fn waking_turn_of(
     ensures below { OnOk result (AreBelow (threads_in world.old.compiled) world.new.granted) }
 {
     let turned = turn_of(world, thread)?;
-    woken.extend_from_slice(world.granted())?;
+    if !world.granted().is_empty() {
+        woken.extend_from_slice(world.granted())?;
+    }
     Ok(turned)
 }
 

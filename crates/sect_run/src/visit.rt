@@ -1,11 +1,12 @@
 //! What a worker does each time that it holds the run's lock.
 
-ghost use Rattle.std.specs.Prelude.{◌≡◌, ◌<◌, None, IfOk, IfSome, OnOk, OnErr};
-ghost use Rattle.sect_world.specs.Stretches.{IsStretchOf};
+ghost use Rattle.std.specs.Prelude.{◌≡◌, ◌<◌, Some, None, IfOk, IfSome, OnOk, OnErr};
+ghost use Rattle.sect_world.specs.{Stretches.{IsStretchOf}, Sights.{first_wish}};
 ghost use Rattle.sect_run.specs.steps.Shares.{AreBelow, IsSameRun, threads_in};
 ghost use Rattle.sect_run.specs.steps.Turns.{IsVisited, IsVisitBrokenOff, MayBeAdded};
 
 use crate::fault::RunFault;
+use crate::gate::Awaited;
 use crate::turn::waking_turns_of;
 use sect_world::{Stretch, Turned, World, states_are_well_kept};
 
@@ -23,6 +24,8 @@ pub struct Terms {
 pub struct Visit {
     /// What its last turn has come to.
     pub turned: Turned,
+    /// What the thread waits for, if its last turn has come to that.
+    pub awaited: Option<Awaited>,
     /// Whether the stretch that was brought could not be added.
     pub was_stale: bool,
 }
@@ -58,9 +61,31 @@ fn lend_stretch(world: &World<'_>, thread: u16) -> Result<Option<Stretch>, RunFa
     Ok(world.lend(thread)?)
 }
 
+/// What a thread waits for: the key that it wants first, if it wants one, and the section that it has entered.
+fn awaited_by(world: &World<'_>, thread: u16) -> Option<Awaited>
+    ensures { IfSome result (λ awaited. first_wish world.now.state thread ≡ Some awaited.grip) }
+{
+    let Some(grip) = world.first_wish(thread) else {
+        return None;
+    };
+    world.facts();
+    states_are_well_kept();
+    let section = world.section_of(thread);
+    Some(Awaited { section, grip })
+}
+
+/// What a thread waits for, where its turn has come to that.
+fn awaited_at(world: &World<'_>, thread: u16, turned: Turned) -> Option<Awaited> {
+    match turned {
+        Turned::Waits => awaited_by(world, thread),
+        Turned::Moved(_) | Turned::Ended => None,
+    }
+}
+
 /// Adds the stretch that a thread's worker has brought, if there is one, and makes turns of the thread, one at least
 /// and as many as may be at most, until it can't move. The numbers of those whom they let in take the place of those
-/// that stood in `woken`. Then the worker gets a stretch to take along, if it asks for one and the thread can go on apart.
+/// that stood in `woken`. Then the worker gets a stretch to take along, if it asks for one and the thread can go on
+/// apart.
 pub fn make_visit(
     world: &mut World<'_>,
     thread: u16,
@@ -79,8 +104,13 @@ pub fn make_visit(
 {
     let was_stale = add_brought(world, thread, stretch)?;
     let turned = waking_turns_of(world, thread, terms.most, woken)?;
+    let awaited = awaited_at(world, thread, turned);
     if terms.takes {
         *stretch = lend_stretch(world, thread)?;
     }
-    Ok(Visit { turned, was_stale })
+    Ok(Visit {
+        turned,
+        awaited,
+        was_stale,
+    })
 }

@@ -5,7 +5,7 @@ ghost use Rattle.sect_world.specs.Stretches.{IsStretchOf};
 ghost use Rattle.sect_run.specs.steps.{Shares.{AreBelow, threads_in}, Turns.{WasVisited}};
 
 use crate::fault::RunFault;
-use crate::gate::{Gate, tell};
+use crate::gate::{Awaited, Gate, Passage};
 use crate::patience::Patience;
 use crate::share::{Naming, Post, SharedRun};
 use crate::visit::{Terms, Visit};
@@ -32,8 +32,8 @@ const MOST_TURNS: u16 = 16;
 const MOST_EVENTS: u32 = 4096;
 
 /// What a worker asks of its next visit: one turn, unless the gate is open.
-fn next_terms<G: Gate>(gate: &G, patience: &mut Patience) -> Terms {
-    if gate.is_open() {
+fn next_terms<G: Gate>(passage: &Passage<'_, G>, patience: &mut Patience) -> Terms {
+    if passage.is_open {
         Terms {
             most: MOST_TURNS,
             takes: patience.takes_next(),
@@ -93,6 +93,15 @@ fn run_apart<J: Naming, G: Gate>(
     Ok(())
 }
 
+/// Waits without the lock until the worker is woken. The gate is told before and after.
+fn wait<J: Naming, R: Wait, G: Gate>(rt: &R, gate: &G, post: &Post<J>, awaited: Option<Awaited>) {
+    if let Some(awaited) = awaited {
+        gate.waits(post.thread, awaited);
+    }
+    post.parker.park(rt);
+    gate.has_waited(post.thread);
+}
+
 /// Wakes the workers of these threads.
 fn wake(unparkers: &[Unparker], woken: &[u16])
     requires { AreBelow (length unparkers.now) woken.now }
@@ -117,7 +126,7 @@ fn work<J: Naming, R: Wait, G: Gate>(
     rt: &R,
     shared: &Shared<'_, J>,
     compiled: &Compiled,
-    gate: &G,
+    passage: &Passage<'_, G>,
     mut post: Post<J>,
 )
     requires compiled { J.compiled ≡ Some compiled.now }
@@ -130,21 +139,21 @@ fn work<J: Naming, R: Wait, G: Gate>(
         if shared.refused.load(Ordering::SeqCst) {
             return;
         }
-        let terms = next_terms(gate, &mut patience);
+        let terms = next_terms(passage, &mut patience);
         let visit = match visit_under(rt, shared.run, compiled, terms, &mut post) {
             Ok(visit) => visit,
             Err(RunFault::Memory) => return stop(shared.unparkers, shared.refused),
         };
         wake(shared.unparkers, post.woken.as_slice());
         if visit.was_stale {
-            gate.was_stale(post.thread);
+            passage.gate.was_stale(post.thread);
         }
         match visit.turned {
-            Turned::Moved(kind) => tell(gate, post.thread, kind),
-            Turned::Waits => post.parker.park(rt),
+            Turned::Moved(kind) => passage.tell(post.thread, kind),
+            Turned::Waits => wait(rt, passage.gate, &post, visit.awaited),
             Turned::Ended => return,
         }
-        if run_apart(gate, compiled, &mut post, &mut patience).is_err() {
+        if run_apart(passage.gate, compiled, &mut post, &mut patience).is_err() {
             return stop(shared.unparkers, shared.refused);
         }
     }
@@ -156,7 +165,7 @@ pub fn start_workers<J: Naming + Send + Sync, R: Threads + Wait + Sync, G: Gate>
     rt: &R,
     shared: &Shared<'_, J>,
     compiled: &Compiled,
-    gate: &G,
+    passage: &Passage<'_, G>,
     posts: Vec<Post<J>>,
 )
     requires compiled { J.compiled ≡ Some compiled.now }
@@ -171,13 +180,13 @@ pub fn start_workers<J: Naming + Send + Sync, R: Threads + Wait + Sync, G: Gate>
                 × (length shared.now.unparkers.now ≡ J.threads) }
         {
             for post in posts {
-                if !gate.starts(post.thread) {
+                if !passage.gate.starts(post.thread) {
                     continue;
                 }
                 let job = move ||
                     requires { (J.compiled ≡ Some compiled.now) × (J.threads ≡ threads_in compiled.now)
                         × (length shared.now.unparkers.now ≡ J.threads) }
-                { work(rt, shared, compiled, gate, post) };
+                { work(rt, shared, compiled, passage, post) };
                 let _ = scope.spawn(job);
             }
         },

@@ -3,6 +3,8 @@
 #![tactic(auto)]
 
 #[cfg(test)]
+mod apart;
+#[cfg(test)]
 mod carrying;
 #[cfg(test)]
 mod certificates;
@@ -38,6 +40,8 @@ mod pointing;
 mod printing;
 #[cfg(test)]
 mod programs;
+#[cfg(test)]
+mod random;
 #[cfg(test)]
 mod requests;
 #[cfg(test)]

@@ -50,7 +50,7 @@ const ORDERS: &[(&str, u32, &[u16], &str)] = &[
 ];
 
 /// What is shown of an outcome.
-fn outcome_text(alloc: Global, program: &Program, outcome: &Outcome) -> Result<String, Fail> {
+pub fn outcome_text(alloc: Global, program: &Program, outcome: &Outcome) -> Result<String, Fail> {
     let mut text = String::new(alloc);
     put_outcome(alloc, &mut text, program, outcome)?;
     Ok(text)
@@ -70,7 +70,7 @@ fn end_text(
 }
 
 /// What the run of a program in an order shows: the outcome, or the fault.
-fn shown(alloc: Global, source: &str, fuel: u32, order: &[u16]) -> Result<String, Fail> {
+pub fn shown(alloc: Global, source: &str, fuel: u32, order: &[u16]) -> Result<String, Fail> {
     let program = program_of(alloc, source.as_bytes())?;
     match serial(alloc, &program, fuel, order) {
         Ok(end) => end_text(alloc, &program, end, order),

@@ -178,11 +178,13 @@ fn caller_makes_all_turns_where_no_worker_is_started(rt: HostRuntime) -> Result<
     expect_told(&rt, ADDING, &OWN, 2)
 }
 
-/// An open gate that counts what it is told all the same, and has all workers started, or none.
+/// An open gate that counts what it is told all the same, and how often it is asked whether it is open. It has all
+/// workers started, or none.
 #[derive(Drop)]
 struct CountsOpen {
     starts: bool,
     told: AtomicU32,
+    asked: AtomicU32,
 }
 
 impl Gate for CountsOpen {
@@ -191,6 +193,7 @@ impl Gate for CountsOpen {
     }
 
     fn is_open(&self) -> bool {
+        self.asked.fetch_add(1, Ordering::SeqCst);
         true
     }
 
@@ -199,7 +202,7 @@ impl Gate for CountsOpen {
     }
 }
 
-/// A run whose gate is open goes to its end, and the gate is told nothing.
+/// A run whose gate is open goes to its end, and the gate is asked for that once and told nothing.
 fn expect_untold(
     rt: &(impl Threads + Wait + Sync + AllocGlobal + Abort),
     starts: bool,
@@ -208,9 +211,11 @@ fn expect_untold(
     let gate = CountsOpen {
         starts,
         told: AtomicU32::new(0),
+        asked: AtomicU32::new(0),
     };
     let run = run_threads(rt, rt.alloc(), &compiled, 10_000, &gate)?;
     assert_eq!(rt; gate.told.load(Ordering::SeqCst), 0);
+    assert_eq!(rt; gate.asked.load(Ordering::SeqCst), 1);
     let events = run.events.since(rt.alloc(), 0)?;
     for thread in 0..2u16 {
         assert_eq!(rt; made(events.as_slice(), thread, EventKind::Act), 3);

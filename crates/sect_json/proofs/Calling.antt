@@ -8,7 +8,7 @@ use Rattle.sect_json.specs.{Calls.{calls_at, calls_within}, Values.{by_place}}
 use Rattle.serde_json.specs.{Data.{Data}, View.{view}, declared.value.Value.{Value}}
 
 -- what the first elements give, and the next
-pub flat_taken : {A : Type 0} (of : A → List A) (xs : List A) (n : ℕ) (x : A) → n < length xs → x ≡ get_or xs n x
+pub flat_taken : {A B : Type 0} (of : A → List B) (xs : List A) (n : ℕ) (x : A) → n < length xs → x ≡ get_or xs n x
     → flat_map of (take (n + 1) xs) ≡ flat_map of (take n xs) ++ of x
 flat_taken of xs n x within is =
     ap (flat_map of) (take_more xs n x within ∙ ap (λ y. take n xs ++ y ∷ []) (sym is))

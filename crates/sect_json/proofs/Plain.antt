@@ -1,6 +1,6 @@
 -- Values without floats.
 use Rattle.std.proofs.{Common.{◌≡◌, ℕ, ◌+◌, List, [], ◌∷◌, ◌++◌, map, false, refl}, lemmas.Bool.{or_from, or_parts}}
-use Rattle.std.specs.Prelude.{ℤ, pos, negsuc}
+use Rattle.std.specs.{Prelude.{ℤ, pos, negsuc}, List.{flat_map}}
 use Rattle.serde_json.specs.{Data.{Data}, View.{items_of}, Written.{has_float, items_have_float}}
 use Rattle.sect_json.specs.Values.{integer, by_place, all_by_place}
 
@@ -29,6 +29,11 @@ pub plain_all_by_place : {A : Type 0} (of : ℕ → A → List Data) → ((n : �
 plain_all_by_place of each n [] = refl
 plain_all_by_place of each n (x ∷ xs) =
     plain_append (of n x) (all_by_place of (n + 1) xs) (each n x) (plain_all_by_place of each (n + 1) xs)
+
+pub plain_flat : {A : Type 0} (of : A → List Data) → ((x : A) → ArePlain (of x)) → (xs : List A)
+    → ArePlain (flat_map of xs)
+plain_flat of each [] = refl
+plain_flat of each (x ∷ xs) = plain_append (of x) (flat_map of xs) (each x) (plain_flat of each xs)
 
 pub plain_integer : (n : ℤ) → IsPlain (integer n)
 plain_integer (pos n) = refl

@@ -1,15 +1,22 @@
 -- The document of a compiled program has no float.
-use Rattle.std.proofs.{Common.{ℕ, Option, Some, None, length, refl}, lemmas.Bool.{or_from}}
-use Rattle.std.specs.{Prelude.{slice_get, slice_index_or, option_map, [], ◌+◌}, List.{range_with_len}}
+use Rattle.std.proofs.{Common.{ℕ, List, ◌∷◌, Option, Some, None, length, map, refl}, lemmas.Bool.{or_from}}
+use Rattle.std.specs.{Prelude.{slice_get, slice_index_or, option_map, [], ◌+◌}, List.{range_with_len, flat_map}}
 use Rattle.sect_types.specs.Sections.{sections_of}
 use Rattle.sect_graph.specs.{declared.flow.Successors.{Successors}, declared.flow.Successors.TheVariants.{Next, Branch}}
 use Rattle.sect_emit.specs.{Compiled.{CompiledView, program_of}, Graphed.{graphed_nodes}}
 use Rattle.sect_emit.specs.{declared.graphs.GraphOf.{GraphOf}, declared.plan.Grip.{Grip}}
 use Rattle.sect_json.specs.Nodes.{next_json, next_at, node_json, nodes_json}
-use Rattle.sect_json.specs.Compiling.{grip_json, set_json, plan_json, section_json, thread_json, compiled_json}
+use Rattle.sect_json.specs.Compiling.{grip_json, reached_json, path_grips_json, set_json, plan_json, section_json}
+use Rattle.sect_json.specs.Compiling.{thread_json, compiled_json}
+use Rattle.sect_points.specs.{declared.holders.Variable.{Variable}, Paths.{PathView, base_of, fields_of}}
+use Rattle.sect_points.specs.declared.holders.Variable.TheVariants.{Global, Local}
+use Rattle.sect_types.specs.declared.expansion.action.Field.{Field}
+use Rattle.sect_names.specs.declared.lock.Lock.{Lock}
 use Rattle.sect_json.specs.Locks.{lock_json}
-use Rattle.sect_json.proofs.{Plain.{IsPlain, plain_map}, PlainKeys.{plain_key}, PlainLocks.{plain_lock}}
+use Rattle.sect_json.proofs.{Plain.{IsPlain, ArePlain, plain_map, plain_append, plain_flat}, PlainKeys.{plain_key}}
+use Rattle.sect_json.proofs.PlainLocks.{plain_lock}
 use Rattle.sect_emit.specs.declared.graphs.GraphOf.TheVariants as graphed
+use Rattle.sect_names.specs.declared.lock.Lock.TheVariants as lock
 
 plain_next : (next : Option Successors) → IsPlain (next_json next)
 plain_next None = refl
@@ -33,8 +40,24 @@ module _ (c : CompiledView) where
   plain_set i =
       plain_map (lock_json (program_of c).source) (plain_lock (program_of c).source) (slice_index_or c.sets i [])
 
+  plain_reached : (path : PathView) (v : Variable) (fs : List Field) → IsPlain (reached_json (program_of c) path v fs)
+  plain_reached path (Global g) [] = refl
+  plain_reached path (Global g) (f ∷ fs) = refl
+  plain_reached path (Local t x) fs = refl
+
+  plain_path_grips : (l : Lock) → ArePlain (path_grips_json (program_of c) l)
+  plain_path_grips lock.All = refl
+  plain_path_grips (lock.Class n r) = refl
+  plain_path_grips (lock.Path path e) =
+      or_from _ _ (or_from _ _ (plain_reached path (base_of path) (fields_of path)) refl) refl
+
   pub plain_plan : (i : ℕ) → IsPlain (plan_json c i)
-  plain_plan i = plain_map (grip_json (program_of c)) plain_grip (slice_index_or c.parts i [])
+  plain_plan i =
+      let locks = slice_index_or c.sets i [] in
+      plain_append (map (grip_json (program_of c)) (slice_index_or c.parts i []))
+      (flat_map (path_grips_json (program_of c)) locks)
+      (plain_map (grip_json (program_of c)) plain_grip (slice_index_or c.parts i []))
+      (plain_flat (path_grips_json (program_of c)) plain_path_grips locks)
 
   plain_section : (i : ℕ) → IsPlain (section_json c i)
   plain_section i =

@@ -13,7 +13,7 @@ use Rattle.sect_json.specs.Values.{count, by_place}
 use Rattle.sect_json.specs.Sites.{bytes_json, place_of, call_of, may_hold, held_json, field_json, fields_json}
 use Rattle.sect_json.specs.Sites.{local_json, locals_json, global_json, made_json, sites_by, sites_at, section_sites}
 use Rattle.sect_json.specs.Sites.{sites_json, class_sites, class_json, AreClasses}
-use Rattle.sect_json.proofs.Plain.{IsPlain, ArePlain, plain_map, plain_append, plain_by_place}
+use Rattle.sect_json.proofs.Plain.{IsPlain, ArePlain, plain_map, plain_append, plain_by_place, plain_flat}
 use Rattle.sect_types.specs.declared.expansion.action.Label.TheVariants as label
 use Rattle.sect_types.specs.declared.expansion.action.Action.TheVariants as action
 use Rattle.sect_points.specs.declared.holders.Holder.TheVariants as holder
@@ -22,11 +22,6 @@ use Rattle.sect_emit.specs.declared.graphs.GraphOf.TheVariants as graphed
 pub plain_bytes : (source : List ℕ) (s : Option Span) → IsPlain (bytes_json source s)
 plain_bytes source None = refl
 plain_bytes source (Some s) = refl
-
-plain_flat : {A : Type 0} (of : A → List Data) → ((x : A) → ArePlain (of x)) → (xs : List A)
-    → ArePlain (flat_map of xs)
-plain_flat of each [] = refl
-plain_flat of each (x ∷ xs) = plain_append (of x) (flat_map of xs) (each x) (plain_flat of each xs)
 
 plain_held : (sets : PointsToView) (h : Holder) → IsPlain (held_json sets h)
 plain_held sets h = plain_map count (λ n. refl) (filter (may_hold sets h) (range_with_len 0 sets.sites))

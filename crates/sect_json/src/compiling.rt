@@ -1,19 +1,26 @@
 //! Compiled programs as JSON.
 
-ghost use Rattle.std.specs.{Prelude.{◌≡◌, ◌<◌, IfOk, length, map}, String.{string_bytes}, List.{range_with_len}};
+ghost use Rattle.std.specs.{Prelude.{◌≡◌, ◌<◌, ◌++◌, IfOk, OnOk, length, map}, String.{string_bytes}};
+ghost use Rattle.std.specs.List.{range_with_len, flat_map};
 ghost use Rattle.serde_json.specs.View.{view};
 ghost use Rattle.sect_types.specs.Sections.{sections_of};
+ghost use Rattle.sect_points.specs.Paths.{base_of, fields_of};
+ghost use Rattle.sect_names.specs.{Locks.{IsPathOf}, Printing.{IsNamed, AreNamed}};
 ghost use Rattle.sect_emit.specs.Compiled.{program_of};
 ghost use Rattle.sect_json.specs.Values.{list, document_text};
-ghost use Rattle.sect_json.specs.Compiling.{grip_json, set_json, plan_json, section_with, section_json, thread_with};
-ghost use Rattle.sect_json.specs.Compiling.{thread_json, compiled_with, compiled_json};
+ghost use Rattle.sect_json.specs.Compiling.{grip_json, path_grips_json, reached_json, set_json, plan_json};
+ghost use Rattle.sect_json.specs.Compiling.{section_with, section_json, thread_with, thread_json, compiled_with};
+ghost use Rattle.sect_json.specs.Compiling.{compiled_json};
 
 use crate::keys::{key_value, mode_value};
-use crate::locks::locks_value;
+use crate::locks::{locks_value, path_value};
 use crate::nodes::nodes_value;
 use crate::writing::document;
-use sect_emit::{Compiled, GraphOf, Grip, put_thread_name, section_thread};
+use sect_emit::{Compiled, GraphOf, Grip, object_mode, put_thread_name, section_thread};
+use sect_modes::Key;
+use sect_names::{Lock, Path};
 use sect_object::Members;
+use sect_points::Variable;
 use sect_types::Program;
 use serde_json::Value;
 use std::alloc::{AllocError, Global};
@@ -99,24 +106,86 @@ pub fn set_value(alloc: Global, compiled: &Compiled, section: u16) -> Result<Val
     locks_value(alloc, compiled.scheme().program(), compiled.set(section))
 }
 
-/// The keys that a section takes in every state.
+/// The keys that a section takes, each with its mode: those that it takes in every state, and then the objects of its
+/// paths.
 pub fn plan_value(alloc: Global, compiled: &Compiled, section: u16) -> Result<Value, AllocError>
     requires { section < length (sections_of (program_of compiled.now).texts) }
     ensures { IfOk result (λ v. view v ≡ plan_json compiled.now section) }
 {
     compiled.facts();
-    grips_value(alloc, compiled.scheme().program(), compiled.part(section))
+    let program = compiled.scheme().program();
+    let mut values = grip_values(alloc, program, compiled.part(section))?;
+    put_path_grips(alloc, &mut values, program, compiled.set(section))?;
+    Ok(Value::Array(values))
 }
 
 /// Keys with their modes, in their order.
-fn grips_value(alloc: Global, program: &Program, grips: &[Grip]) -> Result<Value, AllocError>
-    ensures { IfOk result (λ v. view v ≡ list (map (grip_json program.now) grips.now)) }
+fn grip_values(alloc: Global, program: &Program, grips: &[Grip]) -> Result<Vec<Value>, AllocError>
+    ensures { IfOk result (λ values. map view values.items ≡ map (grip_json program.now) grips.now) }
 {
     let mut values = Vec::new(alloc);
     for grip in grips {
         values.push(grip_value(alloc, program, *grip)?)?;
     }
-    Ok(Value::Array(values))
+    Ok(values)
+}
+
+/// Adds the object of each path that is locked, with its mode.
+fn put_path_grips(
+    alloc: Global,
+    values: &mut Vec<Value>,
+    program: &Program,
+    locks: &[Lock],
+) -> Result<(), AllocError>
+    requires { AreNamed program.now locks.now }
+    ensures { OnOk result (map view values.new.items
+        ≡ map view values.old.items ++ flat_map (path_grips_json program.now) locks.now) }
+{
+    for lock in locks {
+        put_path_grip(alloc, values, program, lock)?;
+    }
+    Ok(())
+}
+
+/// Adds the object of the path that a lock is on, if it is on one, with its mode.
+fn put_path_grip(
+    alloc: Global,
+    values: &mut Vec<Value>,
+    program: &Program,
+    lock: &Lock,
+) -> Result<(), AllocError>
+    requires { IsNamed program.now lock.now }
+    ensures { OnOk result (map view values.new.items
+        ≡ map view values.old.items ++ path_grips_json program.now lock.now) }
+{
+    match lock {
+        Lock::All => Ok(()),
+        Lock::Class(_, _) => Ok(()),
+        Lock::Path(path, effect) => {
+            let members = Members::new(alloc)
+                .with_made("key", reached_value(alloc, program, path))?
+                .with_made("mode", mode_value(alloc, object_mode(*effect)))?;
+            values.push(members.object())?;
+            Ok(())
+        }
+    }
+}
+
+/// The object that a path leads to: of a global by its name, else by the path.
+fn reached_value(alloc: Global, program: &Program, path: &Path) -> Result<Value, AllocError>
+    requires { IsPathOf program.now path.now }
+    ensures { IfOk result (λ v. view v
+        ≡ reached_json program.now path.now (base_of path.now) (fields_of path.now)) }
+{
+    if path.fields().is_empty() {
+        if let Variable::Global(number) = path.base() {
+            return key_value(alloc, program, Key::Global(number));
+        }
+    }
+    let members = Members::new(alloc)
+        .with("kind", "path")?
+        .with_made("path", path_value(alloc, program, path))?;
+    Ok(members.object())
 }
 
 /// A key with its mode.

@@ -4,7 +4,7 @@ use Rattle.std.specs.Prelude.{List, [], ◌∷◌, ◌++◌, length, take, drop,
 use Rattle.std.specs.{Prelude.{codes, decimal}, List.{starts_with}}
 use Rattle.sect_lsp.specs.declared.framing.Front.{Front}
 use Rattle.sect_lsp.specs.declared.framing.Front.TheVariants.{Message, Part, Malformed}
-use Rattle.sect_lsp.specs.{declared.framing.Taken.{Taken}, declared.framing.TheConstants.{MOST_HEADER, MOST_MESSAGE}}
+use Rattle.sect_lsp.specs.{declared.framing.Taken.{Taken}, Limits.{most_header, most_message}}
 use Rattle.sect_lsp.specs.declared.framing.Taken.TheVariants as taken
 
 -- the first place at which the word stands in the bytes
@@ -23,7 +23,7 @@ abbrev pub number_from : ℕ → List ℕ → Option ℕ
 number_from value [] = None
 number_from value (b ∷ bs) =
     if b == 13 then Some value
-    else if nat_le 48 b && nat_le b 57 && nat_le (10 * value + (b - 48)) MOST_MESSAGE
+    else if nat_le 48 b && nat_le b 57 && nat_le (10 * value + (b - 48)) most_message
     then number_from (10 * value + (b - 48)) bs else None
 
 -- whether a line begins at this place
@@ -45,12 +45,12 @@ front_behind bytes header (Some body) =
     if nat_lt (length bytes) (header + body) then Part else Message header body
 
 abbrev pub front_by : List ℕ → Option ℕ → Front
-front_by bytes None = if nat_lt (length bytes) MOST_HEADER then Part else Malformed
+front_by bytes None = if nat_lt (length bytes) most_header then Part else Malformed
 front_by bytes (Some header) = front_behind bytes header (content_length (take header bytes))
 
 -- what stands at the front of the bytes. A header ends among the first bytes, as many as one may have
 abbrev pub front_of : List ℕ → Front
-front_of bytes = front_by bytes (header_length (take MOST_HEADER bytes))
+front_of bytes = front_by bytes (header_length (take most_header bytes))
 
 -- the bytes are these messages, each behind its header, and then the rest
 abbrev pub Spells : List ℕ → List (List ℕ) → List ℕ → Type 0

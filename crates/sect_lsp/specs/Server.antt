@@ -9,7 +9,7 @@ use Rattle.sect_editor.specs.{declared.question.Question.{Question}, declared.te
 use Rattle.sect_editor.specs.{Diagnosing.{AreDiagnostics}, Asking.{IsAnswerTo}}
 use Rattle.sect_lsp.specs.{declared.protocol.RequestError.{RequestError}, declared.server.Phase.{Phase}}
 use Rattle.sect_lsp.specs.{declared.server.Asked.{Asked}, declared.server.Told.{Told}}
-use Rattle.sect_lsp.specs.{declared.documents.TheConstants.{MOST_K}, declared.server.TheConstants.{DEFAULT_K}}
+use Rattle.sect_lsp.specs.Limits.{most_k, default_k}
 use Rattle.sect_lsp.specs.{Changes.{after_changes}, Documents.{DocumentView, text_of, closed, opened}}
 use Rattle.sect_lsp.specs.Protocol.{Kind, Request, Notification, Response, Invalid, kind_of, ReplyView, Result, Error}
 use Rattle.sect_lsp.specs.Protocol.{IsRead, reply_with, response_json, notification_json}
@@ -70,10 +70,10 @@ encoding_of d =
     encoding_by (option_and_then as_array (pointer (codes "/params/capabilities/general/positionEncodings") d))
 
 abbrev pub allowed : ℕ → Option ℕ
-allowed k = if nat_le k MOST_K then Some k else None
+allowed k = if nat_le k most_k then Some k else None
 
 abbrev pub k_by : Option Data → Option ℕ
-k_by None = Some DEFAULT_K
+k_by None = Some default_k
 k_by (Some d) = option_and_then allowed (option_and_then as_u64 (as_number d))
 
 -- the most fields of a path, if the editor says a number of them that may be
@@ -244,4 +244,4 @@ Step s message out t = (d : Option Data) × IsRead message d × Takes s d out t
 
 -- a server that has just been started
 abbrev pub start : ServerView
-start = record { phase = phase.Waiting; k = DEFAULT_K; encoding = Utf16; documents = [] }
+start = record { phase = phase.Waiting; k = default_k; encoding = Utf16; documents = [] }

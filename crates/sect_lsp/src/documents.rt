@@ -6,12 +6,10 @@ ghost use Rattle.sect_editor.specs.Accepted.{IsCompiledIf};
 ghost use Rattle.sect_lsp.specs.Documents.{text_of, closed, opened};
 ghost use Rattle.sect_lsp.specs.steps.Keeping.{OpenView, IsKept, kept_of};
 
+use crate::limits::MOST_K;
 use sect_emit::Compiled;
 use std::alloc::{AllocError, Global};
 use std::marker::Model;
-
-/// The most fields that a path may be given.
-pub const MOST_K: u16 = 3;
 
 /// A document: its name, its text, and the compiled program of that, unless it is refused.
 #[derive(Drop)]
@@ -77,14 +75,14 @@ pub struct Documents {
 
 impl Model for Documents {
     ghost use Rattle.std.specs.Prelude.{◌≤◌, All, map};
-    ghost use Rattle.sect_lsp.specs.declared.documents.TheConstants.{MOST_K};
+    ghost use Rattle.sect_lsp.specs.Limits.{most_k};
     ghost use Rattle.sect_lsp.specs.steps.Keeping.{OpenView, document_of, IsKept};
 
     ghost Value = { OpenView };
 
     ghost view = { λ all. record { k = all.k; documents = map document_of all.list.items } };
 
-    ghost invariant = { λ all. (all.k ≤ MOST_K) × All (IsKept all.k) all.list.items };
+    ghost invariant = { λ all. (all.k ≤ most_k) × All (IsKept all.k) all.list.items };
 }
 
 /// The document of this name, if there is one.

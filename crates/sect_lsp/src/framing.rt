@@ -6,15 +6,10 @@ ghost use Rattle.sect_lsp.specs.Framing.{place_of as place_by, number_from, cont
 ghost use Rattle.sect_lsp.specs.Framing.{front_behind as behind, front_of as front_by, frame, IsTaken, Spells, IsRest};
 ghost use Rattle.sect_lsp.specs.steps.Fronts.{IsFrontWithin};
 
+use crate::limits::{MOST_HEADER, MOST_MESSAGE};
 use std::alloc::{AllocError, Global};
 use std::fmt::Write;
 use std::marker::Model;
-
-/// The most bytes of the header lines of a message, with the empty line behind them.
-const MOST_HEADER: usize = 1024;
-
-/// The most bytes of a message.
-const MOST_MESSAGE: usize = 16_777_216;
 
 /// What stands at the front of a stream.
 #[derive(Clone, Copy)]

@@ -5,6 +5,7 @@ mod change;
 mod documents;
 mod framing;
 mod laws;
+mod limits;
 mod protocol;
 mod reply;
 mod server;
@@ -15,5 +16,6 @@ pub use framing::{Front, Inbox, Taken, frame_of, pieces_change_no_message};
 pub use laws::{
     closed_documents_are_forgotten, each_request_gets_one_answer, kept_texts_are_found,
 };
+pub use limits::{DEFAULT_K, MOST_HEADER, MOST_K, MOST_MESSAGE, limits_of_conversations};
 pub use server::{Phase, Server};
 pub use session::serve;

@@ -12,16 +12,14 @@ ghost use Rattle.sect_lsp.specs.{Server.{IsDocumentReply}, Documents.{text_of}};
 ghost use Rattle.sect_lsp.specs.steps.Replying.{reply_view};
 
 use crate::change::after_changes;
-use crate::documents::{Documents, MOST_K};
+use crate::documents::Documents;
+use crate::limits::{DEFAULT_K, MOST_K};
 use crate::protocol::{RequestError, is_id, notification_message, read, refusal_message};
 use crate::reply::{Reply, reply_with, response};
 use sect_editor::{Encoding, Judged, OpenText, Query, Question, Reading, answer, judge, text_at};
 use serde_json::{Value, json};
 use std::alloc::{AllocError, Global};
 use std::marker::Model;
-
-/// The most fields of a path where the editor doesn't say.
-const DEFAULT_K: u16 = 2;
 
 /// What may come now.
 #[derive(Clone, Copy)]

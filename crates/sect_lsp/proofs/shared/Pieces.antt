@@ -6,7 +6,7 @@ use Rattle.std.proofs.lemmas.List.{take-append-le, take_all, length-take, length
 use Rattle.std.proofs.{lemmas.Bool.{and_parts, cases_lt, le-ltb, ltb-false}, Math.Seq.{take-append-add}}
 use Rattle.std.specs.{Prelude.{option_map, codes}, List.{starts_with}, Cmp.Lexicographic.{pointwise}}
 use Rattle.sect_lsp.specs.declared.framing.Front.TheVariants.{Message, Part, Malformed}
-use Rattle.sect_lsp.specs.declared.framing.TheConstants.{MOST_HEADER}
+use Rattle.sect_lsp.specs.Limits.{most_header}
 use Rattle.sect_lsp.specs.Framing.{place_of, header_length, content_length, front_behind, front_by, front_of, Spells}
 use Rattle.sect_lsp.specs.Framing.{IsRest}
 
@@ -70,22 +70,22 @@ first_more n xs ys = ⊎_elim
     ))
     (cases_lt n (length xs))
 
-header_more : (bytes more : List ℕ) (n : ℕ) → header_length (take MOST_HEADER bytes) ≡ Some n
-    → header_length (take MOST_HEADER (bytes ++ more)) ≡ Some n
+header_more : (bytes more : List ℕ) (n : ℕ) → header_length (take most_header bytes) ≡ Some n
+    → header_length (take most_header (bytes ++ more)) ≡ Some n
 header_more bytes more n e =
-    let at = mapped 4 (place_of (codes "\r\n\r\n") (take MOST_HEADER bytes)) n e in
-    let longer = first_more MOST_HEADER bytes more in
+    let at = mapped 4 (place_of (codes "\r\n\r\n") (take most_header bytes)) n e in
+    let longer = first_more most_header bytes more in
     ap header_length longer.1
-    ∙ ap (option_map (λ m. m + 4)) (place_more (codes "\r\n\r\n") (take MOST_HEADER bytes) longer.0 at.0 at.1)
+    ∙ ap (option_map (λ m. m + 4)) (place_more (codes "\r\n\r\n") (take most_header bytes) longer.0 at.0 at.1)
     ∙ ap Some at.2
 
-header_fits : (bytes : List ℕ) (n : ℕ) → header_length (take MOST_HEADER bytes) ≡ Some n → n ≤ length bytes
+header_fits : (bytes : List ℕ) (n : ℕ) → header_length (take most_header bytes) ≡ Some n → n ≤ length bytes
 header_fits bytes n e =
-    let at = mapped 4 (place_of (codes "\r\n\r\n") (take MOST_HEADER bytes)) n e in
+    let at = mapped 4 (place_of (codes "\r\n\r\n") (take most_header bytes)) n e in
     let past = at.2 in
-    let fits : at.0 + 4 ≤ length (take MOST_HEADER bytes) =
-    place_fits (codes "\r\n\r\n") (take MOST_HEADER bytes) at.0 at.1 in
-    omega (arith, length-take MOST_HEADER bytes)
+    let fits : at.0 + 4 ≤ length (take most_header bytes) =
+    place_fits (codes "\r\n\r\n") (take most_header bytes) at.0 at.1 in
+    omega (arith, length-take most_header bytes)
 
 behind_more : (bytes more : List ℕ) (n : ℕ) (o : Option ℕ) → front_behind bytes n o ≢ Part
     → front_behind (bytes ++ more) n o ≡ front_behind bytes n o
@@ -98,16 +98,16 @@ behind_more bytes more n (Some k) not = ⊎_elim
     ap (λ t. cond t Part (Message n k)) still ∙ p.1)
     (chosen (nat_lt (length bytes) (n + k)) Part (Message n k) (front_behind bytes n (Some k)) refl)
 
-by_more : (bytes more : List ℕ) (o : Option ℕ) → header_length (take MOST_HEADER bytes) ≡ o → front_by bytes o ≢ Part
+by_more : (bytes more : List ℕ) (o : Option ℕ) → header_length (take most_header bytes) ≡ o → front_by bytes o ≢ Part
     → front_of (bytes ++ more) ≡ front_by bytes o
 by_more bytes more None e not = ⊎_elim
     (λ p. absurd (not (sym p.1)))
-    (λ p. let long = ltb-false (length bytes) MOST_HEADER p.0 in
+    (λ p. let long = ltb-false (length bytes) most_header p.0 in
     let longer = length-append bytes more in
-    let still : nat_lt (length (bytes ++ more)) MOST_HEADER ≡ false = le-ltb _ _ (omega arith) in
-    ap (front_by (bytes ++ more)) (ap header_length (take-append-le MOST_HEADER bytes more long) ∙ e)
+    let still : nat_lt (length (bytes ++ more)) most_header ≡ false = le-ltb _ _ (omega arith) in
+    ap (front_by (bytes ++ more)) (ap header_length (take-append-le most_header bytes more long) ∙ e)
     ∙ ap (λ t. cond t Part Malformed) still ∙ p.1)
-    (chosen (nat_lt (length bytes) MOST_HEADER) Part Malformed (front_by bytes None) refl)
+    (chosen (nat_lt (length bytes) most_header) Part Malformed (front_by bytes None) refl)
 by_more bytes more (Some n) e not =
     ap (front_by (bytes ++ more)) (header_more bytes more n e)
     ∙ ap (λ bs. front_behind (bytes ++ more) n (content_length bs))
@@ -116,7 +116,7 @@ by_more bytes more (Some n) e not =
 
 -- what stands at the front stays, whatever comes behind, unless it is less than a whole message
 pub front_more : (bytes more : List ℕ) → front_of bytes ≢ Part → front_of (bytes ++ more) ≡ front_of bytes
-front_more bytes more not = by_more bytes more (header_length (take MOST_HEADER bytes)) refl not
+front_more bytes more not = by_more bytes more (header_length (take most_header bytes)) refl not
 
 -- a message at the front fits
 behind_fits : (bytes : List ℕ) (n : ℕ) (o : Option ℕ) (h b : ℕ) → front_behind bytes n o ≡ Message h b
@@ -130,11 +130,11 @@ behind_fits bytes n (Some k) h b e = ⊎_elim
 
 by_fits : (bytes : List ℕ) (o : Option ℕ) (h b : ℕ) → front_by bytes o ≡ Message h b → h + b ≤ length bytes
 by_fits bytes None h b e = ⊎_elim (λ p. absurd cc) (λ p. absurd cc)
-    (chosen (nat_lt (length bytes) MOST_HEADER) Part Malformed (Message h b) e)
+    (chosen (nat_lt (length bytes) most_header) Part Malformed (Message h b) e)
 by_fits bytes (Some n) h b e = behind_fits bytes n (content_length (take n bytes)) h b e
 
 pub message_fits : (bytes : List ℕ) (h b : ℕ) → front_of bytes ≡ Message h b → h + b ≤ length bytes
-message_fits bytes h b e = by_fits bytes (header_length (take MOST_HEADER bytes)) h b e
+message_fits bytes h b e = by_fits bytes (header_length (take most_header bytes)) h b e
 
 -- a message stays, and what comes behind it is what comes behind all
 pub message_more : (bytes more : List ℕ) (h b : ℕ) → front_of bytes ≡ Message h b

@@ -1,5 +1,5 @@
 use Rattle.std.proofs.Common.{◌≡◌, ◌≤◌, drop}
-use Rattle.sect_lsp.specs.{Framing.{number_from}, declared.framing.TheConstants.{MOST_MESSAGE}}
+use Rattle.sect_lsp.specs.{Framing.{number_from}, declared.limits.TheConstants.{MOST_MESSAGE}}
 use Rattle.sect_lsp.proofs.framing.number_at.Given as goal
 
 -- what is left goes on with the number

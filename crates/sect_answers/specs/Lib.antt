@@ -12,6 +12,7 @@ pub mod Conflicting
 pub mod Explaining
 pub mod Formats
 pub mod Graphing
+pub mod InC
 pub mod Findings
 pub mod Scheduling
 pub mod Turns

@@ -1,6 +1,7 @@
 //! What each command of `sectc` answers to a source text.
 #![tactic(auto)]
 
+mod c;
 mod chart;
 mod check;
 mod compile;
@@ -20,6 +21,7 @@ mod serial;
 mod splitting;
 mod turns;
 
+pub use c::program_in_c;
 pub use chart::schedule_chart;
 pub use check::verdict;
 pub use compile::{program_certificate, program_document, program_listing};

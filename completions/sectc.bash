@@ -1,22 +1,59 @@
 # Completions of sectc for bash.
 _sectc() {
-    local words
-    case "${COMP_WORDS[1]}" in
-    locks) words="--k --format --help" ;;
-    compile) words="--k --format --workers --cert --help" ;;
-    explain) words="--k --format --help" ;;
-    conflicts) words="--k --format --help" ;;
-    inspect) words="--k --help" ;;
-    graph) words="--k --section --help" ;;
-    serial) words="--fuel --format --help" ;;
-    outcomes) words="--fuel --most --format --help" ;;
-    schedule) words="--k --format --fuel --chart --help" ;;
-    run) words="--k --format --fuel --help" ;;
-    lint) words="--k --format --help" ;;
-    lsp) words=" --help" ;;
-    check) words="--k --help" ;;
+    local words= files= command=${COMP_WORDS[1]} current=${COMP_WORDS[COMP_CWORD]}
+    case "$command" in
+        locks) words='--k --format --help' files=1 ;;
+        compile) words='--k --format --workers --cert --help' files=1 ;;
+        c) words='--k --help' files=1 ;;
+        explain) words='--k --format --help' files=1 ;;
+        conflicts) words='--k --format --help' files=1 ;;
+        inspect) words='--k --help' files=1 ;;
+        graph) words='--k --section --help' files=1 ;;
+        serial) words='--fuel --format --file --help' ;;
+        outcomes) words='--fuel --most --format --help' files=1 ;;
+        schedule) words='--k --format --fuel --chart --file --help' ;;
+        run) words='--k --format --fuel --help' files=1 ;;
+        lint) words='--k --format --help' files=1 ;;
+        lsp) words='--help' ;;
+        check) words='--k --help' files=1 ;;
     esac
-    [ "$COMP_CWORD" -eq 1 ] && words="locks compile explain conflicts inspect graph serial outcomes schedule run lint lsp check help --help"
-    mapfile -t COMPREPLY < <(compgen -W "$words" -- "${COMP_WORDS[COMP_CWORD]}")
+    case "$command ${COMP_WORDS[COMP_CWORD-1]}" in
+        'c --k') words='0 1 2 3' files= ;;
+        'check --k') words='0 1 2 3' files= ;;
+        'compile --format') words='text json' files= ;;
+        'compile --k') words='0 1 2 3' files= ;;
+        'compile --workers') words= files= ;;
+        'conflicts --format') words='text json' files= ;;
+        'conflicts --k') words='0 1 2 3' files= ;;
+        'explain --format') words='text json' files= ;;
+        'explain --k') words='0 1 2 3' files= ;;
+        'graph --k') words='0 1 2 3' files= ;;
+        'graph --section') words= files= ;;
+        'inspect --k') words='0 1 2 3' files= ;;
+        'lint --format') words='text json sarif' files= ;;
+        'lint --k') words='0 1 2 3' files= ;;
+        'locks --format') words='text json' files= ;;
+        'locks --k') words='0 1 2 3' files= ;;
+        'outcomes --format') words='text json' files= ;;
+        'outcomes --fuel') words= files= ;;
+        'outcomes --most') words= files= ;;
+        'run --format') words='text json' files= ;;
+        'run --fuel') words= files= ;;
+        'run --k') words='0 1 2 3' files= ;;
+        'schedule --file') words= files=1 ;;
+        'schedule --format') words='text json' files= ;;
+        'schedule --fuel') words= files= ;;
+        'schedule --k') words='0 1 2 3' files= ;;
+        'serial --file') words= files=1 ;;
+        'serial --format') words='text json' files= ;;
+        'serial --fuel') words= files= ;;
+        *' <') words= files=1 ;;
+    esac
+    [ "$COMP_CWORD" -eq 1 ] && words="locks compile c explain conflicts inspect graph serial outcomes schedule run lint lsp check help --help --version" files=
+    mapfile -t COMPREPLY < <(compgen -W "$words" -- "$current")
+    if [ -n "$files" ]; then
+        compopt -o filenames
+        mapfile -t -O ${#COMPREPLY[@]} COMPREPLY < <(compgen -f -X '!*.sect' -- "$current"; compgen -d -- "$current")
+    fi
 }
 complete -F _sectc sectc

@@ -3,17 +3,18 @@
 use crate::bytes::put_piece;
 use crate::case::Case;
 use crate::failure::Failure;
-use sect_command::command;
+use sect_command::{SystemFiles, Writers, command_on_texts};
 use std::alloc::{AllocError, Global};
 use std::rt::Files;
 use std::sync::Wait;
 use std::thread::Threads;
 
-/// What a command prints, and its status.
+/// What a command prints on standard output and on standard error, and its status.
 #[derive(Drop)]
 pub struct Answer {
     pub status: u8,
     pub text: String,
+    pub complaints: String,
 }
 
 /// The words of a line, the program's name first.
@@ -26,18 +27,53 @@ fn words_of(alloc: Global, line: &str) -> Result<Vec<String>, AllocError> {
     Ok(words)
 }
 
-/// What a command line answers to an input.
+/// Bytes as a text.
+fn shown(alloc: Global, bytes: &[u8]) -> Result<String, AllocError> {
+    let shown = String::from_utf8_lossy(alloc, bytes)?;
+    String::from_str(alloc, shown.as_str())
+}
+
+/// What a command line answers to an input, and to the files that it names.
 fn answer_to(
-    rt: &(impl Threads + Wait + Sync + AllocGlobal),
+    rt: &(impl Files + Threads + Wait + Sync + AllocGlobal),
     line: &str,
     input: &[u8],
 ) -> Result<Answer, AllocError> {
     let words = words_of(rt.alloc(), line)?;
-    let mut output = Vec::new(rt.alloc());
-    let status = command(rt, words.as_slice(), input, &mut output);
-    let shown = String::from_utf8_lossy(rt.alloc(), output.as_slice())?;
-    let text = String::from_str(rt.alloc(), shown.as_str())?;
-    Ok(Answer { status, text })
+    let mut writers = Writers {
+        output: Vec::new(rt.alloc()),
+        errors: Vec::new(rt.alloc()),
+    };
+    let files = SystemFiles { rt };
+    let status = command_on_texts(rt, words.as_slice(), &files, input, &mut writers);
+    Ok(Answer {
+        status,
+        text: shown(rt.alloc(), writers.output.as_slice())?,
+        complaints: shown(rt.alloc(), writers.errors.as_slice())?,
+    })
+}
+
+/// The message at the front of what is written for an editor, and what stands behind it.
+fn front_message(written: &str) -> Option<(&str, &str)> {
+    let (header, rest) = written.split_once("\r\n\r\n")?;
+    let length = header.strip_prefix("Content-Length: ")?.parse().ok()?;
+    rest.split_at_checked(length)
+}
+
+/// The messages of what is written for an editor, a line each. What is behind no header that fits it stays as it is.
+fn lines_of_messages(alloc: Global, written: &str) -> Result<String, AllocError> {
+    let mut lines = String::new(alloc);
+    let mut left = written;
+    for _ in 0..written.len() {
+        let Some((message, rest)) = front_message(left) else {
+            break;
+        };
+        lines.push_str(message)?;
+        lines.push_str("\n")?;
+        left = rest;
+    }
+    lines.push_str(left)?;
+    Ok(lines)
 }
 
 /// The pieces of a case's input, one behind the other.
@@ -49,7 +85,7 @@ fn pieces_of(rt: &(impl Files + AllocGlobal), case: &Case<'_>) -> Result<Vec<u8>
     Ok(input)
 }
 
-/// What the command of a case answers.
+/// What the command of a case answers, to an editor a line for each message.
 pub fn answer_of(
     rt: &(impl Files + Threads + Wait + Sync + AllocGlobal),
     case: &Case<'_>,
@@ -61,5 +97,9 @@ pub fn answer_of(
         input.extend_from_slice(made.text.as_bytes())?;
     }
     input.extend_from_slice(pieces.as_slice())?;
-    Ok(answer_to(rt, case.words, input.as_slice())?)
+    let mut answer = answer_to(rt, case.words, input.as_slice())?;
+    if case.is_conversation() {
+        answer.text = lines_of_messages(rt.alloc(), answer.text.as_str())?;
+    }
+    Ok(answer)
 }

@@ -51,6 +51,11 @@ pub fn put_piece(
             Ok(input.extend_from_slice(bytes.as_slice())?)
         }
         Piece::Bytes(text) => put_bytes(input, text, line),
+        Piece::Message(text) => {
+            let header = format!(in rt.alloc(); "Content-Length: {}\r\n\r\n", text.len())?;
+            input.extend_from_slice(header.as_bytes())?;
+            Ok(input.extend_from_slice(text.as_bytes())?)
+        }
         Piece::Repeated(times, text) => {
             for _ in 0..times {
                 put_bytes(input, text, line)?;

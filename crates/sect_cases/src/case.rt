@@ -17,6 +17,8 @@ pub struct Case<'a> {
     pub input: Vec<Piece<'a>>,
     /// What is printed, in order.
     pub prints: Vec<Print<'a>>,
+    /// What is printed on standard error, in order.
+    pub complaints: Vec<Print<'a>>,
     /// The status, where the case says it.
     pub status: Option<u8>,
 }
@@ -30,6 +32,7 @@ impl<'a> Case<'a> {
             before: None,
             input: Vec::new(alloc),
             prints: Vec::new(alloc),
+            complaints: Vec::new(alloc),
             status: None,
         }
     }
@@ -39,12 +42,20 @@ impl<'a> Case<'a> {
         self.status.is_some() || !self.prints.is_empty()
     }
 
+    /// Whether its input has messages of an editor.
+    pub fn is_conversation(&self) -> bool {
+        self.input
+            .iter()
+            .any(|piece| matches!(piece, Piece::Message(_)))
+    }
+
     /// Adds what a line says of the case.
     fn put(&mut self, form: Form<'a>) -> Result<(), Failure> {
         match form {
             Form::Before(words) => self.before = Some(words),
             Form::Input(piece) => self.input.push(piece)?,
             Form::Print(print) => self.prints.push(print)?,
+            Form::Complaint(print) => self.complaints.push(print)?,
             Form::Status(status) => self.status = Some(status),
             Form::Remark | Form::Command(_) => {}
         }

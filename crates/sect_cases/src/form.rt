@@ -13,6 +13,8 @@ pub enum Form<'a> {
     Input(Piece<'a>),
     /// What is printed next.
     Print(Print<'a>),
+    /// `! TEXT`: the next line on standard error has this text in it.
+    Complaint(Print<'a>),
     /// `= STATUS`: the exit status, where it isn't 0.
     Status(u8),
 }
@@ -28,6 +30,8 @@ pub enum Piece<'a> {
     Bytes(&'a str),
     /// `<* TIMES TEXT`: these bytes, so many times.
     Repeated(u32, &'a str),
+    /// `<: MESSAGE`: a message of an editor, behind its header.
+    Message(&'a str),
 }
 
 /// What is printed.
@@ -50,6 +54,7 @@ pub fn form_of(line: &str) -> Option<Form<'_>> {
         "<$" => Some(Form::Before(rest.strip_prefix("sectc")?)),
         "=" => Some(Form::Status(rest.parse().ok()?)),
         ">" => Some(Form::Print(Print::Line(rest))),
+        "!" => Some(Form::Complaint(Print::Holding(rest))),
         ">~" => Some(Form::Print(Print::Holding(rest))),
         ">.." if rest.is_empty() => Some(Form::Print(Print::AnyLines)),
         mark => Some(Form::Input(piece_of(mark, rest)?)),
@@ -62,6 +67,7 @@ fn piece_of<'a>(mark: &str, rest: &'a str) -> Option<Piece<'a>> {
         "<" => Some(Piece::Line(rest)),
         "<@" => Some(Piece::File(rest)),
         "<%" => Some(Piece::Bytes(rest)),
+        "<:" => Some(Piece::Message(rest)),
         "<*" => {
             let (times, text) = rest.split_once(' ')?;
             Some(Piece::Repeated(times.parse().ok()?, text))

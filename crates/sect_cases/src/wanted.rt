@@ -54,12 +54,22 @@ fn are_printed(prints: &[Print<'_>], lines: &[&str]) -> bool {
     skips || is_end(lines, from)
 }
 
+/// Whether a text has the lines that are printed, to its end.
+fn is_printed(alloc: Global, prints: &[Print<'_>], text: &str) -> Result<bool, AllocError> {
+    // A text whose last line has its line feed has an empty line behind it.
+    let lines: Vec<&str> = text.split('\n').collect(alloc)?;
+    Ok(are_printed(prints, lines.as_slice()))
+}
+
 /// Whether an answer is as the case says.
 pub fn is_expected(alloc: Global, case: &Case<'_>, answer: &Answer) -> Result<bool, AllocError> {
-    // A text whose last line has its line feed has an empty line behind it.
-    let lines: Vec<&str> = answer.text.split('\n').collect(alloc)?;
-    let printed = are_printed(case.prints.as_slice(), lines.as_slice());
-    Ok(printed && answer.status == case.status.unwrap_or(0))
+    let printed = is_printed(alloc, case.prints.as_slice(), answer.text.as_str())?;
+    let told = is_printed(
+        alloc,
+        case.complaints.as_slice(),
+        answer.complaints.as_str(),
+    )?;
+    Ok(printed && told && answer.status == case.status.unwrap_or(0))
 }
 
 /// Prints a line of what a case wants.
@@ -71,10 +81,21 @@ fn put_print(output: &mut impl Write, print: &Print<'_>) -> io::Result<()> {
     }
 }
 
+/// Prints a line of what a case wants on standard error.
+fn put_complaint(output: &mut impl Write, complaint: &Print<'_>) -> io::Result<()> {
+    match complaint {
+        Print::Line(text) | Print::Holding(text) => writeln!(output, "! {text}"),
+        Print::AnyLines => Ok(()),
+    }
+}
+
 /// Prints what a case wants.
 fn put_wanted(output: &mut impl Write, case: &Case<'_>) -> io::Result<()> {
     for print in case.prints.iter() {
         put_print(output, print)?;
+    }
+    for complaint in case.complaints.iter() {
+        put_complaint(output, complaint)?;
     }
     writeln!(output, "= {}", case.status.unwrap_or(0))
 }
@@ -83,6 +104,9 @@ fn put_wanted(output: &mut impl Write, case: &Case<'_>) -> io::Result<()> {
 fn put_got(output: &mut impl Write, answer: &Answer) -> io::Result<()> {
     for line in answer.text.lines() {
         writeln!(output, "> {line}")?;
+    }
+    for line in answer.complaints.lines() {
+        writeln!(output, "! {line}")?;
     }
     writeln!(output, "= {}", answer.status)
 }

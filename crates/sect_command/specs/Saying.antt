@@ -1,5 +1,15 @@
 -- What the words of a command line say. The functions that read them cite it.
-use Rattle.std.specs.{Prelude.{◌≡◌, ◌≤◌, ℕ, List, Option, Some, None}, Str.Parse.{IsNumeral, digits_value}}
+use Rattle.std.specs.{Prelude.{◌≡◌, ◌≤◌, ℕ, Bool, true, false, List, [], Option, Some, None, codes}}
+use Rattle.std.specs.{Prelude.{option_map, unwrap_or}, List.{AllZip}}
+use Rattle.std.specs.Str.Parse.{IsNumeral, digits_value}
+use Rattle.clap.specs.{Matches.{first_value, one_text, raw_values, matched_of}}
+use Rattle.clap.specs.declared.parser.matches.Found.{Found}
+use Rattle.sect_answers.specs.declared.format.Format.{Format}
+use Rattle.sect_answers.specs.declared.format.Format.TheVariants as format
+use Rattle.sect_lint.specs.declared.format.LintFormat.{LintFormat}
+use Rattle.sect_lint.specs.declared.format.LintFormat.TheVariants as lint_format
+use Rattle.sect_command.specs.declared.request.Form.{Form}
+use Rattle.sect_command.specs.declared.request.Form.TheVariants as form
 
 -- the text is decimal digits alone, and spells this number, which lies between these two
 abbrev pub Spells : ℕ → ℕ → List ℕ → ℕ → Type 0
@@ -9,3 +19,52 @@ Spells least most text n = IsNumeral 10 text × (digits_value 10 text ≡ n) × 
 abbrev pub SaysNumber : ℕ → ℕ → ℕ → Option (List ℕ) → ℕ → Type 0
 SaysNumber least most default None n = n ≡ default
 SaysNumber least most default (Some text) n = Spells least most text n
+
+-- the option's value spells this number, between these two; or it has none, and there is no number
+abbrev pub MaySayNumber : ℕ → ℕ → Option (List ℕ) → Option ℕ → Type 0
+MaySayNumber least most None n = n ≡ None
+MaySayNumber least most (Some text) None = ⊥
+MaySayNumber least most (Some text) (Some n) = Spells least most text n
+
+-- the option names this format; where it has no value, it is text
+abbrev pub SaysFormat : Option (List ℕ) → Format → Type 0
+SaysFormat None f = f ≡ format.Text
+SaysFormat (Some word) format.Text = word ≡ codes "text"
+SaysFormat (Some word) format.Json = word ≡ codes "json"
+
+-- the option of `lint` names this form; where it has no value, it is text
+abbrev pub SaysLintFormat : Option (List ℕ) → LintFormat → Type 0
+SaysLintFormat None f = f ≡ lint_format.Text
+SaysLintFormat (Some word) lint_format.Text = word ≡ codes "text"
+SaysLintFormat (Some word) lint_format.Json = word ≡ codes "json"
+SaysLintFormat (Some word) lint_format.Sarif = word ≡ codes "sarif"
+
+-- the words spell these numbers, one after another, each a thread's
+abbrev pub AreThreads : List (List ℕ) → List ℕ → Type 0
+AreThreads words threads = AllZip (Spells 0 65535) words threads
+
+-- the values that were found for an option or an operand, in order
+abbrev pub values_in : Found → List ℕ → List (List ℕ)
+values_in found name = unwrap_or (option_map raw_values (matched_of found name)) []
+
+-- the flag was given, or it wasn't
+abbrev pub SaysFlag : Option (List ℕ) → Bool → Type 0
+SaysFlag word given = (word ≡ Some (codes "true") → given ≡ true) × (word ≡ Some (codes "false") → given ≡ false)
+    × (word ≡ None → given ≡ false)
+
+-- the value of a flag, as `clap` keeps it
+abbrev pub flag_in : Found → List ℕ → Option (List ℕ)
+flag_in found name = one_text found name
+
+-- the most fields of a path that the options say
+abbrev pub SaysK : Found → ℕ → Type 0
+SaysK found k = SaysNumber 0 65535 2 (first_value found (codes "k")) k
+
+-- the form of a compiled program that the options say: the certificate is no document
+abbrev pub SaysForm : Found → Form → Type 0
+SaysForm found form.Listing =
+    SaysFlag (flag_in found (codes "cert")) false × SaysFormat (first_value found (codes "format")) format.Text
+SaysForm found form.Document =
+    SaysFlag (flag_in found (codes "cert")) false × SaysFormat (first_value found (codes "format")) format.Json
+SaysForm found form.Certificate =
+    SaysFlag (flag_in found (codes "cert")) true × SaysFormat (first_value found (codes "format")) format.Text

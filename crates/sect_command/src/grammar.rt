@@ -3,6 +3,7 @@
 ghost use Rattle.std.specs.Prelude.{◌≡◌, true, false, IfOk};
 ghost use Rattle.clap.specs.declared.builder.command.Command.TheViews.{out-Command as fields_of};
 
+use crate::subcommand::Subcommand;
 use clap::{Arg, ArgAction, Command};
 use std::alloc::{AllocError, Global};
 
@@ -16,6 +17,8 @@ enum Given {
     Alone,
     /// By `--name` and a word.
     Before(&'static str),
+    /// By a word without a name before it.
+    Once(&'static str),
     /// By words without a name before them, as many as there are.
     Unnamed(&'static str),
 }
@@ -29,6 +32,7 @@ struct Argument {
 
 /// A command and all that it takes.
 struct Row {
+    subcommand: Subcommand,
     name: &'static str,
     about: &'static str,
     takes: &'static [Argument],
@@ -43,7 +47,7 @@ const K: Argument = Argument {
 const FORMAT: Argument = Argument {
     name: "format",
     given: Given::Before("FORMAT"),
-    help: "how the answer is printed, text or json (default text)",
+    help: "how the answer is printed: text or json (default text)",
 };
 
 const LINT_FORMAT: Argument = Argument {
@@ -100,73 +104,116 @@ const TURNS: Argument = Argument {
     help: "the threads whose turn it is, one turn after another",
 };
 
+const FILE: Argument = Argument {
+    name: "file",
+    given: Given::Once("FILE"),
+    help: "the file of the source text; - or none is standard input",
+};
+
+const FILES: Argument = Argument {
+    name: "file",
+    given: Given::Unnamed("FILE"),
+    help: "the files of the source texts, each answered; - or none is standard input",
+};
+
+const NAMED_FILE: Argument = Argument {
+    name: "file",
+    given: Given::Before("FILE"),
+    help: "the file of the source text; - or none is standard input",
+};
+
+const CHECKED_FILE: Argument = Argument {
+    name: "file",
+    given: Given::Once("FILE"),
+    help: "the file of the certificate with the source text; - or none is standard input",
+};
+
 /// All commands, in the order of the help.
 const COMMANDS: &[Row] = &[
     Row {
+        subcommand: Subcommand::Locks,
         name: "locks",
         about: "prints the lock set of each section of the source text",
-        takes: &[K, FORMAT],
+        takes: &[K, FORMAT, FILES],
     },
     Row {
+        subcommand: Subcommand::Compile,
         name: "compile",
         about: "prints the compiled program of the source text",
-        takes: &[K, FORMAT, WORKERS, CERT],
+        takes: &[K, FORMAT, WORKERS, CERT, FILE],
     },
     Row {
+        subcommand: Subcommand::C,
+        name: "c",
+        about: "prints the compiled program of the source text in C",
+        takes: &[K, FILE],
+    },
+    Row {
+        subcommand: Subcommand::Explain,
         name: "explain",
         about: "prints why each section of the source text takes each of its locks",
-        takes: &[K, FORMAT],
+        takes: &[K, FORMAT, FILE],
     },
     Row {
+        subcommand: Subcommand::Conflicts,
         name: "conflicts",
         about: "prints which sections of the source text exclude each other, and where",
-        takes: &[K, FORMAT],
+        takes: &[K, FORMAT, FILES],
     },
     Row {
+        subcommand: Subcommand::Inspect,
         name: "inspect",
         about: "prints all that is known of the source text, as one JSON document",
-        takes: &[K],
+        takes: &[K, FILE],
     },
     Row {
+        subcommand: Subcommand::Graph,
         name: "graph",
         about: "prints the control-flow graph of each section of the source text, for Graphviz",
-        takes: &[K, SECTION],
+        takes: &[K, SECTION, FILE],
     },
     Row {
+        subcommand: Subcommand::Serial,
         name: "serial",
         about: "runs the program of the source text by whole sections in an order, and prints the outcome",
-        takes: &[FUEL, FORMAT, ORDER],
+        takes: &[FUEL, FORMAT, NAMED_FILE, ORDER],
     },
     Row {
+        subcommand: Subcommand::Outcomes,
         name: "outcomes",
         about: "prints every outcome that a run of the program of the source text can have",
-        takes: &[FUEL, MOST, FORMAT],
+        takes: &[FUEL, MOST, FORMAT, FILE],
     },
     Row {
+        subcommand: Subcommand::Schedule,
         name: "schedule",
         about: "runs the compiled program of the source text turn by turn, and prints the events and the outcome so \
             far",
-        takes: &[K, FORMAT, FUEL, CHART, TURNS],
+        takes: &[K, FORMAT, FUEL, CHART, NAMED_FILE, TURNS],
     },
     Row {
+        subcommand: Subcommand::Run,
         name: "run",
         about: "runs the compiled program of the source text by threads, and prints the outcome",
-        takes: &[K, FORMAT, FUEL],
+        takes: &[K, FORMAT, FUEL, FILE],
     },
     Row {
+        subcommand: Subcommand::Lint,
         name: "lint",
         about: "tells what is wrong with the source text, and where",
-        takes: &[K, LINT_FORMAT],
+        takes: &[K, LINT_FORMAT, FILES],
     },
     Row {
+        subcommand: Subcommand::Lsp,
         name: "lsp",
         about: "serves an editor by the Language Server Protocol, on standard input and output",
         takes: &[],
     },
     Row {
+        subcommand: Subcommand::Check,
         name: "check",
         about: "tests a certificate: the input is the certificate, and the source text behind its line `end`",
-        takes: &[K],
+        takes: &[K, CHECKED_FILE],
     },
 ];
 
@@ -181,6 +228,7 @@ fn told_argument<'a>(alloc: Global, argument: &Argument) -> Arg<'a>
             .long(argument.name)
             .value_name(word)
             .action(ArgAction::Set),
+        Given::Once(word) => told.value_name(word).action(ArgAction::Set),
         Given::Unnamed(word) => told
             .value_name(word)
             .num_args(0..)
@@ -205,10 +253,18 @@ pub fn grammar<'a>(alloc: Global) -> Result<Command<'a>, AllocError>
     ensures local { IfOk result (λ c. (fields_of c).has_globals ≡ false) }
 {
     let mut sectc = Command::new(alloc, "sectc")
-        .about("infers the locks of atomic sections; reads a source text on standard input")
+        .about(
+            "infers the locks of atomic sections; reads a source text from a file or on standard input",
+        )
         .version(VERSION);
     for row in COMMANDS {
         sectc = sectc.subcommand(told_command(alloc, row)?)?;
     }
     Ok(sectc.subcommand_required(true))
+}
+
+/// The subcommand of this name.
+pub fn subcommand_named(name: &str) -> Option<Subcommand> {
+    let row = COMMANDS.iter().find(|row| row.name == name)?;
+    Some(row.subcommand)
 }

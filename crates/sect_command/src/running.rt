@@ -1,55 +1,13 @@
-//! What the words of a command line say of a run: the fuel of its threads, and threads by number.
+//! What the words of a command line say of a run: threads by number.
 
-ghost use Rattle.std.specs.Prelude.{◌≤◌, IfOk, length};
-ghost use Rattle.clap.specs.Matches.{first_value, found_of};
-ghost use Rattle.sect_command.specs.Saying.{SaysNumber};
+ghost use Rattle.std.specs.{Prelude.{◌≤◌, ◌++◌, IfOk, codes, length, map}, String.{string_bytes}};
+ghost use Rattle.clap.specs.Matches.{found_of};
+ghost use Rattle.sect_command.specs.Saying.{AreThreads, Spells, values_in};
 
-use crate::options::{MOST, UsageFault, number};
+use crate::numbers::{MOST, number};
+use crate::usage::UsageFault;
 use clap::ArgMatches;
 use std::alloc::Global;
-
-/// An option whose value is a number: its name, the numbers that it takes, from 1 on, and the number where the command
-/// line doesn't say.
-pub struct Bounded {
-    name: &'static str,
-    most: u32,
-    default: u32,
-}
-
-/// The units of fuel of each thread.
-pub const FUEL: Bounded = Bounded {
-    name: "fuel",
-    most: 1_000_000,
-    default: 10_000,
-};
-
-/// The most states that outcomes are sought among.
-pub const STATES: Bounded = Bounded {
-    name: "most",
-    most: 10_000_000,
-    default: 100_000,
-};
-
-impl Bounded {
-    /// The number that the option gives, or the default.
-    pub fn of(&self, alloc: Global, matches: &ArgMatches<'_>) -> Result<u32, UsageFault>
-        ensures { IfOk result (SaysNumber 1 self.now.most self.now.default
-            (first_value (found_of matches.now) self.now.name.now)) }
-    {
-        let Some(text) = matches.get_str(self.name) else {
-            return Ok(self.default);
-        };
-        match number(text, self.most) {
-            Some(given) if given > 0 => Ok(given),
-            _ => Err(UsageFault::Number {
-                value: String::from_str(alloc, text)?,
-                option: self.name,
-                least: 1,
-                most: self.most,
-            }),
-        }
-    }
-}
 
 /// Whether the words are those of a command that takes threads.
 fn take_threads(words: &[String]) -> bool {
@@ -82,9 +40,10 @@ pub fn told_count(words: &[String]) -> usize
         words.len()
     }
 }
-
 /// The thread that a word names.
-fn thread_of(alloc: Global, word: &str) -> Result<u16, UsageFault> {
+fn thread_of(alloc: Global, word: &str) -> Result<u16, UsageFault>
+    ensures { IfOk result (Spells 0 65535 word.now) }
+{
     match number(word, MOST) {
         Some(thread) => Ok(thread as u16),
         None => Err(UsageFault::Thread(String::from_str(alloc, word)?)),
@@ -92,7 +51,9 @@ fn thread_of(alloc: Global, word: &str) -> Result<u16, UsageFault> {
 }
 
 /// The threads that `clap` has found.
-fn found_threads(alloc: Global, matches: &ArgMatches<'_>) -> Result<Vec<u16>, UsageFault> {
+fn found_threads(alloc: Global, matches: &ArgMatches<'_>) -> Result<Vec<u16>, UsageFault>
+    ensures { IfOk result (λ threads. AreThreads (values_in (found_of matches.now) (codes "threads")) threads.items) }
+{
     let mut threads = Vec::new(alloc);
     let Some(words) = matches.get_strs("threads") else {
         return Ok(threads);
@@ -108,7 +69,10 @@ pub fn threads_of(
     alloc: Global,
     matches: &ArgMatches<'_>,
     untold: &[String],
-) -> Result<Vec<u16>, UsageFault> {
+) -> Result<Vec<u16>, UsageFault>
+    ensures { IfOk result (λ threads. AreThreads
+        (values_in (found_of matches.now) (codes "threads") ++ map string_bytes untold.now) threads.items) }
+{
     let mut threads = found_threads(alloc, matches)?;
     threads.reserve(untold.len())?;
     for word in untold {

@@ -1,10 +1,13 @@
-//! `sectc COMMAND [OPTIONS]`: reads a source text on standard input and answers on standard output.
+//! `sectc COMMAND [OPTIONS] [FILE ..]`: reads source texts from files or on standard input, and answers on standard
+//! output.
 #![tactic(auto)]
 
 #[cfg(test)]
 mod tests;
 
-use sect_command::{FAILED, OUT_OF_MEMORY, WRONG_WORDS, command, told};
+use sect_command::{
+    FAILED, OUT_OF_MEMORY, SystemFiles, WRONG_WORDS, Writers, command_on_texts, told,
+};
 use std::env::FillError;
 use std::process::ExitCode;
 use std::{env, io, str};
@@ -13,11 +16,15 @@ use std::{env, io, str};
 const SHORT: usize = 64;
 
 fn main(rt: HostRuntime) -> ExitCode {
-    let mut output = rt.stdout();
+    let mut writers = Writers {
+        output: rt.stdout(),
+        errors: rt.stderr(),
+    };
+    let files = SystemFiles { rt: &rt };
     let status = match arguments(&rt) {
-        Ok(words) => command(&rt, words.as_slice(), rt.stdin(), &mut output),
+        Ok(words) => command_on_texts(&rt, words.as_slice(), &files, rt.stdin(), &mut writers),
         Err(refused) if refused.kind() == io::ErrorKind::OutOfMemory => {
-            told(&mut output, FAILED, OUT_OF_MEMORY)
+            told(&mut writers.output, FAILED, OUT_OF_MEMORY)
         }
         Err(_) => WRONG_WORDS,
     };

@@ -11,13 +11,13 @@ use std::thread::Threads;
 
 /// Numbers that look like chance, the same ones each time.
 #[derive(Drop)]
-struct Chance {
-    state: u32,
+pub struct Chance {
+    pub state: u32,
 }
 
 impl Chance {
     /// The next number below a bound; 0 where the bound is 0.
-    fn below(&mut self, bound: usize) -> usize {
+    pub fn below(&mut self, bound: usize) -> usize {
         self.state = self.state.wrapping_mul(1664525).wrapping_add(1013904223);
         let number = (self.state >> 8) as usize;
         if bound == 0 { 0 } else { number % bound }
@@ -44,7 +44,7 @@ fn change(text: &mut Vec<u8>, chance: &mut Chance) -> Result<(), AllocError> {
 }
 
 /// The text with one to three changes.
-fn changed(alloc: Global, text: &[u8], chance: &mut Chance) -> Result<Vec<u8>, AllocError> {
+pub fn changed(alloc: Global, text: &[u8], chance: &mut Chance) -> Result<Vec<u8>, AllocError> {
     let mut bytes = Vec::from_slice(alloc, text)?;
     change(&mut bytes, chance)?;
     for _ in 0..chance.below(3) {

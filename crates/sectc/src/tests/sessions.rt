@@ -1,5 +1,6 @@
 //! Sessions with an editor: what it sends, what it gets, and the status.
 
+use super::changed::{Chance, changed};
 use super::words_of;
 use sect_command::command;
 use std::alloc::{AllocError, Global};
@@ -191,6 +192,52 @@ fn malformed_headers_end_the_server(rt: HostRuntime) -> Result<(), Fail> {
         let status = command(&rt, words.as_slice(), header.as_bytes(), &mut output);
         assert_eq!(rt; status, 1);
         assert!(rt; output.is_empty());
+    }
+    Ok(())
+}
+
+/// How many conversations are made of each session, 1,002 of all.
+const CHANGED: u16 = 167;
+
+/// What is written for an editor are messages, each behind its header, to the end.
+fn are_messages(written: &str) -> bool {
+    let mut left = written;
+    for _ in 0..written.len() {
+        let Some((header, rest)) = left.split_once("\r\n\r\n") else {
+            break;
+        };
+        let length = header.strip_prefix("Content-Length: ").unwrap_or("");
+        match rest.split_at_checked(length.parse().unwrap_or(usize::MAX)) {
+            Some((_, behind)) => left = behind,
+            None => return false,
+        }
+    }
+    left.is_empty()
+}
+
+/// A conversation ends with the status 0 or 1, and all that is written are messages.
+fn expect_served(
+    rt: &(impl Threads + Wait + Sync + AllocGlobal + Abort),
+    input: &[u8],
+) -> Result<(), Fail> {
+    let words = words_of(rt.alloc(), "lsp")?;
+    let mut whole = Vec::new(rt.alloc());
+    let status = command(rt, words.as_slice(), input, &mut whole);
+    assert!(rt; status <= 1);
+    let written = String::from_utf8_lossy(rt.alloc(), whole.as_slice())?;
+    assert!(rt; are_messages(written.as_str()), "{written}");
+    Ok(())
+}
+
+#[test]
+fn changed_sessions_are_served(rt: HostRuntime) -> Result<(), Fail> {
+    let mut chance = Chance { state: 4 };
+    for (sent, _, _) in SESSIONS {
+        let session = framed(rt.alloc(), sent)?;
+        for _ in 0..CHANGED {
+            let input = changed(rt.alloc(), session.as_slice(), &mut chance)?;
+            expect_served(&rt, input.as_slice())?;
+        }
     }
     Ok(())
 }

@@ -1,0 +1,94 @@
+-- What is reported of the texts of which a request is asked, one after another.
+use Rattle.std.specs.Prelude.{◌≡◌, ◌≢◌, ◌⊎◌, ◌++◌, ◌∷◌, ◌&&◌, not, ℕ, Bool, true, false, max, List, [], Option, IfSome}
+use Rattle.std.specs.Prelude.{codes, map, length, nat_lt, if◌then◌else◌}
+use Rattle.std.specs.{String.{string_bytes}}
+use Rattle.sect_lemmas.specs.Lists.{Has}
+use Rattle.sect_answers.specs.declared.format.Format.TheVariants as format
+use Rattle.sect_lint.specs.declared.format.LintFormat.TheVariants as lint_format
+use Rattle.sect_command.specs.{Statuses.{done, failed}, Requests.{IsRightFor, input_name}}
+use Rattle.sect_command.specs.{declared.report.Answer.{Answer}, declared.report.Report.{Report}}
+use Rattle.sect_command.specs.{declared.request.Asked.{Asked}, declared.request.Request.{Request}}
+use Rattle.sect_command.specs.declared.request.Request.TheVariants.{Locks, Conflicts, Lint}
+
+-- the names, or standard input alone where there are none
+abbrev pub or_input : List (List ℕ) → List (List ℕ)
+or_input [] = input_name ∷ []
+or_input (name ∷ names) = name ∷ names
+
+-- the names of the texts of which a request is asked, in order
+abbrev pub names_of : Asked → List (List ℕ)
+names_of asked = or_input (map string_bytes asked.files.items)
+
+-- the answer is a document, which says itself of what it is
+abbrev pub is_document : Request → Bool
+is_document (Locks k format.Json) = true
+is_document (Conflicts k format.Json) = true
+is_document (Lint k lint_format.Json) = true
+is_document (Lint k lint_format.Sarif) = true
+is_document request = false
+
+-- each answer stands below the name of its text, where there are several texts, and the answers are no documents
+abbrev pub has_headings : Asked → Bool
+has_headings asked = nat_lt 1 (length asked.files.items) && not (is_document asked.request)
+
+-- the empty line before a heading that others stand before
+abbrev pub gap : List ℕ → List ℕ
+gap [] = []
+gap (byte ∷ text) = codes "\n"
+
+-- the heading of a text behind others
+abbrev pub heading : List ℕ → List ℕ → List ℕ
+heading before name = gap before ++ codes "==> " ++ name ++ codes " <==\n"
+
+-- nothing is reported
+pub record IsEmpty (r : Report) : Type 0 where
+  pub status : r.status ≡ done
+  pub text : r.text.items ≡ []
+  pub complaints : r.complaints.items ≡ []
+
+-- the answer to a text of this name is added
+pub record AddsAnswer (asked : Asked) (name : List ℕ) (answer : Answer) (before after : Report) : Type 0 where
+  pub text : after.text.items ≡ before.text.items
+      ++ (if has_headings asked then heading before.text.items name else []) ++ answer.text.items
+  pub status : after.status ≡ max before.status answer.status
+  pub complaints : after.complaints.items ≡ before.complaints.items
+
+-- it is added that the text of this name can't be read, and why
+pub record AddsComplaint (name : List ℕ) (before after : Report) : Type 0 where
+  pub reason : List ℕ
+  pub complaints : after.complaints.items ≡ before.complaints.items ++ name ++ codes ": " ++ reason ++ codes "\n"
+  pub status : after.status ≡ failed
+  pub text : after.text.items ≡ before.text.items
+
+-- the right answer to this text is added
+abbrev pub AddsRight : Asked → List ℕ → List ℕ → Report → Report → Type 0
+AddsRight asked name source before after =
+    (answer : Answer) × IsRightFor name asked.request source answer × AddsAnswer asked name answer before after
+
+-- what is reported of the text of a name: the right answer to standard input, or to the text that the name leads to, as
+-- far as its bytes are known, or that it can't be read
+abbrev pub AddsText : (List ℕ → Option (List ℕ)) → List ℕ → Asked → List ℕ → Report → Report → Type 0
+AddsText bytes_of given asked name before after =
+    ((name ≡ input_name) × AddsRight asked name given before after)
+    ⊎ ((name ≢ input_name) × (((source : List ℕ) × IfSome (bytes_of name) (λ bytes. source ≡ bytes)
+    × AddsRight asked name source before after) ⊎ AddsComplaint name before after))
+
+-- the texts of these names are reported on, one after another
+abbrev pub AddsTexts : (List ℕ → Option (List ℕ)) → List ℕ → Asked → List (List ℕ) → Report → Report → Type 0
+AddsTexts bytes_of given asked [] before after = before ≡ after
+AddsTexts bytes_of given asked (name ∷ names) before after =
+    (between : Report) × AddsText bytes_of given asked name before between
+    × AddsTexts bytes_of given asked names between after
+
+-- this is the text on standard input, where it is asked for and its bytes are known
+abbrev pub IsGiven : Option (List ℕ) → Asked → List ℕ → Type 0
+IsGiven input asked given = Has (names_of asked) input_name → IfSome input (λ bytes. given ≡ bytes)
+
+-- all texts of which the request is asked are reported on, and no others
+pub record IsReport (bytes_of : List ℕ → Option (List ℕ)) (input : Option (List ℕ)) (asked : Asked) (report : Report)
+    : Type 0 where
+  pub given : List ℕ
+  pub read : IsGiven input asked given
+  pub start : Report
+  pub empty : IsEmpty start
+  pub texts : AddsTexts bytes_of given asked (names_of asked) start report

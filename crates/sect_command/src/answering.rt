@@ -1,0 +1,271 @@
+//! What is answered to the texts of which a request is asked.
+
+ghost use Rattle.std.specs.{Prelude.{◌≡◌, ◌++◌, [], if◌then◌else◌, IfOk, IfErr, OnOk}, String.{string_bytes}};
+ghost use Rattle.sect_command.specs.declared.failure.Failure.TheVariants.{Memory};
+ghost use Rattle.sect_command.specs.Requests.{Answers, IsRefusalDue, IsRightFor, is_marked as is_marked_for, line_for};
+ghost use Rattle.sect_command.specs.Requests.{threads_of};
+ghost use Rattle.sect_command.specs.Reporting.{AddsComplaint, AddsRight, AddsText, IsGiven, IsReport};
+ghost use Rattle.sect_command.specs.Reporting.{has_headings, heading};
+
+use crate::failure::Failure;
+use crate::report::{Answer, Report};
+use crate::request::{Asked, Form, Request};
+use crate::statuses::{DONE, FAILED, REFUSED};
+use crate::texts::Texts;
+use sect_answers::{
+    Format, Refusal, all_outcomes, findings, inspection, locks, program_certificate,
+    program_conflicts, program_document, program_explanation, program_graph, program_in_c,
+    program_listing, put_refusal, run_outcome, schedule_chart, schedule_outcome, serial_outcome,
+    verdict,
+};
+use sect_lint::LintFormat;
+use sect_run::OpenGate;
+use std::alloc::{AllocError, Global};
+use std::io;
+use std::io::{ErrorKind, Read};
+use std::sync::Wait;
+use std::thread::Threads;
+
+/// The name that stands for standard input.
+pub const INPUT: &str = "-";
+
+/// A request with all that its answers come from: threads, named texts, and the text on standard input.
+#[derive(Drop)]
+struct Setting<'a, R: Threads + Wait + Sync, T: Texts> {
+    rt: &'a R,
+    texts: &'a T,
+    asked: &'a Asked,
+    given: &'a [u8],
+}
+
+/// What is answered to each text of which a request is asked, one after another.
+pub fn reported<R: Threads + Wait + Sync, T: Texts, I: Read + Drop>(
+    rt: &R,
+    alloc: Global,
+    texts: &T,
+    asked: &Asked,
+    input: I,
+) -> Result<Report, Failure>
+    ensures { IfOk result (IsReport (T.bytes_of texts.now) (I.remaining input) asked.now) }
+{
+    let given = given_text(alloc, asked, input)?;
+    let setting = Setting {
+        rt,
+        texts,
+        asked,
+        given: given.as_slice(),
+    };
+    let mut report = Report {
+        status: DONE,
+        text: Vec::new(alloc),
+        complaints: Vec::new(alloc),
+    };
+    if asked.files.is_empty() {
+        add_text(alloc, &setting, INPUT, &mut report)?;
+    }
+    for name in &asked.files {
+        add_text(alloc, &setting, name.as_str(), &mut report)?;
+    }
+    Ok(report)
+}
+
+/// The text on standard input, if it is asked for.
+fn given_text<I: Read + Drop>(
+    alloc: Global,
+    asked: &Asked,
+    mut input: I,
+) -> Result<Vec<u8>, Failure>
+    ensures { IfOk result (λ given. IsGiven (I.remaining input) asked.now given.items) }
+{
+    let mut given = Vec::new(alloc);
+    if asked.reads_input() {
+        input.read_to_end(&mut given)?;
+    }
+    Ok(given)
+}
+
+/// Adds what is answered to the text of a name.
+fn add_text<R: Threads + Wait + Sync, T: Texts>(
+    alloc: Global,
+    setting: &Setting<'_, R, T>,
+    name: &str,
+    report: &mut Report,
+) -> Result<(), Failure>
+    ensures { OnOk result (AddsText (T.bytes_of setting.now.texts.now) setting.now.given.now setting.now.asked.now
+        name.now report.old report.new) }
+{
+    if name == INPUT {
+        return add_answer_to(alloc, setting, name, setting.given, report);
+    }
+    match setting.texts.text_of(alloc, name) {
+        Ok(source) => add_answer_to(alloc, setting, name, source.as_slice(), report),
+        Err(failed) if failed.kind() == ErrorKind::OutOfMemory => Err(Failure::Memory),
+        Err(failed) => Ok(add_complaint(alloc, name, failed, report)?),
+    }
+}
+
+/// Adds what is answered to a text of this name.
+fn add_answer_to<R: Threads + Wait + Sync, T: Texts>(
+    alloc: Global,
+    setting: &Setting<'_, R, T>,
+    name: &str,
+    source: &[u8],
+    report: &mut Report,
+) -> Result<(), Failure>
+    ensures { OnOk result (AddsRight setting.now.asked.now name.now source.now report.old report.new) }
+{
+    let answer = worked(setting.rt, alloc, &setting.asked.request, name, source)?;
+    put_head(&mut report.text, setting.asked, name)?;
+    report.text.extend_from_slice(answer.text.as_slice())?;
+    report.status = report.status.max(answer.status);
+    Ok(())
+}
+
+/// Adds what stands above the answer to a text.
+fn put_head(text: &mut Vec<u8>, asked: &Asked, name: &str) -> Result<(), AllocError>
+    ensures { OnOk result (text.new.items ≡ text.old.items
+        ++ (if has_headings asked.now then heading text.old.items name.now else [])) }
+{
+    if asked.has_headings() {
+        put_heading(text, name)
+    } else {
+        Ok(())
+    }
+}
+
+/// Adds the heading of a text, behind an empty line where others stand before it.
+fn put_heading(text: &mut Vec<u8>, name: &str) -> Result<(), AllocError>
+    ensures { OnOk result (text.new.items ≡ text.old.items ++ heading text.old.items name.now) }
+{
+    if !text.is_empty() {
+        text.push(b'\n')?;
+    }
+    text.extend_from_slice(b"==> ")?;
+    text.extend_from_slice(name.as_bytes())?;
+    text.extend_from_slice(b" <==\n")
+}
+
+/// Adds that the text of a name can't be read, and why.
+fn add_complaint(
+    alloc: Global,
+    name: &str,
+    failed: io::Error,
+    report: &mut Report,
+) -> Result<(), AllocError>
+    ensures { OnOk result (AddsComplaint name.now report.old report.new) }
+{
+    let reason = format!(in alloc; "{failed}")?;
+    let complaints = &mut report.complaints;
+    complaints.extend_from_slice(name.as_bytes())?;
+    complaints.extend_from_slice(b": ")?;
+    complaints.extend_from_slice(reason.as_bytes())?;
+    complaints.push(b'\n')?;
+    report.status = FAILED;
+    Ok(())
+}
+
+/// What a request is answered of a text of this name.
+fn worked<R: Threads + Wait + Sync>(
+    rt: &R,
+    alloc: Global,
+    request: &Request,
+    name: &str,
+    source: &[u8],
+) -> Result<Answer, Failure>
+    ensures answers { IfOk result (IsRightFor name.now request.now source.now) }
+    ensures fails { IfErr result (λ failure. failure ≡ Memory) }
+{
+    let threads = request.threads().to_vec(alloc)?;
+    match printed(rt, alloc, request, threads, source) {
+        Ok(text) => Ok(Answer { status: DONE, text }),
+        Err(Refusal::Memory) => Err(Failure::Memory),
+        Err(refusal) => Ok(Answer {
+            status: REFUSED,
+            text: refusal_line(alloc, name, &refusal)?.into_bytes(),
+        }),
+    }
+}
+
+/// The line of a refusal, behind the name of the file whose text is refused.
+fn refusal_line(alloc: Global, name: &str, refusal: &Refusal) -> Result<String, AllocError>
+    ensures { IfOk result (λ line. string_bytes line ≡ line_for name.now refusal.now) }
+{
+    let mut line = String::new(alloc);
+    if is_marked(name, refusal) {
+        line.push_str(name)?;
+        line.push_str(": ")?;
+    }
+    put_refusal(&mut line, refusal)?;
+    line.push_str("\n")?;
+    Ok(line)
+}
+
+/// Whether the name of a text stands before the line of its refusal: that of a file does, but for a report, which has
+/// lines of its own.
+fn is_marked(name: &str, refusal: &Refusal) -> bool
+    ensures { result ≡ is_marked_for name.now refusal.now }
+{
+    match refusal {
+        Refusal::Report(_) => false,
+        _ => name != INPUT,
+    }
+}
+
+/// What is printed for a request, with a copy of its threads, that is not refused.
+fn printed<R: Threads + Wait + Sync>(
+    rt: &R,
+    alloc: Global,
+    request: &Request,
+    threads: Vec<u16>,
+    source: &[u8],
+) -> Result<Vec<u8>, Refusal>
+    requires { threads.items ≡ threads_of request.now }
+    ensures answers { IfOk result (λ text. Answers request.now source.now text.items) }
+    ensures refuses { IfErr result (IsRefusalDue request.now source.now) }
+{
+    match request {
+        Request::Locks { k, format } => Ok(locks(alloc, source, *k, *format)?.into_bytes()),
+        Request::Compile {
+            k,
+            workers,
+            form: Form::Listing,
+        } => program_listing(rt, alloc, source, *k, *workers),
+        Request::Compile {
+            k,
+            workers,
+            form: Form::Document,
+        } => program_document(rt, alloc, source, *k, *workers),
+        Request::Compile {
+            k,
+            workers,
+            form: Form::Certificate,
+        } => program_certificate(rt, alloc, source, *k, *workers),
+        Request::C { k } => program_in_c(alloc, source, *k),
+        Request::Explain { k, format } => program_explanation(alloc, source, *k, *format),
+        Request::Conflicts { k, format } => {
+            Ok(program_conflicts(alloc, source, *k, *format)?.into_bytes())
+        }
+        Request::Serial { fuel, format, .. } => {
+            Ok(serial_outcome(alloc, source, *fuel, threads, *format)?.into_bytes())
+        }
+        Request::Outcomes { fuel, most, format } => {
+            Ok(all_outcomes(alloc, source, *fuel, *most, *format)?.into_bytes())
+        }
+        Request::Schedule {
+            k,
+            fuel,
+            format,
+            ..
+        } => Ok(schedule_outcome(alloc, source, *k, *fuel, threads, *format)?.into_bytes()),
+        Request::Chart { k, fuel, .. } => {
+            Ok(schedule_chart(alloc, source, *k, *fuel, threads)?.into_bytes())
+        }
+        Request::Run { k, fuel, format } => {
+            Ok(run_outcome(rt, alloc, source, *k, *fuel, &OpenGate, *format)?.into_bytes())
+        }
+        Request::Graph { k, section } => program_graph(alloc, source, *k, *section),
+        Request::Lint { k, format } => Ok(findings(alloc, source, *k, *format)?.into_bytes()),
+        Request::Inspect { k } => inspection(alloc, source, *k),
+        Request::Check { k } => Ok(verdict(alloc, source, *k)?.into_bytes()),
+    }
+}

@@ -1,0 +1,170 @@
+//! What the words of a command line ask for.
+
+ghost use Rattle.std.specs.Prelude.{◌≡◌, true};
+ghost use Rattle.sect_lemmas.specs.Lists.{Has};
+ghost use Rattle.sect_command.specs.Requests.{input_name, threads_of};
+ghost use Rattle.sect_command.specs.Reporting.{has_headings as has_headings_of, names_of};
+ghost use Rattle.sect_command.specs.Reporting.{is_document as is_document_of};
+
+use crate::answering::INPUT;
+use sect_answers::Format;
+use sect_lint::LintFormat;
+
+/// What is answered to a whole text.
+#[derive(Drop)]
+pub enum Request {
+    /// The lock set of each section, whose paths have at most k fields.
+    Locks {
+        k: u16,
+        format: Format,
+    },
+    /// The compiled program, in this form, with paths of at most k fields, by so many workers.
+    Compile {
+        k: u16,
+        workers: u16,
+        form: Form,
+    },
+    /// The compiled program in C, with paths of at most k fields.
+    C {
+        k: u16,
+    },
+    /// Why each section takes its locks, whose paths have at most k fields.
+    Explain {
+        k: u16,
+        format: Format,
+    },
+    /// Which sections exclude each other, where paths have at most k fields.
+    Conflicts {
+        k: u16,
+        format: Format,
+    },
+    /// The control-flow graphs of all sections, or of the one of this number, where paths have at most k fields.
+    Graph {
+        k: u16,
+        section: Option<u16>,
+    },
+    /// What is wrong with the text, in this form, where paths have at most k fields.
+    Lint {
+        k: u16,
+        format: LintFormat,
+    },
+    /// What is known of the program, as a document, where paths have at most k fields.
+    Inspect {
+        k: u16,
+    },
+    /// The outcome of a run by whole sections of these threads, each thread with this much fuel.
+    Serial {
+        fuel: u32,
+        order: Vec<u16>,
+        format: Format,
+    },
+    /// All outcomes of whole sections, each thread with this much fuel, where they lead to at most so many states.
+    Outcomes {
+        fuel: u32,
+        most: u32,
+        format: Format,
+    },
+    /// A run by the turns of these threads, each thread with this much fuel, of the program that is compiled with paths
+    /// of at most k fields.
+    Schedule {
+        k: u16,
+        fuel: u32,
+        schedule: Vec<u16>,
+        format: Format,
+    },
+    /// The same run, as a chart.
+    Chart {
+        k: u16,
+        fuel: u32,
+        schedule: Vec<u16>,
+    },
+    /// A run by threads, each with this much fuel, of the program that is compiled with paths of at most k fields.
+    Run {
+        k: u16,
+        fuel: u32,
+        format: Format,
+    },
+    /// Whether a certificate is valid for the source behind it, with paths of at most k fields.
+    Check {
+        k: u16,
+    },
+}
+
+impl Request {
+    /// Whether the answer is a document, which says itself of what it is, where several texts may be answered.
+    fn is_document(&self) -> bool
+        ensures { result ≡ is_document_of self.now }
+    {
+        match self {
+            Request::Locks {
+                format: Format::Json,
+                ..
+            }
+            | Request::Conflicts {
+                format: Format::Json,
+                ..
+            } => true,
+            Request::Lint { format, .. } => !matches!(format, LintFormat::Text),
+            _ => false,
+        }
+    }
+
+    /// The threads of an order or a schedule; of another request none.
+    pub fn threads(&self) -> &[u16]
+        ensures { result.now ≡ threads_of self.now }
+    {
+        match self {
+            Request::Serial { order, .. } => order.as_slice(),
+            Request::Schedule { schedule, .. } | Request::Chart { schedule, .. } => {
+                schedule.as_slice()
+            }
+            _ => &[],
+        }
+    }
+}
+
+/// A request, and the names of the files whose texts it is asked of, in order. Without names, and where one is `-`,
+/// that is the text on standard input.
+#[derive(Drop)]
+pub struct Asked {
+    pub request: Request,
+    pub files: Vec<String>,
+}
+
+impl Asked {
+    /// Whether each answer stands below the name of its text: there are several, and they are no documents.
+    pub fn has_headings(&self) -> bool
+        ensures { result ≡ has_headings_of self.now }
+    {
+        self.files.len() > 1 && !self.request.is_document()
+    }
+
+    /// Whether the text on standard input is asked for.
+    pub fn reads_input(&self) -> bool
+        ensures { Has (names_of self.now) input_name → result ≡ true }
+    {
+        for name in &self.files {
+            if name.as_str() == INPUT {
+                return true;
+            }
+        }
+        self.files.is_empty()
+    }
+}
+
+/// What the words of a command line ask for.
+#[derive(Drop)]
+pub enum Wanted {
+    /// A session with an editor.
+    Session,
+    /// An answer to each of some texts.
+    Answers(Asked),
+}
+
+/// How a compiled program is printed.
+#[derive(Clone, Copy)]
+pub enum Form {
+    Listing,
+    Document,
+    Certificate,
+}

@@ -1,5 +1,5 @@
 -- What a request is answered of a source text.
-use Rattle.std.specs.Prelude.{◌≡◌, ◌≢◌, ◌⊎◌, ◌++◌, ℕ, Bool, false, not, List, [], codes, if◌then◌else◌}
+use Rattle.std.specs.Prelude.{◌≡◌, ◌≢◌, ◌⊎◌, ◌++◌, ℕ, Bool, true, false, not, List, [], codes}
 use Rattle.std.specs.Str.{bytes_eq}
 use Rattle.sect_infer.specs.Workers.{AreOffered}
 use Rattle.sect_answers.specs.{Answers.{IsAnswer, IsDue}, Charting.{IsCharted}, Checking.{IsValidInput, IsCheckDue}}
@@ -7,7 +7,7 @@ use Rattle.sect_answers.specs.Compiling.{IsCertified, IsProgramListing, IsProgra
 use Rattle.sect_answers.specs.{Conflicting.{AreProgramConflicts}, Explaining.{IsProgramExplanation}}
 use Rattle.sect_answers.specs.InC.{IsProgramInC}
 use Rattle.sect_answers.specs.{Graphing.{IsProgramGraph, IsGraphDue}, Findings.{IsUnblamed, IsInspection, IsLintDue}}
-use Rattle.sect_answers.specs.{Outcomes.{AreAllOutcomes, IsOutcomesDue}, Refusals.{refusal_text}}
+use Rattle.sect_answers.specs.{Outcomes.{AreAllOutcomes, IsOutcomesDue}, Placing.{AddsPlace}, Refusals.{refusal_text}}
 use Rattle.sect_answers.specs.{Running.{IsOutcomeOfRun}, Scheduling.{IsScheduled, IsScheduleDue}}
 use Rattle.sect_answers.specs.{Serial.{IsOutcome, IsSerialDue}, declared.refusal.Refusal.{Refusal}}
 use Rattle.sect_lint.specs.declared.format.LintFormat.TheVariants.{Json}
@@ -76,13 +76,45 @@ abbrev pub is_marked : List ℕ → Refusal → Bool
 is_marked name (refusal.Report text) = false
 is_marked name why = not (bytes_eq name input_name)
 
--- what is written for a refusal of the text of this name
-abbrev pub line_for : List ℕ → Refusal → List ℕ
-line_for name why = (if is_marked name why then name ++ codes ": " else []) ++ line_of why
+-- of at most how many fields paths are, where the text is judged; what a serial run goes by doesn't depend on it
+abbrev pub path_length_of : Request → ℕ
+path_length_of (Locks k format) = k
+path_length_of (Compile k workers form) = k
+path_length_of (C k) = k
+path_length_of (Explain k format) = k
+path_length_of (Conflicts k format) = k
+path_length_of (Serial fuel order format) = 2
+path_length_of (Outcomes fuel most format) = 2
+path_length_of (Schedule k fuel schedule format) = k
+path_length_of (Chart k fuel schedule) = k
+path_length_of (Run k fuel format) = k
+path_length_of (Graph k section) = k
+path_length_of (Lint k format) = k
+path_length_of (Inspect k) = k
+path_length_of (Check k) = k
+
+-- where the text itself is refused, the place of its mistake is added to these bytes
+abbrev pub AddsPlaceOf : Request → List ℕ → Refusal → List ℕ → List ℕ → Type 0
+AddsPlaceOf request source (refusal.Source why) old new = AddsPlace source (path_length_of request) old new
+AddsPlaceOf request source why old new = new ≡ old
+
+-- the name of a text, and where its mistake stands
+abbrev pub IsMark : List ℕ → Request → List ℕ → Refusal → List ℕ → Type 0
+IsMark name request source why mark =
+    (placed : List ℕ) × AddsPlaceOf request source why name placed × (mark ≡ placed ++ codes ": ")
+
+-- this is written for a refusal of the text of this name, behind a mark where it has one
+abbrev pub IsMarkedLine : Bool → List ℕ → Request → List ℕ → Refusal → List ℕ → Type 0
+IsMarkedLine false name request source why line = line ≡ line_of why
+IsMarkedLine true name request source why line =
+    (mark : List ℕ) × IsMark name request source why mark × (line ≡ mark ++ line_of why)
+
+abbrev pub IsLineFor : List ℕ → Request → List ℕ → Refusal → List ℕ → Type 0
+IsLineFor name request source why = IsMarkedLine (is_marked name why) name request source why
 
 -- the answer is done with what is requested of the source of this name, or it is the line of a refusal that is due
 abbrev pub IsRightFor : List ℕ → Request → List ℕ → Answer → Type 0
 IsRightFor name request source answer =
     ((answer.status ≡ done) × Answers request source answer.text.items)
     ⊎ ((answer.status ≡ refused) × ((why : Refusal) × (why ≢ refusal.Memory) × IsRefusalDue request source why
-    × (answer.text.items ≡ line_for name why)))
+    × IsLineFor name request source why answer.text.items))

@@ -2,8 +2,8 @@
 
 ghost use Rattle.std.specs.{Prelude.{◌≡◌, ◌++◌, [], if◌then◌else◌, IfOk, IfErr, OnOk}, String.{string_bytes}};
 ghost use Rattle.sect_command.specs.declared.failure.Failure.TheVariants.{Memory};
-ghost use Rattle.sect_command.specs.Requests.{Answers, IsRefusalDue, IsRightFor, is_marked as is_marked_for, line_for};
-ghost use Rattle.sect_command.specs.Requests.{threads_of};
+ghost use Rattle.sect_command.specs.Requests.{AddsPlaceOf, Answers, IsLineFor, IsRefusalDue, IsRightFor};
+ghost use Rattle.sect_command.specs.Requests.{is_marked as is_marked_for, threads_of};
 ghost use Rattle.sect_command.specs.Reporting.{AddsComplaint, AddsRight, AddsText, IsGiven, IsReport};
 ghost use Rattle.sect_command.specs.Reporting.{has_headings, heading};
 
@@ -15,8 +15,8 @@ use crate::texts::Texts;
 use sect_answers::{
     Format, Refusal, all_outcomes, findings, inspection, locks, program_certificate,
     program_conflicts, program_document, program_explanation, program_graph, program_in_c,
-    program_listing, put_refusal, run_outcome, schedule_chart, schedule_outcome, serial_outcome,
-    verdict,
+    program_listing, put_mistake_place, put_refusal, run_outcome, schedule_chart, schedule_outcome,
+    serial_outcome, verdict,
 };
 use sect_lint::LintFormat;
 use sect_run::OpenGate;
@@ -181,23 +181,47 @@ fn worked<R: Threads + Wait + Sync>(
         Err(Refusal::Memory) => Err(Failure::Memory),
         Err(refusal) => Ok(Answer {
             status: REFUSED,
-            text: refusal_line(alloc, name, &refusal)?.into_bytes(),
+            text: refusal_line(alloc, name, request, source, &refusal)?.into_bytes(),
         }),
     }
 }
 
-/// The line of a refusal, behind the name of the file whose text is refused.
-fn refusal_line(alloc: Global, name: &str, refusal: &Refusal) -> Result<String, AllocError>
-    ensures { IfOk result (λ line. string_bytes line ≡ line_for name.now refusal.now) }
+/// The line of a refusal. Before it stands the name of the file whose text is refused, and where its mistake stands.
+fn refusal_line(
+    alloc: Global,
+    name: &str,
+    request: &Request,
+    source: &[u8],
+    refusal: &Refusal,
+) -> Result<String, AllocError>
+    ensures { IfOk result (λ line. IsLineFor name.now request.now source.now refusal.now (string_bytes line)) }
 {
     let mut line = String::new(alloc);
     if is_marked(name, refusal) {
         line.push_str(name)?;
+        put_place(alloc, &mut line, request, source, refusal)?;
         line.push_str(": ")?;
     }
     put_refusal(&mut line, refusal)?;
     line.push_str("\n")?;
     Ok(line)
+}
+
+/// Adds where the mistake stands for which a text is refused. Other refusals have no place.
+fn put_place(
+    alloc: Global,
+    line: &mut String,
+    request: &Request,
+    source: &[u8],
+    refusal: &Refusal,
+) -> Result<(), AllocError>
+    ensures { OnOk result (AddsPlaceOf request.now source.now refusal.now (string_bytes line.old)
+        (string_bytes line.new)) }
+{
+    match refusal {
+        Refusal::Source(_) => put_mistake_place(alloc, line, source, request.path_length()),
+        _ => Ok(()),
+    }
 }
 
 /// Whether the name of a text stands before the line of its refusal: that of a file does, but for a report, which has

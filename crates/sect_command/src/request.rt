@@ -2,11 +2,12 @@
 
 ghost use Rattle.std.specs.Prelude.{◌≡◌, true};
 ghost use Rattle.sect_lemmas.specs.Lists.{Has};
-ghost use Rattle.sect_command.specs.Requests.{input_name, threads_of};
+ghost use Rattle.sect_command.specs.Requests.{input_name, path_length_of, threads_of};
 ghost use Rattle.sect_command.specs.Reporting.{has_headings as has_headings_of, names_of};
 ghost use Rattle.sect_command.specs.Reporting.{is_document as is_document_of};
 
 use crate::answering::INPUT;
+use crate::numbers::DEFAULT_K;
 use sect_answers::Format;
 use sect_lint::LintFormat;
 
@@ -106,6 +107,27 @@ impl Request {
             } => true,
             Request::Lint { format, .. } => !matches!(format, LintFormat::Text),
             _ => false,
+        }
+    }
+
+    /// Of at most how many fields paths are, where the text is judged. What a serial run goes by doesn't depend on it.
+    pub fn path_length(&self) -> u16
+        ensures { result ≡ path_length_of self.now }
+    {
+        match self {
+            Request::Locks { k, .. }
+            | Request::Compile { k, .. }
+            | Request::C { k }
+            | Request::Explain { k, .. }
+            | Request::Conflicts { k, .. }
+            | Request::Schedule { k, .. }
+            | Request::Chart { k, .. }
+            | Request::Run { k, .. }
+            | Request::Graph { k, .. }
+            | Request::Lint { k, .. }
+            | Request::Inspect { k }
+            | Request::Check { k } => *k,
+            Request::Serial { .. } | Request::Outcomes { .. } => DEFAULT_K,
         }
     }
 

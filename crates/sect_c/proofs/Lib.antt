@@ -1,3 +1,14 @@
+mod Actions
+mod Comments
+mod Graphs
 mod Joined
 mod Labelling
+mod Lines
+mod Lists
+mod Nodes
+mod Pairs
+mod Paths
+mod Plans
+mod Reading
 mod Rows
+mod Values

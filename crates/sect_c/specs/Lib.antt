@@ -1,8 +1,12 @@
+pub mod Back
 pub mod Declarations
 pub mod Emitted
+pub mod Fits
 pub mod Naming
 pub mod Programs
+pub mod Said
 pub mod Sections
 pub mod Statements
 pub mod Telling
+pub mod Told
 pub mod Words

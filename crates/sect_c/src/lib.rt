@@ -13,5 +13,7 @@ mod threads;
 mod types;
 mod words;
 
-pub use laws::labels_tell_places;
+pub use laws::{
+    labels_tell_places, lines_tell_graphs, lines_tell_nodes, looks_tell_locks, tables_tell_keys,
+};
 pub use program::c_program;

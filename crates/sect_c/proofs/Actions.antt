@@ -1,31 +1,19 @@
 -- Statements in C can be read back.
-use Rattle.std.proofs.Common.{◌≡◌, ◌<◌, ℕ, Bool, true, false, cond, List, [], ◌∷◌, ◌++◌, refl, codes, length, slice_index_or}
-use Rattle.std.proofs.Common.{sym, ap, ◌∙◌, arith, subst, append_assoc}
-use Rattle.std.specs.{Prelude.{⊤, if◌then◌else◌, nat_eq}, List.{list_all}, Fmt.{decimal}}
-use Rattle.sect_front.specs.Words.{is_digit, is_name_byte}
+use Rattle.std.proofs.Common.{◌≡◌, ℕ, Bool, true, false, List, [], ◌++◌, refl, codes}
+use Rattle.std.proofs.Common.{ap, ◌∙◌, append_assoc}
+use Rattle.std.specs.{Prelude.{if◌then◌else◌}, Fmt.{decimal}}
 use Rattle.sect_front.specs.TreeView.{TreeView}
-use Rattle.sect_types.specs.Programs.{ProgramView}
-use Rattle.sect_c.specs.Told.{AreNames, NamesTell, DeclareAlike}
-use Rattle.sect_c.specs.Naming.{local_c, value_c, member_c, base_c, field_c}
-use Rattle.sect_c.specs.Statements.{fault_c, null_test_c, target_c, load_c, store_c, operation_c, action_c, is_looked, is_local}
-use Rattle.sect_c.specs.Said.{said}
+use Rattle.sect_c.specs.Naming.{local_c, value_c, member_c}
+use Rattle.sect_c.specs.Statements.{fault_c, null_test_c, target_c, load_c, store_c, operation_c, action_c, is_looked}
+use Rattle.sect_c.specs.Statements.{is_local}
 use Rattle.sect_c.specs.Fits.{member}
 use Rattle.sect_types.specs.declared.expansion.action.Field.{Field}
 use Rattle.sect_types.specs.declared.expansion.action.Value.{Value}
 use Rattle.sect_types.specs.declared.expansion.action.Base.{Base}
-use Rattle.sect_c.specs.declared.context.Member.{Member}
-use Rattle.sect_front.specs.declared.tree.Operator.{Operator}
-use Rattle.sect_front.specs.declared.tree.Operator.TheVariants.{Add, Subtract, Multiply}
-use Rattle.sect_emit.specs.declared.graphs.GraphOf.{GraphOf}
 use Rattle.sect_c.specs.declared.context.Standing.{Standing}
 use Rattle.sect_types.specs.declared.expansion.action.Action.{Action}
 use Rattle.sect_types.specs.declared.expansion.action.Action.TheVariants.{Assign, Compute, New, Load, Store, Print}
-use Rattle.sect_c.proofs.Reading.{Reads, Any, Stops, told, next, until, ends, behind, only, closed, apart, spelled, number}
-use Rattle.sect_c.proofs.Reading.{moved}
-use Rattle.sect_c.specs.Back.{standing}
-use Rattle.sect_c.proofs.Lines.{null_read, target_read, load_read, fault_read}
 use Rattle.sect_types.specs.declared.expansion.action.Base.TheVariants as base
-use Rattle.sect_types.specs.declared.expansion.action.Value.TheVariants as value
 
 -- it is said
 abbrev pub is_self : Action → Bool
@@ -50,7 +38,8 @@ parts t looked s p (Compute x v o w) =
     codes "  if (" ++ (operation_c o ++ (codes "(&" ++ (local_c t s.thread x ++ (codes ", " ++ (value_c t s.thread v
     ++ (codes ", " ++ (value_c t s.thread w ++ (codes "))" ++ fault_c s (codes "SECT_OVERFLOW")))))))))
 parts t looked s p (New x r site) =
-    target_c t s x ++ (codes "sect_make(me, sizeof *" ++ (local_c t s.thread x ++ (codes ", " ++ (decimal r ++ codes ");\n"))))
+    target_c t s x ++ (codes "sect_make(me, sizeof *"
+    ++ (local_c t s.thread x ++ (codes ", " ++ (decimal r ++ codes ");\n"))))
 parts t looked s p (Load x (base.Global g) f) =
     target_c t s x ++ (load_c t looked s (member (base.Global g) f) ++ codes ";\n")
 parts t looked s p (Load x (base.Local y) f) =
@@ -80,10 +69,12 @@ put_is : (t : TreeView) (looked : List Field) (s : Standing) (b : Base) (f : Fie
 put_is t looked s b f v = go (is_looked looked f)
   where
     go : (c : Bool) → (if c then
-        codes "  SECT_PUT(&" ++ member_c t s.thread (member b f) ++ codes ", " ++ value_c t s.thread v ++ codes ");\n" else
+        codes "  SECT_PUT(&" ++ member_c t s.thread (member b f) ++ codes ", " ++ value_c t s.thread v ++ codes ");\n"
+        else
         codes "  " ++ member_c t s.thread (member b f) ++ codes " = " ++ value_c t s.thread v ++ codes ";\n")
         ≡ put t s c b f v
-    go true = five (codes "  SECT_PUT(&") (member_c t s.thread (member b f)) (codes ", ") (value_c t s.thread v) (codes ");\n")
+    go true = five (codes "  SECT_PUT(&") (member_c t s.thread (member b f)) (codes ", ") (value_c t s.thread v)
+        (codes ");\n")
     go false = five (codes "  ") (member_c t s.thread (member b f)) (codes " = ") (value_c t s.thread v) (codes ";\n")
 
 assigned : (b : Bool) (x y : List ℕ) → b ≡ false → (if b then x else y) ≡ y

@@ -1,17 +1,16 @@
 -- Comments end with their lines.
-use Rattle.std.proofs.Common.{◌≡◌, ◌<◌, ℕ, Bool, true, false, not, eqb, List, [], ◌∷◌, ◌++◌, refl, codes, Option, Some, None}
+use Rattle.std.proofs.Common.{◌≡◌, ◌<◌, ℕ, Bool, true, false, not, eqb, List, [], ◌∷◌, ◌++◌, refl, codes, Option, Some}
+use Rattle.std.proofs.Common.{None}
 use Rattle.std.proofs.Common.{sym, ap, ◌∙◌, arith, true≢false, eqb-true, append_assoc}
 use Rattle.std.specs.{List.{list_all}, Fmt.{decimal}}
 use Rattle.std.proofs.lemmas.Bool.{and_from, and_parts}
 use Rattle.sect_front.specs.Words.{is_digit, is_name_byte}
-use Rattle.sect_front.specs.TreeView.{TreeView}
 use Rattle.sect_types.specs.Programs.{ProgramView}
-use Rattle.sect_types.specs.declared.declarations.local_name.LocalName.{LocalName}
 use Rattle.sect_emit.specs.Labels.{label_text, action_text, value_text, base_text, access_text}
 use Rattle.sect_emit.specs.Labels.{target_text, record_name}
-use Rattle.sect_names.specs.Printing.{variable_text, local_at, global_name, field_name}
 use Rattle.sect_types.specs.LocalNames.{local_text, call_text}
-use Rattle.sect_emit.specs.Labels.{operator_text, condition_text}
+use Rattle.sect_names.specs.Printing.{local_at, global_name, field_name}
+use Rattle.sect_emit.specs.Labels.{operator_text}
 use Rattle.sect_front.specs.Spelling.{comparison_spelling}
 use Rattle.sect_c.specs.Told.{AreNames}
 use Rattle.sect_types.specs.declared.expansion.action.Field.{Field}

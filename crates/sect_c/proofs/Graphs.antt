@@ -1,13 +1,12 @@
 -- Graphs in C can be read back.
-use Rattle.std.proofs.Common.{◌≡◌, ◌<◌, ◌≤◌, ◌+◌, ℕ, Bool, true, false, List, [], ◌∷◌, ◌++◌, refl, codes, length, map}
-use Rattle.std.proofs.Common.{sym, ap, ◌∙◌, arith, subst, append_assoc}
-use Rattle.std.specs.{Prelude.{⊤}, List.{list_all, AllByRecursion}, Fmt.{decimal}}
+use Rattle.std.proofs.Common.{◌≡◌, ◌<◌, ◌≤◌, ◌+◌, ℕ, true, List, [], ◌∷◌, ◌++◌, refl, codes, length, map}
+use Rattle.std.proofs.Common.{sym, ap, ◌∙◌, arith, append_assoc}
+use Rattle.std.specs.{List.{AllByRecursion}, Fmt.{decimal}}
 use Rattle.sect_front.specs.Words.{is_digit}
-use Rattle.sect_front.specs.TreeView.{TreeView}
 use Rattle.sect_types.specs.Programs.{ProgramView}
 use Rattle.sect_emit.specs.Labels.{label_text}
 use Rattle.sect_c.specs.Told.{AreNames, NamesTell, DeclareAlike}
-use Rattle.sect_c.specs.Statements.{place_c, successors_c, deed_c, fuel_c, opening_c, node_c}
+use Rattle.sect_c.specs.Statements.{place_c, successors_c, deed_c, fuel_c, node_c}
 use Rattle.sect_c.specs.Said.{node_said}
 use Rattle.sect_types.specs.declared.expansion.action.Field.{Field}
 use Rattle.sect_types.specs.declared.expansion.action.Label.{Label}
@@ -16,11 +15,12 @@ use Rattle.sect_graph.specs.declared.flow.Node.{Node}
 use Rattle.sect_emit.specs.declared.graphs.GraphOf.{GraphOf}
 use Rattle.sect_c.specs.declared.context.Standing.{Standing}
 use Rattle.sect_front.proofs.shared.Numerals.{decimal_digits}
-use Rattle.sect_c.proofs.Reading.{Reads, Any, Stops, told, next, until, ends, behind, only, closed, apart, spelled, number}
-use Rattle.sect_c.proofs.Reading.{moved, parted, differ, stops_more}
+use Rattle.sect_c.proofs.Reading.{Reads, Stops, told, behind, spelled}
+use Rattle.sect_c.proofs.Reading.{parted, differ, stops_more}
 use Rattle.sect_c.specs.Back.{standing, LinesTellNodes, LinesTellGraphs}
 use Rattle.sect_c.proofs.Lines.{NoElse}
-use Rattle.sect_c.proofs.Lists.{EachFrom, PairsFrom, NoneHere, listed}
+use Rattle.sect_c.specs.Pairs.{EachFrom, PairsFrom}
+use Rattle.sect_c.proofs.Lists.{NoneHere, listed}
 use Rattle.sect_emit.specs.Listing.{by_number}
 use Rattle.sect_c.specs.Fits.{FitsNode}
 use Rattle.sect_c.proofs.Nodes.{node_read}

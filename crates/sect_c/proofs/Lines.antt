@@ -1,12 +1,11 @@
 -- Jumps, tests for null and sides of assignments in C can be read back.
-use Rattle.std.proofs.Common.{◌≡◌, ◌<◌, ℕ, Bool, true, false, List, [], ◌∷◌, ◌++◌, refl, codes, length, slice_index_or}
-use Rattle.std.proofs.Common.{sym, ap, ◌∙◌, arith, subst, append_assoc}
-use Rattle.std.specs.{Prelude.{⊤, if◌then◌else◌}, List.{list_all}, Fmt.{decimal}}
+use Rattle.std.proofs.Common.{◌≡◌, ◌<◌, ℕ, Bool, true, false, List, ◌++◌, refl, codes}
+use Rattle.std.proofs.Common.{sym, ap, ◌∙◌, arith, append_assoc}
+use Rattle.std.specs.{Prelude.{if◌then◌else◌}, Fmt.{decimal}}
 use Rattle.sect_front.specs.Words.{is_digit, is_name_byte}
-use Rattle.sect_front.specs.TreeView.{TreeView}
 use Rattle.sect_types.specs.Programs.{ProgramView}
 use Rattle.sect_c.specs.Told.{AreNames, NamesTell, DeclareAlike}
-use Rattle.sect_c.specs.Naming.{local_c, value_c, member_c, base_c, field_c}
+use Rattle.sect_c.specs.Naming.{member_c, base_c, field_c}
 use Rattle.sect_c.specs.Statements.{place_c, jump_c, fault_c, null_test_c, target_c, load_c, successors_c, is_looked}
 use Rattle.sect_types.specs.declared.expansion.action.Field.{Field}
 use Rattle.sect_types.specs.declared.expansion.action.Base.{Base}
@@ -15,11 +14,10 @@ use Rattle.sect_emit.specs.declared.graphs.GraphOf.{GraphOf}
 use Rattle.sect_c.specs.declared.context.Standing.{Standing}
 use Rattle.sect_graph.specs.declared.flow.Successors.{Successors}
 use Rattle.sect_graph.specs.declared.flow.Successors.TheVariants.{Next, Branch}
-use Rattle.sect_c.proofs.Reading.{Reads, Any, Stops, told, next, until, ends, behind, only, closed, apart, spelled, number}
-use Rattle.sect_c.proofs.Reading.{moved}
+use Rattle.sect_c.proofs.Reading.{Reads, Any, Stops, told, next, ends, behind, closed, apart, number}
 use Rattle.sect_c.specs.Back.{standing}
-use Rattle.sect_c.specs.Fits.{FitsValue, FitsBase, FitsMember, FitsNext}
-use Rattle.sect_c.proofs.Values.{value_read, local_read, member_read}
+use Rattle.sect_c.specs.Fits.{FitsMember, FitsNext}
+use Rattle.sect_c.proofs.Values.{local_read, member_read}
 use Rattle.sect_types.specs.declared.expansion.action.Base.TheVariants as base
 use Rattle.sect_emit.specs.declared.graphs.GraphOf.TheVariants as graph
 

@@ -1,19 +1,11 @@
 -- Lists whose texts can be read back.
-use Rattle.std.proofs.Common.{◌≡◌, ◌+◌, ℕ, Bool, List, [], ◌∷◌, ◌++◌, refl, sym, ap, ◌∙◌, append_assoc, subst}
+use Rattle.std.proofs.Common.{◌≡◌, ◌<◌, ◌+◌, ℕ, zero, suc, List, [], ◌∷◌, ◌++◌, refl, sym, ap, ◌∙◌, append_assoc}
+use Rattle.std.proofs.Common.{subst, length, slice_index_or, arith}
 use Rattle.std.specs.{Prelude.{⊤}, List.{flat_map, enumerate_from, AllByRecursion}}
 use Rattle.sect_emit.specs.Listing.{by_number}
 use Rattle.std.proofs.lemmas.List.Concat.{flat_map-cons}
-use Rattle.sect_c.proofs.Reading.{Reads, Any, told}
-
--- of the elements of two lists, pair by pair, by their numbers, where the first have number n
-abbrev pub PairsFrom : {A B : Type 0} → (ℕ → A → B → Type 0) → ℕ → List A → List B → Type 0
-PairsFrom R n [] [] = ⊤
-PairsFrom R n (a ∷ xs) (b ∷ ys) = R n a b × PairsFrom R (n + 1) xs ys
-PairsFrom R n _ _ = ⊥
-
-abbrev pub EachFrom : {A : Type 0} → (ℕ → A → Type 0) → ℕ → List A → Type 0
-EachFrom P n [] = ⊤
-EachFrom P n (a ∷ xs) = P n a × EachFrom P (n + 1) xs
+use Rattle.sect_c.specs.Pairs.{EachFrom, PairsFrom}
+use Rattle.sect_c.proofs.Reading.{Reads, Any}
 
 -- no element's text begins here
 abbrev pub NoneHere : {A : Type 0} → (ℕ → A → Type 0) → (ℕ → A → List ℕ) → List ℕ → Type 0
@@ -96,3 +88,32 @@ module _ {A : Type 0} (IsA IsB : A → Type 0) (f g : A → List ℕ)
         (sym (ap (λ t. t ++ u) (flat_numbered f 0 xs)) ∙ (e ∙ ap (λ t. t ++ v) (flat_numbered g 0 ys))) in
         (one_list 0 xs ys read.0, read.1);
   }
+
+pub pairs_length : {A B : Type 0} (R : ℕ → A → B → Type 0) (n : ℕ) (xs : List A) (ys : List B) → PairsFrom R n xs ys
+    → length xs ≡ length ys
+pairs_length R n [] [] h = refl
+pairs_length R n [] (y ∷ ys) h = absurd h
+pairs_length R n (x ∷ xs) [] h = absurd h
+pairs_length R n (x ∷ xs) (y ∷ ys) h = let e = pairs_length R (n + 1) xs ys h.1 in omega (arith, e)
+
+-- the pair of that number
+pub pair_at : {A B : Type 0} (R : ℕ → A → B → Type 0) (n : ℕ) (xs : List A) (ys : List B) → PairsFrom R n xs ys
+    → (k : ℕ)
+    → k < length ys → (a : A) (b : B) → R (n + k) (slice_index_or xs k a) (slice_index_or ys k b)
+pair_at R n [] [] h k l a b = absurd (omega arith)
+pair_at R n [] (y ∷ ys) h k l a b = absurd h
+pair_at R n (x ∷ xs) [] h k l a b = absurd h
+pair_at R n (x ∷ xs) (y ∷ ys) h zero l a b = subst (λ i. R i x y) (let e : n ≡ n + 0 = omega arith in e) h.0
+pair_at R n (x ∷ xs) (y ∷ ys) h (suc k) l a b =
+    subst (λ i. R i (slice_index_or xs k a) (slice_index_or ys k b)) (let e : n + 1 + k ≡ n + suc k = omega arith in e)
+    (pair_at R (n + 1) xs ys h.1 k (omega arith) a b)
+
+pub each_true : {A : Type 0} (n : ℕ) (xs : List A) → EachFrom (λ i x. ⊤) n xs
+each_true n [] = tt
+each_true n (x ∷ xs) = (tt, each_true (n + 1) xs)
+
+pub first_pair : {A B : Type 0} (R : ℕ → A → B → Type 0) (xs : List A) (ys : List B) → PairsFrom R 0 xs ys → (k : ℕ)
+    → k < length ys → (a : A) (b : B) → R k (slice_index_or xs k a) (slice_index_or ys k b)
+first_pair R xs ys h k l a b =
+    subst (λ i. R i (slice_index_or xs k a) (slice_index_or ys k b)) (let e : 0 + k ≡ k = omega arith in e)
+    (pair_at R 0 xs ys h k l a b)

@@ -1,15 +1,13 @@
 -- Nodes in C can be read back.
-use Rattle.std.proofs.Common.{◌≡◌, ◌<◌, ◌+◌, ℕ, Bool, true, false, not, ◌||◌, eqb, get_or, List, [], ◌∷◌, ◌++◌, refl, codes, length, slice_index_or}
-use Rattle.std.proofs.Common.{sym, ap, ◌∙◌, arith, subst, append_assoc, map, true≢false}
-use Rattle.std.specs.{Prelude.{⊤, if◌then◌else◌}, List.{list_all}, Fmt.{decimal}}
-use Rattle.std.proofs.lemmas.Bool.{and_from, and_parts}
-use Rattle.sect_front.specs.Words.{is_digit, is_name_byte}
+use Rattle.std.proofs.Common.{◌≡◌, ◌<◌, ℕ, Bool, true, false, not, ◌||◌, eqb, get_or, List, [], ◌++◌, refl, codes}
+use Rattle.std.proofs.Common.{sym, ap, ◌∙◌, arith, append_assoc, true≢false}
+use Rattle.std.specs.{Prelude.{if◌then◌else◌}, List.{list_all}}
 use Rattle.sect_front.specs.TreeView.{TreeView}
 use Rattle.sect_types.specs.Programs.{ProgramView}
 use Rattle.sect_emit.specs.Labels.{label_text}
 use Rattle.sect_c.specs.Told.{AreNames, NamesTell, DeclareAlike}
 use Rattle.sect_c.specs.Naming.{value_c}
-use Rattle.sect_c.specs.Statements.{place_c, jump_c, successors_c, action_c, deed_c, fuel_c, opening_c, node_c, comparison_c}
+use Rattle.sect_c.specs.Statements.{place_c, successors_c, action_c, deed_c, fuel_c, opening_c, node_c, comparison_c}
 use Rattle.sect_c.specs.Statements.{condition_c, crossing_c, is_reference, operation_c, is_local, target_c}
 use Rattle.sect_front.specs.declared.tree.Operator.{Operator}
 use Rattle.sect_front.specs.declared.tree.Operator.TheVariants.{Add, Subtract, Multiply}
@@ -28,16 +26,16 @@ use Rattle.sect_emit.specs.declared.graphs.GraphOf.{GraphOf}
 use Rattle.sect_c.specs.declared.context.Standing.{Standing}
 use Rattle.sect_graph.specs.declared.flow.Successors.{Successors}
 use Rattle.sect_graph.specs.declared.flow.Successors.TheVariants.{Next, Branch}
-use Rattle.sect_c.proofs.Reading.{Reads, Any, Stops, stops, told, next, until, ends, behind, only, closed, apart, spelled, number}
+use Rattle.sect_c.proofs.Reading.{Reads, Any, Stops, told, next, ends, behind, only, apart, spelled, number}
 use Rattle.sect_c.proofs.Reading.{moved, parted, differ}
-use Rattle.sect_c.specs.Fits.{FitsValue, FitsAction, FitsLabel, FitsNext, FitsNode}
+use Rattle.sect_c.specs.Fits.{FitsAction, FitsLabel, FitsNext, FitsNode}
 use Rattle.sect_c.proofs.Comments.{Within, label_within, comment_read}
 use Rattle.sect_c.proofs.Values.{value_read}
 use Rattle.sect_c.specs.Back.{standing}
 use Rattle.sect_c.proofs.Lines.{place_read, jump_read, successors_read, NoElse}
 use Rattle.sect_c.proofs.Actions.{is_self, is_put, parts, parted_action}
-use Rattle.sect_c.proofs.Pairs.{Beginning, OfTarget, OfTest, OfOperation, OfField, OfPrint, beginning_of, beginning, begun, plainly, parts_read}
-use Rattle.sect_emit.specs.declared.graphs.GraphOf.TheVariants as graph
+use Rattle.sect_c.proofs.Pairs.{Beginning, OfTarget, OfTest, OfOperation, OfField, OfPrint, beginning_of, beginning}
+use Rattle.sect_c.proofs.Pairs.{begun, plainly, parts_read}
 use Rattle.sect_types.specs.declared.expansion.action.Base.TheVariants as base
 use Rattle.sect_types.specs.declared.expansion.action.Value.TheVariants as value
 
@@ -116,7 +114,8 @@ module _ (p q : ProgramView) (np : AreNames p.source) (nq : AreNames q.source) (
   crossing_read : (i j : ℕ) → i < 65536 → j < 65536 → Reads Any (crossing_c here i) (crossing_c there j) (i ≡ j)
   crossing_read i j a b =
       let x = ends (behind (codes "  goto s") (number i j (omega arith) (omega arith))) (codes ";\n s") (λ xs. refl) in
-      let y = ends (next x (number i j (omega arith) (omega arith))) (codes "_left: if (end != SECT_DONE) ") (λ xs. refl) in
+      let y = ends (next x (number i j (omega arith) (omega arith))) (codes "_left: if (end != SECT_DONE) ")
+      (λ xs. refl) in
       told (ends (next y (jump_read g k l ck cl)) (codes "\n") (λ xs. tt)) (λ h. h.0.0)
 
   if_false : {A : Type 0} (b : Bool) (x y : A) → b ≡ false → (if b then x else y) ≡ y
@@ -194,7 +193,8 @@ module _ (p q : ProgramView) (np : AreNames p.source) (nq : AreNames q.source) (
   abbrev is_operation : List ℕ → Bool
   is_operation name = eqb (get_or name 5 0) 109 || (eqb (get_or name 6 0) 100 || eqb (get_or name 6 0) 117)
 
-  operation_is : (o : Operator) → (is_operation (operation_c o) ≡ true) × (list_all before_bracket (operation_c o) ≡ true)
+  operation_is : (o : Operator) → (is_operation (operation_c o) ≡ true)
+      × (list_all before_bracket (operation_c o) ≡ true)
   operation_is Add = (refl, refl)
   operation_is Subtract = (refl, refl)
   operation_is Multiply = (refl, refl)
@@ -222,7 +222,8 @@ module _ (p q : ProgramView) (np : AreNames p.source) (nq : AreNames q.source) (
   test_begins b OfPrint c a ne = refl
 
   condition_parts : (r : ProgramView) (c : Condition) → condition_c r u c
-      ≡ (codes "  if (" ++ comparison_c c.comparison (is_reference r u c.left)) ++ (codes "(" ++ (value_c r.source u c.left
+      ≡ (codes "  if (" ++ comparison_c c.comparison (is_reference r u c.left))
+      ++ (codes "(" ++ (value_c r.source u c.left
       ++ (codes ", " ++ (value_c r.source u c.right ++ codes "))\n  "))))
   condition_parts r c = six (codes "  if (" ++ comparison_c c.comparison (is_reference r u c.left)) (codes "(")
       (value_c r.source u c.left) (codes ", ") (value_c r.source u c.right) (codes "))\n  ")
@@ -252,7 +253,8 @@ module _ (p q : ProgramView) (np : AreNames p.source) (nq : AreNames q.source) (
   begun_or_test t looks s b a r c xs ys ne e =
       let i = begun t looks s b a in
       let name = comparison_c c.comparison (is_reference r u c.left) in
-      let rest = codes "(" ++ (value_c r.source u c.left ++ (codes ", " ++ (value_c r.source u c.right ++ codes "))\n  "))) in
+      let rest = codes "(" ++ (value_c r.source u c.left
+      ++ (codes ", " ++ (value_c r.source u c.right ++ codes "))\n  "))) in
       parted (beginning b (beginning_of a)) (codes "  if (" ++ name) (i.0 ++ xs) (rest ++ ys)
       (test_begins b (beginning_of a) c.comparison (is_reference r u c.left) ne)
       (sym (append_assoc (beginning b (beginning_of a)) i.0 xs) ∙ (sym (ap (λ z. z ++ xs) i.1)
@@ -305,7 +307,8 @@ module _ (p q : ProgramView) (np : AreNames p.source) (nq : AreNames q.source) (
   goes_or_tests r c n rest xs ys e =
       let j = going n in
       let name = comparison_c c.comparison (is_reference r u c.left) in
-      let more = codes "(" ++ (value_c r.source u c.left ++ (codes ", " ++ (value_c r.source u c.right ++ codes "))\n  "))) in
+      let more = codes "(" ++ (value_c r.source u c.left
+      ++ (codes ", " ++ (value_c r.source u c.right ++ codes "))\n  "))) in
       parted (codes "  goto ") (codes "  if (" ++ name) (j.0 ++ xs) (more ++ (rest ++ ys)) refl
       (sym (append_assoc (codes "  goto ") j.0 xs) ∙ (sym (ap (λ w. w ++ xs) j.1)
       ∙ (e ∙ (append_assoc (condition_c r u c) rest ys ∙ (ap (λ z. z ++ (rest ++ ys)) (condition_parts r c)
@@ -335,7 +338,9 @@ module _ (p q : ProgramView) (np : AreNames p.source) (nq : AreNames q.source) (
       told {Q = (Section i ≡ Section j) × (m ≡ n)} (next (crossing_read i j fx fy) (successors_read g m n fm fn))
       (λ h. (ap Section h.0, h.1))
   tail_read (Act a) (Test d) e fx fy m n fm fn =
-      record { read = λ xs ys s t h. absurd (act_or_test p.source looked here a q d m (goes n) xs ys (is_self a) refl h) }
+      record {
+        read = λ xs ys s t h. absurd (act_or_test p.source looked here a q d m (goes n) xs ys (is_self a) refl h);
+      }
   tail_read (Test c) (Act b) e fx fy m n fm fn =
       record {
         read = λ xs ys s t h.
@@ -354,9 +359,11 @@ module _ (p q : ProgramView) (np : AreNames p.source) (nq : AreNames q.source) (
       → Reads NoElse (node_c p looked here n x) (node_c q also there n y) (node_said x ≡ node_said y)
   node_read n x y fx fy = record {
     read = λ xs ys s t e.
-        let first = (opening_read p.source q.source g u k l n ck cl x.label y.label (label_within p np u x.label fx.label)
+        let first = (opening_read p.source q.source g u k l n ck cl x.label y.label
+        (label_within p np u x.label fx.label)
         (label_within q nq u y.label fy.label)).read
-        ((deed_c p looked here x.label ++ goes x.next) ++ xs) ((deed_c q also there y.label ++ goes y.next) ++ ys) tt tt
+        ((deed_c p looked here x.label ++ goes x.next) ++ xs) ((deed_c q also there y.label ++ goes y.next) ++ ys)
+        tt tt
         (sym (node_parts (opening_c p.source here n x.label) (deed_c p looked here x.label) (goes x.next) xs)
         ∙ (e ∙ node_parts (opening_c q.source there n y.label) (deed_c q also there y.label) (goes y.next) ys)) in
         let rest = (tail_read x.label y.label first.0 fx.label fy.label x.next y.next fx.next fy.next).read xs ys s t

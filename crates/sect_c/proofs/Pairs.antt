@@ -1,14 +1,12 @@
 -- Two statements in C with one text are one.
-use Rattle.std.proofs.Common.{◌≡◌, ◌<◌, ℕ, Bool, true, false, cond, List, [], ◌∷◌, ◌++◌, refl, codes, length, slice_index_or}
-use Rattle.std.proofs.Common.{sym, ap, ◌∙◌, arith, subst, append_assoc}
-use Rattle.std.specs.{Prelude.{⊤, if◌then◌else◌, nat_eq}, List.{list_all}, Fmt.{decimal}}
-use Rattle.sect_front.specs.Words.{is_digit, is_name_byte}
+use Rattle.std.proofs.Common.{◌≡◌, ◌<◌, ℕ, Bool, true, false, List, ◌++◌, refl, codes}
+use Rattle.std.proofs.Common.{sym, ap, ◌∙◌, arith, append_assoc}
+use Rattle.std.specs.{Prelude.{if◌then◌else◌}, Fmt.{decimal}}
 use Rattle.sect_front.specs.TreeView.{TreeView}
 use Rattle.sect_types.specs.Programs.{ProgramView}
 use Rattle.sect_c.specs.Told.{AreNames, NamesTell, DeclareAlike}
-use Rattle.sect_c.specs.Naming.{local_c, value_c, member_c, base_c, field_c}
-use Rattle.sect_c.specs.Statements.{fault_c, null_test_c, target_c, load_c, operation_c, is_looked}
-use Rattle.sect_c.specs.Said.{said}
+use Rattle.sect_c.specs.Naming.{local_c, value_c, member_c, field_c}
+use Rattle.sect_c.specs.Statements.{target_c, load_c, operation_c, is_looked}
 use Rattle.sect_types.specs.declared.expansion.action.Field.{Field}
 use Rattle.sect_types.specs.declared.expansion.action.Value.{Value}
 use Rattle.sect_types.specs.declared.expansion.action.Base.{Base}
@@ -19,14 +17,14 @@ use Rattle.sect_emit.specs.declared.graphs.GraphOf.{GraphOf}
 use Rattle.sect_c.specs.declared.context.Standing.{Standing}
 use Rattle.sect_types.specs.declared.expansion.action.Action.{Action}
 use Rattle.sect_types.specs.declared.expansion.action.Action.TheVariants.{Assign, Compute, New, Load, Store, Print}
-use Rattle.sect_c.proofs.Reading.{Reads, Any, Stops, told, next, until, ends, behind, only, closed, apart, spelled, number}
+use Rattle.sect_c.proofs.Reading.{Reads, Any, told, next, until, behind, only, apart, number}
 use Rattle.sect_c.proofs.Reading.{moved, parted, differ}
-use Rattle.sect_c.specs.Fits.{FitsValue, FitsBase, FitsMember, FitsAction}
+use Rattle.sect_c.specs.Fits.{FitsValue, FitsMember, FitsAction}
 use Rattle.sect_c.proofs.Values.{value_read, local_read, member_read}
 use Rattle.sect_c.specs.Back.{standing}
 use Rattle.sect_c.proofs.Lines.{null_read, target_read, load_read, fault_read}
 use Rattle.sect_c.specs.Fits.{member}
-use Rattle.sect_c.proofs.Actions.{is_self, is_put, put, parts}
+use Rattle.sect_c.proofs.Actions.{put, parts}
 use Rattle.sect_types.specs.declared.expansion.action.Base.TheVariants as base
 use Rattle.sect_types.specs.declared.expansion.action.Value.TheVariants as value
 
@@ -148,7 +146,8 @@ member_parts a f rest = ap (λ z. codes "  " ++ z)
     (append_assoc (a ++ codes "->") f rest ∙ append_assoc a (codes "->") (f ++ rest))
 
 module _ (p q : ProgramView) (np : AreNames p.source) (nq : AreNames q.source) (u : ℕ)
-    (alike : DeclareAlike p q u) (tell : NamesTell p) (g : GraphOf) (k l : ℕ) (ck : k < 65536) (cl : l < 65536) (looked also : List Field) where
+    (alike : DeclareAlike p q u) (tell : NamesTell p) (g : GraphOf) (k l : ℕ) (ck : k < 65536) (cl : l < 65536)
+    (looked also : List Field) where
   abbrev here : Standing
   here = standing g u k
 
@@ -158,17 +157,23 @@ module _ (p q : ProgramView) (np : AreNames p.source) (nq : AreNames q.source) (
   -- behind the target
   value_or_made : (v : Value) (w z : List ℕ) {P : Type 0}
       → Reads Any (value_c p.source u v ++ w) (codes "sect_make(me, sizeof *" ++ z) P
-  value_or_made (value.Number n) w z = apart (value_c p.source u (value.Number n) ++ w) (codes "sect_make(me, sizeof *" ++ z) refl
+  value_or_made (value.Number n) w z = apart (value_c p.source u (value.Number n) ++ w)
+      (codes "sect_make(me, sizeof *" ++ z) refl
   value_or_made value.Null w z = apart (value_c p.source u value.Null ++ w) (codes "sect_make(me, sizeof *" ++ z) refl
-  value_or_made (value.Local x) w z = apart (value_c p.source u (value.Local x) ++ w) (codes "sect_make(me, sizeof *" ++ z) refl
-  value_or_made (value.Global h) w z = apart (value_c p.source u (value.Global h) ++ w) (codes "sect_make(me, sizeof *" ++ z) refl
+  value_or_made (value.Local x) w z = apart (value_c p.source u (value.Local x) ++ w)
+      (codes "sect_make(me, sizeof *" ++ z) refl
+  value_or_made (value.Global h) w z = apart (value_c p.source u (value.Global h) ++ w)
+      (codes "sect_make(me, sizeof *" ++ z) refl
 
   made_or_value : (v : Value) (w z : List ℕ) {P : Type 0}
       → Reads Any (codes "sect_make(me, sizeof *" ++ z) (value_c q.source u v ++ w) P
-  made_or_value (value.Number n) w z = apart (codes "sect_make(me, sizeof *" ++ z) (value_c q.source u (value.Number n) ++ w) refl
+  made_or_value (value.Number n) w z = apart (codes "sect_make(me, sizeof *" ++ z)
+      (value_c q.source u (value.Number n) ++ w) refl
   made_or_value value.Null w z = apart (codes "sect_make(me, sizeof *" ++ z) (value_c q.source u value.Null ++ w) refl
-  made_or_value (value.Local x) w z = apart (codes "sect_make(me, sizeof *" ++ z) (value_c q.source u (value.Local x) ++ w) refl
-  made_or_value (value.Global h) w z = apart (codes "sect_make(me, sizeof *" ++ z) (value_c q.source u (value.Global h) ++ w) refl
+  made_or_value (value.Local x) w z = apart (codes "sect_make(me, sizeof *" ++ z)
+      (value_c q.source u (value.Local x) ++ w) refl
+  made_or_value (value.Global h) w z = apart (codes "sect_make(me, sizeof *" ++ z)
+      (value_c q.source u (value.Global h) ++ w) refl
 
   abbrev loaded : TreeView → Bool → Base → Field → List ℕ
   loaded t b c f = if b then codes "SECT_GET(&" ++ member_c t u (member c f) ++ codes ")" else member_c t u (member c f)
@@ -203,25 +208,31 @@ module _ (p q : ProgramView) (np : AreNames p.source) (nq : AreNames q.source) (
 
   made_or_load : (b : Bool) (h : ℕ) (f : Field) (w z : List ℕ) {P : Type 0}
       → Reads Any (codes "sect_make(me, sizeof *" ++ w) (loaded q.source b (base.Global h) f ++ z) P
-  made_or_load true h f w z = apart (codes "sect_make(me, sizeof *" ++ w) (loaded q.source true (base.Global h) f ++ z) refl
-  made_or_load false h f w z = apart (codes "sect_make(me, sizeof *" ++ w) (loaded q.source false (base.Global h) f ++ z) refl
+  made_or_load true h f w z = apart (codes "sect_make(me, sizeof *" ++ w) (loaded q.source true (base.Global h) f ++ z)
+      refl
+  made_or_load false h f w z = apart (codes "sect_make(me, sizeof *" ++ w)
+      (loaded q.source false (base.Global h) f ++ z) refl
 
   load_or_made : (b : Bool) (h : ℕ) (f : Field) (w z : List ℕ) {P : Type 0}
       → Reads Any (loaded p.source b (base.Global h) f ++ z) (codes "sect_make(me, sizeof *" ++ w) P
-  load_or_made true h f w z = apart (loaded p.source true (base.Global h) f ++ z) (codes "sect_make(me, sizeof *" ++ w) refl
-  load_or_made false h f w z = apart (loaded p.source false (base.Global h) f ++ z) (codes "sect_make(me, sizeof *" ++ w) refl
+  load_or_made true h f w z = apart (loaded p.source true (base.Global h) f ++ z) (codes "sect_make(me, sizeof *" ++ w)
+      refl
+  load_or_made false h f w z = apart (loaded p.source false (base.Global h) f ++ z)
+      (codes "sect_make(me, sizeof *" ++ w) refl
 
   -- stores
   put_read : (c d : Bool) (x y : Base) (f h : Field) (v w : Value) → FitsMember p u (member x f)
       → FitsMember q u (member y h) → FitsValue p v → FitsValue q w
       → Reads Any (put p.source here c x f v) (put q.source there d y h w) (Store x f v ≡ Store y h w)
   put_read true true x y f h v w a b c d =
-      let value = until (value_read p q np nq u alike tell v w c d) (λ xs t. refl) (λ xs t. refl) (only (codes ");\n")) in
+      let value = until (value_read p q np nq u alike tell v w c d) (λ xs t. refl) (λ xs t. refl) (only (codes ");\n"))
+      in
       told (behind (codes "  SECT_PUT(&") (until (member_read p q np nq u alike tell (member x f) (member y h) a b)
       (λ xs t. refl) (λ xs t. refl) (behind (codes ", ") value)))
       (λ e. store_one x y f h v w e.0 e.1.0)
   put_read false false x y f h v w a b c d =
-      let value = until (value_read p q np nq u alike tell v w c d) (λ xs t. refl) (λ xs t. refl) (only (codes ";\n")) in
+      let value = until (value_read p q np nq u alike tell v w c d) (λ xs t. refl) (λ xs t. refl) (only (codes ";\n"))
+      in
       told (behind (codes "  ") (until (member_read p q np nq u alike tell (member x f) (member y h) a b)
       (λ xs t. refl) (λ xs t. refl) (behind (codes " = ") value)))
       (λ e. store_one x y f h v w e.0 e.1.0)
@@ -246,14 +257,16 @@ module _ (p q : ProgramView) (np : AreNames p.source) (nq : AreNames q.source) (
       (member_parts (local_c q.source u y) (field_c q.source h) (codes " = " ++ (value_c q.source u w ++ codes ";\n")))
       (told (behind (codes "  ") (until (local_read p q np nq u alike tell x y a b) (λ xs t. refl) (λ xs t. refl)
       (apart (codes " = " ++ rest)
-      (codes "->" ++ (field_c q.source h ++ (codes " = " ++ (value_c q.source u w ++ codes ";\n")))) refl))) (λ e. absurd e.1))
+      (codes "->" ++ (field_c q.source h ++ (codes " = " ++ (value_c q.source u w ++ codes ";\n")))) refl)))
+      (λ e. absurd e.1))
 
   put_or_target : (d : Bool) (x y : ℕ) (h : Field) (w : Value) (rest : List ℕ) {P : Type 0} → y < 65536 → x < 65536
       → Reads Any (put p.source here d (base.Local y) h w) (target_c q.source there x ++ rest) P
   put_or_target true x y h w rest a b =
       apart (put p.source here true (base.Local y) h w) (target_c q.source there x ++ rest) refl
   put_or_target false x y h w rest a b =
-      moved (member_parts (local_c p.source u y) (field_c p.source h) (codes " = " ++ (value_c p.source u w ++ codes ";\n")))
+      moved (member_parts (local_c p.source u y) (field_c p.source h)
+      (codes " = " ++ (value_c p.source u w ++ codes ";\n")))
       (target_parts (local_c q.source u x) rest)
       (told (behind (codes "  ") (until (local_read p q np nq u alike tell y x a b) (λ xs t. refl) (λ xs t. refl)
       (apart (codes "->" ++ (field_c p.source h ++ (codes " = " ++ (value_c p.source u w ++ codes ";\n"))))
@@ -267,39 +280,46 @@ module _ (p q : ProgramView) (np : AreNames p.source) (nq : AreNames q.source) (
       (λ e. assign_one x y v w e.0 e.1.0)
   parts_read b c (Assign x v) (New y r site) i j =
       told (next (target_read p q np nq u alike tell g k l ck cl x y i.0 j.0)
-      (value_or_made v (codes ";\n") (local_c q.source u y ++ (codes ", " ++ (decimal r ++ codes ");\n"))))) (λ e. absurd e.1)
+      (value_or_made v (codes ";\n") (local_c q.source u y ++ (codes ", " ++ (decimal r ++ codes ");\n")))))
+      (λ e. absurd e.1)
   parts_read b c (Assign x v) (Load y (base.Global h) f) i j =
       told (next (target_read p q np nq u alike tell g k l ck cl x y i.0 j.0)
       (value_or_load (is_looked also f) v h f (codes ";\n") (codes ";\n"))) (λ e. absurd e.1)
   parts_read b c (New x r site) (Assign y w) i j =
       told (next (target_read p q np nq u alike tell g k l ck cl x y i.0 j.0)
-      (made_or_value w (codes ";\n") (local_c p.source u x ++ (codes ", " ++ (decimal r ++ codes ");\n"))))) (λ e. absurd e.1)
+      (made_or_value w (codes ";\n") (local_c p.source u x ++ (codes ", " ++ (decimal r ++ codes ");\n")))))
+      (λ e. absurd e.1)
   parts_read b c (New x r site) (New y s place) i j =
       told (next (target_read p q np nq u alike tell g k l ck cl x y i.0 j.0)
-      (behind (codes "sect_make(me, sizeof *") (until (local_read p q np nq u alike tell x y i.0 j.0) (λ xs t. refl) (λ xs t. refl)
+      (behind (codes "sect_make(me, sizeof *")
+      (until (local_read p q np nq u alike tell x y i.0 j.0) (λ xs t. refl) (λ xs t. refl)
       (behind (codes ", ") (until (number r s (omega (arith, i.1)) (omega (arith, j.1))) (λ xs t. refl) (λ xs t. refl)
       (only (codes ");\n")))))))
       (λ e. new_one x y r s e.0 e.1.1.0)
   parts_read b c (New x r site) (Load y (base.Global h) f) i j =
       told (next (target_read p q np nq u alike tell g k l ck cl x y i.0 j.0)
-      (made_or_load (is_looked also f) h f (local_c p.source u x ++ (codes ", " ++ (decimal r ++ codes ");\n"))) (codes ";\n")))
+      (made_or_load (is_looked also f) h f (local_c p.source u x ++ (codes ", " ++ (decimal r ++ codes ");\n")))
+      (codes ";\n")))
       (λ e. absurd e.1)
   parts_read b c (Load x (base.Global h) f) (Assign y w) i j =
       told (next (target_read p q np nq u alike tell g k l ck cl x y i.0 j.0)
       (load_or_value (is_looked looked f) w h f (codes ";\n") (codes ";\n"))) (λ e. absurd e.1)
   parts_read b c (Load x (base.Global h) f) (New y r site) i j =
       told (next (target_read p q np nq u alike tell g k l ck cl x y i.0 j.0)
-      (load_or_made (is_looked looked f) h f (local_c q.source u y ++ (codes ", " ++ (decimal r ++ codes ");\n"))) (codes ";\n")))
+      (load_or_made (is_looked looked f) h f (local_c q.source u y ++ (codes ", " ++ (decimal r ++ codes ");\n")))
+      (codes ";\n")))
       (λ e. absurd e.1)
   parts_read b c (Load x (base.Global h) f) (Load y (base.Global k') f') i j =
       told (next (target_read p q np nq u alike tell g k l ck cl x y i.0 j.0)
-      (until (load_read p q np nq u alike tell g k l ck cl looked also (member (base.Global h) f) (member (base.Global k') f') i.1 j.1)
+      (until (load_read p q np nq u alike tell g k l ck cl looked also (member (base.Global h) f)
+      (member (base.Global k') f') i.1 j.1)
       (λ xs t. refl) (λ xs t. refl) (only (codes ";\n"))))
       (λ e. load_one x y (base.Global h) (base.Global k') f f' e.0 e.1.0)
   parts_read b c (Load x (base.Local h) f) (Load y (base.Local k') f') i j =
       told (next (null_read p q np nq u alike tell g k l ck cl h k' i.1.base j.1.base)
       (next (target_read p q np nq u alike tell g k l ck cl x y i.0 j.0)
-      (until (load_read p q np nq u alike tell g k l ck cl looked also (member (base.Local h) f) (member (base.Local k') f') i.1 j.1)
+      (until (load_read p q np nq u alike tell g k l ck cl looked also (member (base.Local h) f)
+      (member (base.Local k') f') i.1 j.1)
       (λ xs t. refl) (λ xs t. refl) (only (codes ";\n")))))
       (λ e. load_one x y (base.Local h) (base.Local k') f f' e.1.0 e.1.1.0)
   parts_read b c (Load x (base.Local h) f) (Store (base.Local y) f' w) i j =
@@ -323,7 +343,8 @@ module _ (p q : ProgramView) (np : AreNames p.source) (nq : AreNames q.source) (
       (fault_read g u k l (codes "SECT_OVERFLOW") ck cl))))))))))
       (λ e. compute_one x y v w v' w' o r e.1.0 e.1.1.0 e.0 e.1.1.1.0)
   parts_read b c (Print v) (Print w) i j =
-      told (behind (codes "  sect_print(me, ") (until (value_read p q np nq u alike tell v w i j) (λ xs t. refl) (λ xs t. refl)
+      told (behind (codes "  sect_print(me, ")
+      (until (value_read p q np nq u alike tell v w i j) (λ xs t. refl) (λ xs t. refl)
       (only (codes ");\n")))) (λ e. ap Print e.0)
   parts_read b c x (Store (base.Global h) f w) i j =
       beginnings_apart p.source q.source looked also here there b c x (Store (base.Global h) f w) refl

@@ -1,14 +1,12 @@
 -- Looks in C can be read back.
-use Rattle.std.proofs.Common.{◌≡◌, ◌<◌, ◌+◌, ℕ, Bool, true, false, List, [], ◌∷◌, ◌++◌, refl, codes, length, slice_index_or}
+use Rattle.std.proofs.Common.{◌≡◌, ◌<◌, ◌+◌, ℕ, true, List, [], ◌∷◌, ◌++◌, refl, codes, length, slice_index_or}
 use Rattle.std.proofs.Common.{sym, ap, ◌∙◌, arith, subst, append_assoc, slice_get, Some}
-use Rattle.std.specs.{Prelude.{⊤}, List.{list_all, AllByRecursion, flat_map}, Fmt.{decimal}}
+use Rattle.std.specs.{Prelude.{⊤}, List.{AllByRecursion, flat_map}, Fmt.{decimal}}
 use Rattle.sect_modes.specs.Mode.{mode_text}
 use Rattle.sect_front.specs.Words.{is_digit, is_name_byte}
-use Rattle.sect_front.specs.TreeView.{TreeView}
 use Rattle.sect_types.specs.Programs.{ProgramView}
 use Rattle.sect_names.specs.Locks.{IsField}
-use Rattle.sect_emit.specs.Listing.{by_number}
-use Rattle.sect_names.specs.Printing.{field_name, local_at, global_name, path_text}
+use Rattle.sect_names.specs.Printing.{field_name, global_name, path_text}
 use Rattle.sect_emit.specs.Labels.{record_name}
 use Rattle.sect_names.specs.Printing.{variable_text}
 use Rattle.sect_emit.specs.Plan.{object_mode}
@@ -24,10 +22,11 @@ use Rattle.sect_types.specs.declared.declarations.types.ValueType.TheVariants.{I
 use Rattle.sect_names.specs.declared.lock.Effect.{Effect}
 use Rattle.sect_names.specs.declared.lock.Lock.{Lock}
 use Rattle.sect_points.specs.Paths.{PathView, base_of, fields_of, path_of, path_of-fields}
-use Rattle.sect_c.proofs.Reading.{Reads, Any, Stops, told, next, until, ends, behind, only, closed, apart, spelled, number}
-use Rattle.sect_c.proofs.Reading.{moved, parted, differ, wholly}
+use Rattle.sect_c.proofs.Reading.{Reads, Any, Stops, told, next, ends, behind, only, apart, spelled, number}
+use Rattle.sect_c.proofs.Reading.{moved, parted, differ}
 use Rattle.std.proofs.lemmas.List.Concat.{flat_map-cons}
-use Rattle.sect_c.proofs.Lists.{EachFrom, PairsFrom, NoneHere, NoneLeft, listed, flat_listed}
+use Rattle.sect_c.specs.Pairs.{PairsFrom}
+use Rattle.sect_c.proofs.Lists.{NoneLeft, listed, flat_listed, each_true}
 use Rattle.sect_c.proofs.Plans.{mode_read}
 use Rattle.sect_c.proofs.Comments.{Within, within_append, name_within, local_within, comment_read}
 use Rattle.sect_c.proofs.Values.{local_read, global_read}
@@ -106,7 +105,8 @@ module _ (p q : ProgramView) (np : AreNames p.source) (nq : AreNames q.source) (
   first_read : (v w : Variable) → FitsVariable p u v → FitsVariable q u w
       → Reads Any (first_c p v) (first_c q w) (v ≡ w)
   first_read v w a b =
-      let x = ends (behind (codes "  { ") (type_read (variable_type p v) (variable_type q w))) (codes "p0 = ") (λ xs. tt) in
+      let x = ends (behind (codes "  { ") (type_read (variable_type p v) (variable_type q w))) (codes "p0 = ")
+      (λ xs. tt) in
       told (ends (next x (variable_read v w a b)) (codes ";") (λ xs. refl)) (λ h. h.1)
 
   follow_read : (read : List ℕ) (n : ℕ) (f g : Field)
@@ -123,7 +123,8 @@ module _ (p q : ProgramView) (np : AreNames p.source) (nq : AreNames q.source) (
 
   field_back : (f : Field) → IsField q f → IsField p f
   field_back f h =
-      subst (λ (rs : List (List ValueType)). (ts : List ValueType) × (slice_get rs f.of ≡ Some ts) × (f.number < length ts))
+      subst (λ (rs : List (List ValueType)). (ts : List ValueType) × (slice_get rs f.of ≡ Some ts)
+      × (f.number < length ts))
       (sym alike.records) h
 
   pub type_back : (f : Field) → field_type p f ≡ field_type q f
@@ -152,10 +153,6 @@ module _ (p q : ProgramView) (np : AreNames p.source) (nq : AreNames q.source) (
       go Int h = parted (codes " if (p") (followed r read n f Int) xs ys refl h
       go (Refers k) h = parted (codes " if (p") (followed r read n f (Refers k)) xs ys refl h
 
-  holds_all : {A : Type 0} (n : ℕ) (xs : List A) → EachFrom (λ i x. ⊤) n xs
-  holds_all n [] = tt
-  holds_all n (x ∷ xs) = (tt, holds_all (n + 1) xs)
-
   pub base_type : (v : Variable) → FitsVariable q u v → variable_type p v ≡ variable_type q v
   base_type (Global g) h = ap (λ gs. Refers (slice_index_or gs g 0)) alike.globals
   base_type (Local t x) h =
@@ -167,7 +164,8 @@ module _ (p q : ProgramView) (np : AreNames p.source) (nq : AreNames q.source) (
       → PairsFrom (λ i f g. field_name p.source f ≡ field_name q.source g) 0 (fields_of x) (fields_of y) → x ≡ y
   path_back x y a b e h =
       path_one x y e (fields_one (variable_type q (base_of y)) 0 (fields_of x) (fields_of y)
-      (subst (λ t. Follows p t (fields_of x)) (ap (variable_type p) e ∙ base_type (base_of y) b.base) a.fields) b.fields h)
+      (subst (λ t. Follows p t (fields_of x)) (ap (variable_type p) e ∙ base_type (base_of y) b.base) a.fields) b.fields
+      h)
 
   digits_read : (n m : ℕ) → n < 65536 → m < 65536 → Reads (Stops is_digit) (decimal n) (decimal m) (n ≡ m)
   digits_read n m a b = number n m (omega arith) (omega arith)
@@ -177,7 +175,7 @@ module _ (p q : ProgramView) (np : AreNames p.source) (nq : AreNames q.source) (
   walk_read read x y a b =
       let follows = listed Any (λ i f g. field_name p.source f ≡ field_name q.source g) (λ i f. ⊤) (λ i f. ⊤)
       (follow_c p read) (follow_c q read) (λ n f zs is. tt) (λ n f zs is. tt) (λ n f g c d. follow_read read n f g)
-      0 (fields_of x) (fields_of y) (holds_all 0 (fields_of x)) (holds_all 0 (fields_of y)) in
+      0 (fields_of x) (fields_of y) (each_true 0 (fields_of x)) (each_true 0 (fields_of y)) in
       let r = next (first_read (base_of x) (base_of y) a.base b.base) follows in
       let s = ends r (codes " if (p") (λ xs. (
         (λ n f ys is e. follow_or_test p read n f xs ys e),

@@ -1,14 +1,14 @@
-use Rattle.std.proofs.Common.{◌≡◌, ◌<◌, ◌+◌, ℕ, zero, suc, Bool, true, false, List, [], ◌∷◌, ◌++◌, refl, codes, length}
-use Rattle.std.proofs.Common.{sym, ap, ◌∙◌, arith, subst}
-use Rattle.std.specs.{List.{list_all, flat_map}, Fmt.{decimal}}
+use Rattle.std.proofs.Common.{◌≡◌, ◌<◌, ◌+◌, ℕ, true, List, ◌++◌, refl, codes}
+use Rattle.std.proofs.Common.{ap, ◌∙◌, arith}
+use Rattle.std.specs.{List.{list_all, flat_map}}
 use Rattle.sect_modes.specs.{declared.mode.Mode.{Mode}, declared.key.Key.{Key}, Mode.{mode_text}}
 use Rattle.sect_modes.specs.declared.mode.Mode.TheVariants.{IntentionShared, IntentionExclusive, Shared}
 use Rattle.sect_modes.specs.declared.mode.Mode.TheVariants.{SharedIntentionExclusive, Exclusive}
-use Rattle.sect_front.specs.Words.{is_digit, is_name_byte}
+use Rattle.sect_front.specs.Words.{is_name_byte}
 use Rattle.sect_emit.specs.declared.plan.Grip.{Grip}
 use Rattle.sect_c.specs.Declarations.{key_c, grip_c, plan_c, whole_c}
 use Rattle.sect_c.specs.Back.{IsWhole, AreWhole, TablesTellKeys}
-use Rattle.sect_c.proofs.Reading.{Reads, Any, Stops, told, next, until, ends, behind, only, closed, apart, spelled, number}
+use Rattle.sect_c.proofs.Reading.{Reads, Any, Stops, told, next, ends, behind, spelled, number}
 use Rattle.sect_c.proofs.Reading.{unlike, parted, wholly}
 use Rattle.sect_c.proofs.Lists.{flat_listed, NoneLeft}
 use Rattle.sect_modes.specs.declared.key.Key.TheVariants as key
@@ -83,8 +83,10 @@ pub plan_read : (i j : ℕ) (a b : List Grip) → i < 65536 → j < 65536 → Ar
 plan_read i j a b p q r s =
     let x = behind (codes "static const struct sect_grip plan_") (number i j (omega arith) (omega arith)) in
     let y = next (ends x (codes "[] = {") (λ xs. refl)) (part_read a b r s) in
-    ends y (codes " { NULL, SECT_IS, 0 } };\n") (λ xs.
-    ((λ n (g : Grip) zs is e. key_or_end g.key g.mode is xs zs e), (λ n (g : Grip) zs is e. key_or_end g.key g.mode is xs zs e)))
+    ends y (codes " { NULL, SECT_IS, 0 } };\n") (λ xs. (
+      (λ n (g : Grip) zs is e. key_or_end g.key g.mode is xs zs e),
+      (λ n (g : Grip) zs is e. key_or_end g.key g.mode is xs zs e),
+    ))
 
 pub tables_tell : TablesTellKeys
 tables_tell i j a b p q r s e = wholly (plan_read i j a b p q r s) e

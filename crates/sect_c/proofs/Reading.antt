@@ -1,6 +1,6 @@
 -- Texts that can be read back: what two texts begin with tells what it says, if it is one text, and what follows.
-use Rattle.std.proofs.Common.{◌≡◌, ◌<◌, ◌+◌, ℕ, Bool, true, false, ◌&&◌, ◌||◌, not, eqb, List, [], ◌∷◌, ◌++◌, refl}
-use Rattle.std.proofs.Common.{sym, ap, ◌∙◌, arith, true≢false, append_assoc, subst}
+use Rattle.std.proofs.Common.{◌≡◌, ◌<◌, ℕ, Bool, true, false, ◌||◌, not, eqb, List, [], ◌∷◌, ◌++◌, refl}
+use Rattle.std.proofs.Common.{sym, ap, ◌∙◌, arith, true≢false, append_assoc}
 use Rattle.std.proofs.lemmas.{Bool.{and_parts, eq-eqb}, List.{append_cancel_left}, Fmt.{decimal_injective}}
 use Rattle.std.specs.{Prelude.{⊤}, List.{list_all}, Fmt.{decimal}}
 use Rattle.sect_front.specs.Words.{is_digit}
@@ -126,7 +126,8 @@ ended test (c ∷ n) [] xs ys a b p q e =
 ended test (c ∷ n) (d ∷ m) xs ys a b p q e =
     let one : c ≡ d = cc in
     let rest : n ++ xs ≡ m ++ ys = cc in
-    let more = ended test n m xs ys (and_parts (test c) (list_all test n) a).1 (and_parts (test d) (list_all test m) b).1
+    let more = ended test n m xs ys (and_parts (test c) (list_all test n) a).1
+    (and_parts (test d) (list_all test m) b).1
     p q rest in
     (ap (λ t. c ∷ t) more.0 ∙ ap (λ z. z ∷ m) one, more.1)
 

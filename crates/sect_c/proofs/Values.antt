@@ -1,25 +1,21 @@
 -- Values, bases and members in C can be read back.
-use Rattle.std.proofs.Common.{◌≡◌, ◌<◌, ℕ, Bool, true, false, cond, List, [], ◌∷◌, ◌++◌, refl, codes, length, slice_index_or}
-use Rattle.std.proofs.Common.{sym, ap, ◌∙◌, arith, subst, Option, Some, None, slice_get}
-use Rattle.std.specs.{Prelude.{⊤}, List.{list_all}, Fmt.{decimal}}
-use Rattle.sect_front.specs.Words.{is_digit, is_name_byte}
-use Rattle.sect_front.specs.TreeView.{TreeView}
+use Rattle.std.proofs.Common.{◌≡◌, ◌<◌, ℕ, List, refl, codes, length}
+use Rattle.std.proofs.Common.{sym, ap, ◌∙◌, arith, subst, Some, slice_get}
+use Rattle.sect_front.specs.Words.{is_name_byte}
 use Rattle.sect_types.specs.Programs.{ProgramView, environment_at}
 use Rattle.sect_names.specs.Locks.{IsField}
 use Rattle.sect_types.specs.Sound.{type_at, reference_to}
-use Rattle.sect_emit.specs.Labels.{record_name}
 use Rattle.sect_names.specs.Printing.{field_name}
 use Rattle.sect_c.specs.Told.{AreNames, NamesTell, DeclareAlike}
 use Rattle.sect_c.specs.Fits.{FitsValue, FitsBase, FitsMember}
-use Rattle.sect_c.specs.Naming.{local_c, global_c, value_c, base_c, member_c, field_c}
-use Rattle.sect_c.specs.Statements.{is_looked}
+use Rattle.sect_c.specs.Naming.{local_c, global_c, value_c, base_c, member_c}
 use Rattle.sect_types.specs.declared.expansion.action.Field.{Field}
 use Rattle.sect_types.specs.declared.expansion.action.Value.{Value}
 use Rattle.sect_types.specs.declared.expansion.action.Base.{Base}
 use Rattle.sect_c.specs.declared.context.Member.{Member}
 use Rattle.sect_types.specs.declared.declarations.types.ValueType.{ValueType}
-use Rattle.sect_types.specs.declared.declarations.types.ValueType.TheVariants.{Int, Refers}
-use Rattle.sect_c.proofs.Reading.{Reads, Any, Stops, told, next, until, ends, behind, only, closed, apart, spelled, number}
+use Rattle.sect_types.specs.declared.declarations.types.ValueType.TheVariants.{Refers}
+use Rattle.sect_c.proofs.Reading.{Reads, Any, Stops, told, next, ends, behind, only, closed, apart, spelled, number}
 use Rattle.sect_types.specs.declared.expansion.action.Value.TheVariants as value
 use Rattle.sect_types.specs.declared.expansion.action.Base.TheVariants as base
 
@@ -36,7 +32,8 @@ module _ (p q : ProgramView) (np : AreNames p.source) (nq : AreNames q.source) (
       → Reads (Stops is_name_byte) (local_c p.source u x) (local_c q.source u y) (x ≡ y)
   local_read x y a b =
       let n = behind (codes "l") (number x y (omega arith) (omega arith)) in
-      told (next (ends n (codes "_") (λ xs. refl)) (spelled is_name_byte _ _ (np.locals u x) (nq.locals u y))) (λ h. h.0)
+      told (next (ends n (codes "_") (λ xs. refl)) (spelled is_name_byte _ _ (np.locals u x) (nq.locals u y)))
+      (λ h. h.0)
 
   pub global_read : (g h : ℕ) → g < length p.globals → h < length q.globals
       → Reads (Stops is_name_byte) (global_c p.source g) (global_c q.source h) (g ≡ h)
@@ -69,7 +66,8 @@ module _ (p q : ProgramView) (np : AreNames p.source) (nq : AreNames q.source) (
 
   field_back : (f : Field) → IsField q f → IsField p f
   field_back f h =
-      subst (λ (rs : List (List ValueType)). (ts : List ValueType) × (slice_get rs f.of ≡ Some ts) × (f.number < length ts))
+      subst (λ (rs : List (List ValueType)). (ts : List ValueType) × (slice_get rs f.of ≡ Some ts)
+      × (f.number < length ts))
       (sym alike.records) h
 
   field_one : (m n : Member) → FitsMember p u m → FitsMember q u n → m.base ≡ n.base

@@ -1,5 +1,6 @@
 -- What can be read back from the text.
-use Rattle.std.specs.{Prelude.{◌≡◌, ◌<◌, ◌≤◌, ⊤, ℕ, List, [], ◌∷◌, length, map}, List.{AllByRecursion, flat_map}}
+use Rattle.std.specs.Prelude.{◌≡◌, ◌<◌, ◌≤◌, ⊤, ℕ, List, [], ◌∷◌, length, map, slice_index_or}
+use Rattle.std.specs.List.{AllByRecursion, flat_map}
 use Rattle.sect_modes.specs.declared.key.Key.{Key}
 use Rattle.sect_emit.specs.declared.plan.Grip.{Grip}
 use Rattle.sect_c.specs.Declarations.{plan_c}
@@ -64,7 +65,7 @@ LinesTellGraphs =
 -- a global, or a local of thread u
 abbrev pub FitsVariable : ProgramView → ℕ → Variable → Type 0
 FitsVariable p u (Global g) = g < length p.globals
-FitsVariable p u (Local t x) = (t ≡ u) × (x < 65536)
+FitsVariable p u (Local t x) = (t ≡ u) × (x < 65536) × (x < length (slice_index_or p.locals u []))
 
 -- each field is one of the record that is reached there
 abbrev pub Follows : ProgramView → ValueType → List Field → Type 0

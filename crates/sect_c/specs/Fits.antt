@@ -1,5 +1,6 @@
--- Nodes whose text says what they are.
-use Rattle.std.specs.Prelude.{◌≡◌, ◌<◌, ℕ, ⊤, List, length, Some}
+-- What is asked of a node whose text is to be read back: its numbers have 16 bits, its integers 63, and its fields are
+-- those of the records to which locals and globals refer.
+use Rattle.std.specs.Prelude.{◌≡◌, ◌<◌, ℕ, ⊤, length, Some}
 use Rattle.sect_types.specs.Programs.{ProgramView, environment_at}
 use Rattle.sect_names.specs.Locks.{IsField}
 use Rattle.sect_types.specs.Sound.{type_at}

@@ -3,10 +3,13 @@ pub mod Declarations
 pub mod Emitted
 pub mod Fits
 pub mod Naming
+pub mod Pairs
 pub mod Programs
 pub mod Said
 pub mod Sections
+pub mod Short
 pub mod Statements
 pub mod Telling
 pub mod Told
+pub mod Whole
 pub mod Words

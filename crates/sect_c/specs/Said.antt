@@ -1,5 +1,5 @@
 -- What lines say of statements.
-use Rattle.std.specs.Prelude.{ℕ, Bool, if◌then◌else◌}
+use Rattle.std.specs.Prelude.{if◌then◌else◌}
 use Rattle.sect_types.specs.declared.expansion.action.Action.{Action}
 use Rattle.sect_types.specs.declared.expansion.action.Action.TheVariants.{Assign, Compute, New, Load, Store, Print}
 use Rattle.sect_types.specs.declared.expansion.action.Label.{Label}

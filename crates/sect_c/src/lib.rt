@@ -15,5 +15,6 @@ mod words;
 
 pub use laws::{
     labels_tell_places, lines_tell_graphs, lines_tell_nodes, looks_tell_locks, tables_tell_keys,
+    texts_tell_programs,
 };
 pub use program::c_program;

@@ -3,6 +3,10 @@
 // Nothing here is proved.
 import { Heap } from "./heap.js";
 
+const OUTPUT = 1;
+const NO_FILE = 2;
+const WHY = new TextEncoder().encode("No such file or directory\0");
+
 /** The program has ended with a status. */
 export class Exit extends Error {
   constructor(status) {
@@ -38,9 +42,23 @@ export class Run {
     return BigInt(count);
   }
 
-  write(address, length) {
-    this.output.push(this.bytes(address, length).slice());
+  /** Keeps what is written to standard output. What is written elsewhere goes nowhere. */
+  write(stream, address, length) {
+    if (stream === OUTPUT) this.output.push(this.bytes(address, length).slice());
     return length;
+  }
+
+  /** There are no files here. */
+  open() {
+    this.errno = NO_FILE;
+    return -1;
+  }
+
+  /** Says what is wrong with a file. */
+  why(address, length) {
+    const to = this.bytes(address, length);
+    to.set(WHY.subarray(0, to.length));
+    return 0;
   }
 
   word(index, address, length) {
@@ -85,8 +103,11 @@ export class Run {
       rattle_set_errno: (errno) => { this.errno = errno; },
       read: (_stream, address, length) => this.read(address, length),
       __read: (_stream, address, length) => this.read(address, length),
-      write: (_stream, address, length) => this.write(address, length),
-      __write: (_stream, address, length) => this.write(address, length),
+      write: (stream, address, length) => this.write(stream, address, length),
+      __write: (stream, address, length) => this.write(stream, address, length),
+      open: () => this.open(),
+      close: done,
+      __xpg_strerror_r: (_errno, address, length) => this.why(address, length),
       _exit: (status) => { throw new Exit(status); },
       abort: () => { throw new Error("the program gave up"); },
       // a worker can't be started here, and then the caller makes the turns

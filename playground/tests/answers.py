@@ -80,7 +80,10 @@ def is_as_wanted(lines, wanted):
 def answers_are_those_of_the_cases(page):
     tried = 0
     for name, words, given, wanted, status in cases():
-        if len(given) > LONGEST or any("'" in word or '"' in word for word in words) or words[:1] in (["run"], ["lsp"]):
+        has_files = any(word.endswith(".sect") for word in words)
+        if len(given) > LONGEST or has_files or any("'" in word or '"' in word for word in words):
+            continue
+        if words[:1] in (["run"], ["lsp"]):
             continue
         answer = page.run("return await page.sectc.ask(given[0], given[1])", words, given)
         lines = answer["text"].split("\n")[:-1]
@@ -111,6 +114,13 @@ def examples_have_titles(page):
     assert shown == sorted(page.examples), shown
 
 
+def there_are_no_files(page):
+    answer = page.run("return await page.sectc.ask(['locks', 'missing.sect'], '')")
+    assert answer == {"status": 3, "text": ""}, answer
+    answer = page.run("return await page.sectc.ask(['locks', '-'], given[0])", page.examples["account"])
+    assert answer == {"status": 0, "text": "section 0: W a\n"}, answer
+
+
 def integers_are_exact(page):
     page.write("record A { int v; }\nglobal A a;\nthread t { atomic { a.v = 9000000000000000001; } }\n")
     page.view("outcomes")
@@ -130,6 +140,7 @@ TESTS = [
     answers_are_those_of_the_cases,
     answers_are_those_of_the_program,
     examples_have_titles,
+    there_are_no_files,
     integers_are_exact,
     about_is_told,
 ]

@@ -1,4 +1,4 @@
-// What `sectc schedule --chart` says of a turn: who waits for what, behind whom, and who has ended.
+// What `sectc schedule --chart` says of a turn: who waits for what, behind whom, and what was printed.
 
 /** For each turn the text of each thread, by the columns under the threads' names. */
 export function cellsOf(chart, turns) {
@@ -20,7 +20,7 @@ export function waitOf(cell) {
   };
 }
 
-/** How a thread has ended in this turn, where its cell says so. */
-export function endOf(cell) {
-  return cell.match(/end: (\w+)$/)?.[1] ?? null;
+/** The numbers that a turn has printed, as its cell tells them. */
+export function printedIn(cell) {
+  return Array.from(cell.matchAll(/, prints (-?\d+)/g), ([, number]) => number);
 }

@@ -209,7 +209,7 @@ export class Schedule extends View {
     const isTurn = this.turns.moment.turn === number;
     const running = waits ? "waits" : isInside ? "in its section" : "between sections";
     const kinds = ["card", "thread-card", threadColour(number), isTurn ? "turn" : "", waits ? "waits" : ""];
-    const next = text.replace(/^section/, "enter section");
+    const next = text.replace(/^section/, isInside ? "begin section" : "enter section");
     return element("article", { class: kinds.join(" "), "data-key": `card-${number}` },
       element("header", {}, threadSign(name, number),
         element("span", { class: "state" }, standing === "running" ? running : ENDS[standing])),

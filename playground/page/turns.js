@@ -1,7 +1,7 @@
 // Making turns: a run grows by turns of its threads, and is known moment by moment.
 import { counted } from "./answers.js";
+import { momentsOf } from "./moments.js";
 import { Refused } from "./sectc.js";
-import { momentsOf } from "./trace.js";
 
 /** More turns than this aren't made at once. */
 export const MOST = 4000;
@@ -51,19 +51,19 @@ export class Turns {
 
   /** Makes these turns from the start, and looks at the last of them or at one before. */
   async make(list, at = list.length) {
-    const { document, chart } = await this.ask(list);
+    const { start, document, chart } = await this.ask(list);
     this.list = list;
-    this.moments = momentsOf(this.page.program, document, chart, list);
+    this.moments = momentsOf(this.page.program, start, document, chart, list);
     this.at = Math.min(at, list.length);
     this.answer = document;
   }
 
   async ask(list) {
-    const [command, ...words] = [...this.words(0), ...list.map(String)];
-    const [{ document, status, text }, chart] = await Promise.all([
-      this.page.askDocument([command, ...words]), this.page.ask([command, "--chart", ...words])]);
+    const words = [...this.words(0), ...list.map(String)];
+    const [start, { document, status, text }, chart] = await Promise.all([
+      this.page.askDocument(this.words(0)), this.page.askDocument(words), this.page.ask([...words, "--chart"])]);
     if (status) throw new Refused(text.trim());
-    return { document, chart: chart.text };
+    return { start: start.document, document, chart: chart.text };
   }
 
   /** Makes one turn more of a thread. Turns behind the moment that is looked at are dropped. */

@@ -128,13 +128,14 @@ export async function violations() {
       `${impact} ${id}: ${nodes.slice(0, 3).map(({ html }) => html.slice(0, 120)).join(" | ")}`);
 }
 
-/** What the page's trace of these turns comes to, and what the program says of them. */
-export async function trace(turns) {
-  const { momentsOf } = await import("./trace.js");
+/** What the page's last moment of these turns is, and what the program says that they come to. */
+export async function lastMoment(turns) {
+  const { momentsOf } = await import("./moments.js");
   const words = turns.map(String);
+  const { document: start } = await page.askDocument(["schedule"]);
   const { document: told } = await page.askDocument(["schedule", ...words]);
   const chart = (await page.ask(["schedule", "--chart", ...words])).text;
-  const last = momentsOf(page.program, told, chart, turns).at(-1);
+  const last = momentsOf(page.program, start, told, chart, turns).at(-1);
   const valueText = (value) => (value === null ? "null" : String(value));
   const said = (objects) =>
     objects.map(({ name, fields }) => [name, fields.map((field) => [field.name, valueText(field.value)])]);

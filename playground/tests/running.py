@@ -49,7 +49,7 @@ def moments_come_to_what_the_program_says(page):
         page.write(text)
         count = page.run("return page.program.threads.length")
         turns = [chance.randrange(count) for _ in range(70)]
-        found, told = page.probe("trace", turns)
+        found, told = page.probe("lastMoment", turns)
         assert found == told, (name, turns, found, told)
 
 

@@ -1,11 +1,11 @@
 -- What a schedule has come to, as it is printed.
-use Rattle.std.proofs.Common.{◌≡◌, ℕ, List, map, length, sym, ap, subst, ◌∙◌}
+use Rattle.std.proofs.Common.{◌≡◌, ◌++◌, ℕ, List, map, length, sym, ap, subst, ◌∙◌}
 use Rattle.sect_types.specs.Programs.{ProgramView}
-use Rattle.sect_store.specs.Outcomes.{OutcomeView}
+use Rattle.sect_store.specs.{Outcomes.{OutcomeView}, Printing.{outcome_text}}
 use Rattle.sect_emit.specs.Compiled.{CompiledView, program_of}
 use Rattle.sect_world.specs.{Runs.{order_of}, Schedules.{IsProgress, all_events}, Worlds.{outcome_at}}
 use Rattle.sect_world.specs.declared.schedule.Progress.{Progress}
-use Rattle.sect_answers.specs.{Scheduling.{AreTurnsOf}, Turns.{turns_in}, declared.format.Format.{Format}}
+use Rattle.sect_answers.specs.{Scheduling.{AreTurnLines}, Turns.{turn_lines}}
 use Rattle.sect_lemmas.specs.Blocks.{blocks_of, AreEnough}
 use Rattle.sect_lemmas.proofs.Blocks.{cut_gives_back, joined_are_enough}
 
@@ -20,17 +20,17 @@ module _ (c : CompiledView) (fuel : ℕ) (schedule : List ℕ) (p : Progress) (i
       ∙ (ap (blocks_of (map length is.blocks)) is.events ∙ cut_gives_back is.blocks)
 
   -- the turns and the outcome are what is to be printed
-  pub turns_printed : (format : Format) (program : ProgramView) (bytes : List ℕ) → program ≡ program_of c
-      → bytes ≡ turns_in format program (blocks_of p.made.items p.run.events.items) p.run.outcome
-      → AreTurnsOf c fuel schedule format bytes
-  turns_printed format program bytes same printed = record {
+  pub lines_printed : (program : ProgramView) (bytes : List ℕ) → program ≡ program_of c
+      → bytes ≡ turn_lines program (blocks_of p.made.items p.run.events.items) ++ outcome_text program p.run.outcome
+      → AreTurnLines c fuel schedule bytes
+  lines_printed program bytes same printed = record {
     state = is.state;
     blocks = is.blocks;
     turns = is.turns;
     printed = printed
-        ∙ (ap (λ bs. turns_in format program bs p.run.outcome) blocks_are
-        ∙ (ap (λ (o : OutcomeView). turns_in format program is.blocks o)
+        ∙ (ap (λ bs. turn_lines program bs ++ outcome_text program p.run.outcome) blocks_are
+        ∙ (ap (λ (o : OutcomeView). turn_lines program is.blocks ++ outcome_text program o)
         (is.outcome ∙ ap (λ es. outcome_at is.state (order_of es)) is.events)
-        ∙ ap (λ (q : ProgramView). turns_in format q is.blocks
-        (outcome_at is.state (order_of (all_events is.blocks)))) same));
+        ∙ ap (λ (q : ProgramView). turn_lines q is.blocks
+        ++ outcome_text q (outcome_at is.state (order_of (all_events is.blocks)))) same));
   }

@@ -1,11 +1,9 @@
 -- The turns of a schedule as they are printed. `schedule_outcome` cites it.
 use Rattle.std.specs.{Prelude.{ℕ, List, [], ◌∷◌, ◌++◌, codes}, List.{flat_map}, Fmt.{decimal}}
 use Rattle.sect_types.specs.Programs.{ProgramView}
-use Rattle.sect_store.specs.{Outcomes.{OutcomeView}, Printing.{by_place, outcome_text}}
+use Rattle.sect_store.specs.Printing.{by_place}
 use Rattle.sect_world.specs.declared.event.Event.{Event}
 use Rattle.sect_draw.specs.Words.{deed_text}
-use Rattle.sect_json.specs.{Values.{document_text}, Turns.{turns_json}}
-use Rattle.sect_answers.specs.{declared.format.Format.{Format}, declared.format.Format.TheVariants.{Text, Json}}
 
 -- its thread, and what that does
 abbrev pub event_text : ProgramView → Event → List ℕ
@@ -26,8 +24,3 @@ turn_line p n es = codes "turn " ++ decimal n ++ codes ": " ++ block_text p es
 -- a line for each turn
 abbrev pub turn_lines : ProgramView → List (List Event) → List ℕ
 turn_lines p turns = by_place (turn_line p) 0 turns
-
--- all turns and the outcome that they have come to, as lines or as a document
-abbrev pub turns_in : Format → ProgramView → List (List Event) → OutcomeView → List ℕ
-turns_in Text p turns o = turn_lines p turns ++ outcome_text p o
-turns_in Json p turns o = document_text (turns_json p turns o)

@@ -1,12 +1,14 @@
 //! The command `schedule`.
 
 ghost use Rattle.std.specs.{Prelude.{◌≡◌, ◌++◌, IfOk, IfErr, IsOkUnless, length}, String.{string_bytes}};
+ghost use Rattle.sect_front.specs.Front.{IsSpelled};
 ghost use Rattle.sect_names.specs.{Schemes.{SchemeView}, Sources.{IsAccepted}};
 ghost use Rattle.sect_store.specs.Printing.{outcome_text as printed};
+ghost use Rattle.sect_emit.specs.Compiled.{program_of};
 ghost use Rattle.sect_world.specs.Schedules.{IsUnrun};
 ghost use Rattle.sect_answers.specs.declared.refusal.Refusal.TheVariants.{Memory};
-ghost use Rattle.sect_answers.specs.Scheduling.{AreTurnsOf, AreThreads, IsScheduled, IsScheduleDue};
-ghost use Rattle.sect_answers.specs.Turns.{turn_lines, turns_in};
+ghost use Rattle.sect_answers.specs.Scheduling.{AreTurnLines, AreTurnsOf, AreThreads, IsScheduled, IsScheduleDue};
+ghost use Rattle.sect_answers.specs.Turns.{turn_lines as lines_by};
 ghost use Rattle.sect_lemmas.specs.Blocks.{AreEnough, blocks_of};
 
 use crate::format::Format;
@@ -41,39 +43,53 @@ pub fn schedule_outcome(
 {
     texts_have_one_program();
     let compiled = compile(alloc, source, k)?;
-    Ok(turns_printed(alloc, &compiled, fuel, schedule.as_slice(), format)?)
+    let wanted = Wanted {
+        fuel,
+        threads: schedule.as_slice(),
+        format,
+    };
+    Ok(turns_printed(alloc, source, &compiled, wanted)?)
 }
 
-/// The turns of these threads from the start of a compiled program, as they are printed.
+/// The threads that have a turn each, with how much fuel for each thread, and how the turns are printed.
+#[derive(Clone, Copy)]
+struct Wanted<'a> {
+    fuel: u32,
+    threads: &'a [u16],
+    format: Format,
+}
+
+/// The turns of these threads from the start of a compiled program, whose text this is, as they are printed.
 fn turns_printed(
+    alloc: Global,
+    source: &[u8],
+    compiled: &Compiled,
+    wanted: Wanted<'_>,
+) -> Result<String, WorldFault>
+    requires { IsSpelled source.now (program_of compiled.now).source }
+    ensures answers { IfOk result (λ text. AreTurnsOf wanted.format source.now compiled.now wanted.fuel
+        wanted.threads.now (string_bytes text)) }
+    ensures refuses { IfErr result (λ why.
+        IsUnrun why wanted.threads.now (length compiled.now.scheme.program.texts)) }
+{
+    match wanted.format {
+        Format::Text => turn_lines(alloc, compiled, wanted.fuel, wanted.threads),
+        Format::Json => turns_document(alloc, source, compiled, wanted.fuel, wanted.threads),
+    }
+}
+
+/// A line for each turn of these threads from the start of a compiled program, and what they have come to.
+fn turn_lines(
     alloc: Global,
     compiled: &Compiled,
     fuel: u32,
     schedule: &[u16],
-    format: Format,
 ) -> Result<String, WorldFault>
-    ensures answers { IfOk result (λ text. AreTurnsOf compiled.now fuel schedule.now format (string_bytes text)) }
+    ensures answers { IfOk result (λ text. AreTurnLines compiled.now fuel schedule.now (string_bytes text)) }
     ensures refuses { IfErr result (λ why. IsUnrun why schedule.now (length compiled.now.scheme.program.texts)) }
 {
     let progress = run_schedule(alloc, compiled, fuel, schedule)?;
-    Ok(progress_printed(alloc, compiled.scheme().program(), &progress, format)?)
-}
-
-/// The turns of a run, and what it has come to, as they are printed.
-fn progress_printed(
-    alloc: Global,
-    program: &Program,
-    progress: &Progress,
-    format: Format,
-) -> Result<String, AllocError>
-    requires { AreEnough progress.now.made.items progress.now.run.events.items }
-    ensures { IfOk result (λ text. string_bytes text ≡ turns_in format program.now
-        (blocks_of progress.now.made.items progress.now.run.events.items) progress.now.run.outcome) }
-{
-    match format {
-        Format::Text => progress_text(alloc, program, progress),
-        Format::Json => turns_document(alloc, program, progress),
-    }
+    Ok(progress_text(alloc, compiled.scheme().program(), &progress)?)
 }
 
 /// A line for each turn of a run, and what it has come to.
@@ -84,7 +100,7 @@ fn progress_text(
 ) -> Result<String, AllocError>
     requires { AreEnough progress.now.made.items progress.now.run.events.items }
     ensures { IfOk result (λ text. string_bytes text
-        ≡ turn_lines program.now (blocks_of progress.now.made.items progress.now.run.events.items)
+        ≡ lines_by program.now (blocks_of progress.now.made.items progress.now.run.events.items)
         ++ printed program.now progress.now.run.outcome) }
 {
     let mut text = String::new(alloc);

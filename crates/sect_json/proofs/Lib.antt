@@ -1,8 +1,10 @@
 mod Calling
+mod Changed
 mod Holding
 mod LockTexts
 mod Plain
 mod PlainCalls
+mod PlainChanges
 mod PlainCompiling
 mod PlainConflicts
 mod PlainExplaining
@@ -16,6 +18,7 @@ mod PlainTurns
 mod Programs
 mod Rows
 mod SameTold
+mod Scheduled
 mod Sections
 mod Sited
 mod Stepped

@@ -13,7 +13,7 @@ use Rattle.sect_json.proofs.PlainSites.{plain_bytes, plain_locals, plain_sites}
 use Rattle.sect_front.specs.declared.tree.Locking.TheVariants as locking
 use Rattle.sect_emit.specs.declared.graphs.GraphOf.TheVariants as graphed
 
-plain_origin : (source : List ℕ) (spans : List NodeSpan) (n : ℕ) → IsPlain (origin_json source spans n)
+pub plain_origin : (source : List ℕ) (spans : List NodeSpan) (n : ℕ) → IsPlain (origin_json source spans n)
 plain_origin source spans n =
     or_from _ _ (plain_bytes source (call_of (slice_get spans n)))
     (or_from _ _ (plain_bytes source (place_of (slice_get spans n))) refl)

@@ -10,7 +10,7 @@ use Rattle.sect_json.specs.Objects.{datum_json, field_json, object_json, global_
 use Rattle.sect_json.proofs.Plain.{IsPlain, ArePlain, plain_by_place, plain_append, plain_all_by_place, plain_integer}
 
 module _ (p : ProgramView) where
-  plain_datum : (d : Datum) → IsPlain (datum_json p d)
+  pub plain_datum : (d : Datum) → IsPlain (datum_json p d)
   plain_datum (Number n) = plain_integer n
   plain_datum Null = refl
   plain_datum (Refers o) = refl

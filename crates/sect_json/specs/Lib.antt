@@ -3,6 +3,7 @@ pub mod Keys
 pub mod Nodes
 pub mod Objects
 pub mod Calls
+pub mod Changes
 pub mod Compiling
 pub mod Conflicts
 pub mod Outcomes

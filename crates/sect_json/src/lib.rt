@@ -2,9 +2,11 @@
 #![tactic(auto)]
 
 mod calls;
+mod changes;
 mod compiling;
 mod conflicts;
 mod context;
+mod events;
 mod explaining;
 mod inspected_sections;
 mod inspecting;

@@ -92,8 +92,8 @@ fn field_value(
     Ok(members.object())
 }
 
-/// What a field holds.
-fn datum_value(alloc: Global, program: &Program, datum: Datum) -> Result<Value, AllocError>
+/// What a field or a local holds.
+pub fn datum_value(alloc: Global, program: &Program, datum: Datum) -> Result<Value, AllocError>
     ensures { IfOk result (λ v. view v ≡ datum_json program.now datum) }
 {
     match datum {

@@ -62,9 +62,24 @@ fn node_told(
     put_graphed_node(&mut text, of.compiled, graph, node)?;
     Ok(NodeTold {
         next: next_value(alloc, of.compiled, graph, node)?,
-        place: origin_value(alloc, of.source, spans_of(of, graph), node)?,
+        place: origin_at(alloc, of, graph, node)?,
         text,
     })
+}
+
+/// Where a node of a graph comes from.
+pub fn origin_at(
+    alloc: Global,
+    of: &Inspected<'_>,
+    graph: GraphOf,
+    node: u16,
+) -> Result<Value, AllocError>
+    requires inspected { IsInspected of.now }
+    requires there { IsThere of.now.compiled.now graph }
+    ensures { IfOk result (λ v. view v
+        ≡ origin_json of.now.source.now (spans_at of.now.spans.now graph) node) }
+{
+    origin_value(alloc, of.source, spans_of(of, graph), node)
 }
 
 /// Where the nodes of a graph come from.
@@ -122,7 +137,7 @@ fn span_origin(alloc: Global, source: &LineIndex<'_>, span: NodeSpan) -> Result<
 }
 
 /// A call and a statement.
-fn told_origin(alloc: Global, call: Value, statement: Value) -> Result<Value, AllocError>
+pub fn told_origin(alloc: Global, call: Value, statement: Value) -> Result<Value, AllocError>
     ensures { IfOk result (λ v. view v ≡ origin_with (view call) (view statement)) }
 {
     let members = Members::new(alloc)

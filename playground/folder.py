@@ -31,6 +31,8 @@ LIBRARIES = {
     },
     "/usr/share/nodejs/dagre/dist/dagre.min.js": "node-dagre-layout",
 }
+# packages whose code stands in these files: dagre's has what it needs of both
+WITHIN = ["node-graphlibrary", "node-lodash"]
 DOCUMENT = """<!doctype html>
 <html lang="en">
 <head>
@@ -79,9 +81,9 @@ def copy_libraries(out):
         if not os.path.exists(path):
             sys.exit(f"{path} isn't there: it is of Debian's package {package}")
         shutil.copy(path, f"{out}/lib/{os.path.basename(path)}")
-    licences = [
-        f"{package}\n\n{text_of(f'/usr/share/doc/{package}/copyright')}" for package in sorted(set(LIBRARIES.values()))
-    ]
+    packages = sorted({*LIBRARIES.values(), *WITHIN})
+    licences = [f"{package}\n\n{text_of(f'/usr/share/doc/{package}/copyright')}" for package in packages]
+    licences.insert(0, f"sectc, under either of two licences\n\n{text_of(f'{TOP}/LICENSE-MIT')}\n{text_of(f'{TOP}/LICENSE-APACHE')}")
     write(f"{out}/lib/LICENCES.txt", ("\n" + "=" * 78 + "\n").join(licences))
 
 

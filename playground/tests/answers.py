@@ -136,6 +136,21 @@ def about_is_told(page):
     assert digest == about["sha256"], json.dumps(about)
 
 
+def licences_are_named(page):
+    told = page.run("return await (await fetch('lib/LICENCES.txt')).text()")
+    for words in ("libjs-codemirror", "Marijn Haverbeke", "node-dagre-layout", "Chris Pettitt", "node-lodash", "sectc, under"):
+        assert words in told, words
+    assert told.count("Permission is hereby granted") >= 4, told.count("Permission is hereby granted")
+    assert page.run("return document.querySelector('footer a[href=\"lib/LICENCES.txt\"]').textContent") == "Licences"
+
+
+def the_repository_is_linked_where_it_is_known(page):
+    known = page.run("return (await (await fetch('about.json')).json()).repository ?? null")
+    links = page.run("return [...document.querySelectorAll('footer a')].map((it) => it.href)")
+    assert known is None or known in links, (known, links)
+    assert any(link.endswith("docs/README.html") for link in links), links
+
+
 TESTS = [
     answers_are_those_of_the_cases,
     answers_are_those_of_the_program,
@@ -143,4 +158,6 @@ TESTS = [
     there_are_no_files,
     integers_are_exact,
     about_is_told,
+    licences_are_named,
+    the_repository_is_linked_where_it_is_known,
 ]

@@ -1,4 +1,6 @@
 """What is said where the program can't be had."""
+import os
+
 from page import OUT
 
 
@@ -33,6 +35,13 @@ def restored(test):
 @restored
 def a_missing_module_is_said(page):
     without(page, missing={"sectc.wasm", "examples.json", "about.json"})
+    assert "playground/build" in said(page), said(page)
+
+
+@restored
+def a_folder_that_isnt_built_is_said(page):
+    libraries = {f"lib/{name}" for name in os.listdir(f"{OUT}/lib")}
+    without(page, missing={"sectc.wasm", "examples.json", "about.json", *libraries})
     assert "playground/build" in said(page), said(page)
 
 
@@ -89,6 +98,7 @@ def without_scripts_it_is_said(page):
 
 TESTS = [
     a_missing_module_is_said,
+    a_folder_that_isnt_built_is_said,
     another_type_of_content_is_taken,
     an_old_browser_is_told_which_ones_can,
     a_broken_module_is_said,

@@ -38,6 +38,20 @@ def a_draft_survives_reload(page):
     assert page.source() == text and text.startswith("// mine "), page.source()
 
 
+def an_edit_of_a_link_survives_reload(page):
+    page.open("#" + urllib.parse.quote(OWN))
+    assert page.run("return document.getElementById('examples').value") == "", "an example's name over one's own text"
+    page.browser.click("#share")
+    page.browser.click("#code .CodeMirror-line")
+    page.browser.keys("Home", held="Control")
+    page.browser.keys("// edited ")
+    page.ready()
+    page.run("location.reload()")
+    page.rest(0.5)
+    page.ready()
+    assert page.source() == "// edited " + OWN, page.source()
+
+
 def a_link_holds_all(page):
     page.example("lost_update", "schedule")
     page.run("page.setFields('3')")
@@ -133,6 +147,7 @@ def colours_are_kept(page):
 TESTS = [
     an_example_doesnt_eat_ones_text,
     a_draft_survives_reload,
+    an_edit_of_a_link_survives_reload,
     a_link_holds_all,
     a_link_is_short,
     copying_is_told,

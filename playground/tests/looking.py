@@ -93,6 +93,18 @@ def axe_finds_nothing(page):
     page.browser.media()
 
 
+def keys_are_not_spoken_of(page):
+    """What changes at each key is in no region that is read aloud."""
+    page.example("linked_list")
+    spoken = "return [...document.querySelectorAll('[aria-live], [role=status], [role=alert]')].map((it) => it.textContent)"
+    before = page.run(spoken)
+    page.browser.click("#code .CodeMirror-line")
+    page.browser.keys("//")
+    page.ready()
+    assert page.run(spoken) == before, (before, page.run(spoken))
+    assert page.run("return document.querySelector('#state').closest('[aria-live], [role=status]')") is None
+
+
 def branching(count):
     """A section with so many tests, each with a loop in its other branch."""
     one = "if (t == {n}) {{ t = a.bal; a.bal = {n}; }} else {{ t = {n}; while (t < 3) {{ t = t + 1; }} }} "
@@ -152,6 +164,7 @@ TESTS = [
     twice_as_large_is_usable,
     lines_are_wrapped,
     axe_finds_nothing,
+    keys_are_not_spoken_of,
     a_graph_is_readable,
     the_chain_is_drawn_in,
     text_and_graph_point_at_each_other,

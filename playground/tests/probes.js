@@ -93,19 +93,38 @@ function goesThrough(line, boxes) {
   return false;
 }
 
+/** How many pairs of boxes lie on each other. */
+function overlaps(boxes) {
+  const areApart = (one, other) =>
+    one.right <= other.x + 1 || other.right <= one.x + 1 || one.bottom <= other.y + 1 || other.bottom <= one.y + 1;
+  return boxes.flatMap((one, number) => boxes.slice(number + 1).filter((other) => !areApart(one, other))).length;
+}
+
 /** Of a graph: boxes that lie on each other, lines that go through boxes, and the size of its letters. */
 export function graph() {
   const scale = page.view.zoom;
   const corner = document.querySelector(".graph").getBoundingClientRect();
   const boxes = [...document.querySelectorAll(".block")].map((it) => within(it, corner, scale));
-  const areApart = (one, other) =>
-    one.right <= other.x + 1 || other.right <= one.x + 1 || one.bottom <= other.y + 1 || other.bottom <= one.y + 1;
   const lines = [...document.querySelectorAll(".graph .edge")];
   return {
     boxes: boxes.length, lines: lines.length, loops: document.querySelectorAll(".graph .loop").length,
-    overlaps: boxes.flatMap((one, number) => boxes.slice(number + 1).filter((other) => !areApart(one, other))).length,
+    overlaps: overlaps(boxes),
     through: lines.filter((line) => goesThrough(line, boxes)).length,
     size: parseFloat(getComputedStyle(document.querySelector(".block .step")).fontSize) * scale,
+  };
+}
+
+/** Of a picture of the store: its arrows, boxes that lie on each other, and arrows that go through boxes. */
+export function store() {
+  const number = (it, name) => Number(it.getAttribute(name));
+  const boxes = [...document.querySelectorAll(".store .box")].map((it) => ({
+    x: number(it, "x"), y: number(it, "y"),
+    right: number(it, "x") + number(it, "width"), bottom: number(it, "y") + number(it, "height"),
+  }));
+  const arrows = [...document.querySelectorAll(".store .edge")];
+  return {
+    boxes: boxes.length, arrows: arrows.length, overlaps: overlaps(boxes),
+    through: arrows.filter((line) => goesThrough(line, boxes)).length,
   };
 }
 

@@ -144,6 +144,26 @@ def changes_of_the_store_are_marked(page):
     assert page.run("return document.querySelectorAll('.store .changed').length") == 1
 
 
+RING = """record N { int v; N next; N back; }
+global N a; global N b; global N other;
+thread t { N p; N q; int i;
+  atomic { p = new N; a.next = p; p.back = a; i = 0;
+    while (i < 5) { q = new N; p.next = q; q.back = p; p = q; i = i + 1; }
+    p.next = a; a.back = p; b.next = b; } }
+"""
+
+
+def arrows_of_the_store_go_past_its_boxes(page):
+    for text in (RING, *(page.examples[name] for name in ("linked_list", "walk", "lost_update"))):
+        page.write(text)
+        page.view("schedule")
+        page.browser.click("#panel-schedule button", "until all have ended")
+        page.replayed()
+        found = page.probe("store")
+        assert found["boxes"] and not found["overlaps"] and not found["through"], (text[:60], found)
+        assert text != RING or found["arrows"] == 15, found
+
+
 TESTS = [
     a_turn_shows_its_statement,
     who_waits_is_told,
@@ -157,4 +177,5 @@ TESTS = [
     an_endless_thread_is_replayed_too,
     an_endless_run_is_given_up_with_a_word,
     changes_of_the_store_are_marked,
+    arrows_of_the_store_go_past_its_boxes,
 ]

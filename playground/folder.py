@@ -62,6 +62,16 @@ def write(path, text):
         file.write(text)
 
 
+def clear(out):
+    """Takes away what an earlier build has left, all but the module and what is said of it."""
+    for name in os.listdir(out):
+        path = f"{out}/{name}"
+        if os.path.isdir(path):
+            shutil.rmtree(path)
+        elif name not in ("sectc.wasm", "about.json"):
+            os.remove(path)
+
+
 def copy_page(out):
     """The page's own files. All of its modules are asked for at once, and the program's beside them."""
     for name in os.listdir(PAGE):
@@ -83,7 +93,8 @@ def copy_libraries(out):
         shutil.copy(path, f"{out}/lib/{os.path.basename(path)}")
     packages = sorted({*LIBRARIES.values(), *WITHIN})
     licences = [f"{package}\n\n{text_of(f'/usr/share/doc/{package}/copyright')}" for package in packages]
-    licences.insert(0, f"sectc, under either of two licences\n\n{text_of(f'{TOP}/LICENSE-MIT')}\n{text_of(f'{TOP}/LICENSE-APACHE')}")
+    own = [text_of(f"{TOP}/LICENSE-{name}") for name in ("MIT", "APACHE")]
+    licences.insert(0, "\n".join(["sectc, under either of two licences\n", *own]))
     write(f"{out}/lib/LICENCES.txt", ("\n" + "=" * 78 + "\n").join(licences))
 
 
@@ -169,6 +180,7 @@ def write_about(out, is_proved, kit):
 
 def assemble(out):
     """All of the folder but the program's module and what is said of it."""
+    clear(out)
     copy_page(out)
     copy_libraries(out)
     write_examples(out)

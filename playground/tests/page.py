@@ -11,10 +11,14 @@ TOP = os.path.dirname(os.path.dirname(HERE))
 OUT = f"{os.path.dirname(HERE)}/out"
 VIEWS = ["locks", "graph", "pairs", "schedule", "outcomes", "compare"]
 READY = "!!globalThis.page?.isSettled"
+BELOW = "/somewhere/else/"
 
 
 class Server(socketserver.ThreadingTCPServer):
-    """Serves the folder. `missing` are names that it says aren't there, `types` other types of content by ending."""
+    """
+    Serves the folder, below `BELOW` as well. `missing` are names that it says aren't there, `types` other types of
+    content by ending.
+    """
 
     daemon_threads = True
     allow_reuse_address = True
@@ -37,7 +41,9 @@ class Handler(http.server.SimpleHTTPRequestHandler):
         return self.server.types.get(ending) or self.TYPES.get(ending) or super().guess_type(path)
 
     def translate_path(self, path):
-        return f"{HERE}/probes.js" if path == "/probes.js" else super().translate_path(path)
+        if path == "/probes.js":
+            return f"{HERE}/probes.js"
+        return super().translate_path(f"/{path[len(BELOW):]}" if path.startswith(BELOW) else path)
 
     def do_GET(self):
         name = self.path.split("?")[0].lstrip("/")

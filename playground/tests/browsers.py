@@ -2,6 +2,7 @@
 import base64
 import http.client
 import json
+import os
 import shutil
 import socket
 import subprocess
@@ -9,7 +10,11 @@ import sys
 import tempfile
 import time
 
+# how much longer all may take where the machine has other work, as in `SLOWER=3 playground/test`
+SLOWER = float(os.environ.get("SLOWER", "1"))
 SECONDS = 20
+# how long a script in the page may take, in milliseconds
+SCRIPT = int(100_000 * SLOWER)
 ELEMENT = "element-6066-11e4-a52e-4f735466cecf"
 KEYS = {
     "Tab": "\ue004",
@@ -35,7 +40,7 @@ def free_port():
 
 
 def retried(deed, what):
-    for _ in range(200):
+    for _ in range(int(200 * SLOWER)):
         try:
             return deed()
         except OSError:
@@ -59,7 +64,7 @@ class Browser:
 
     def until(self, script, *words, seconds=SECONDS):
         """Waits until an expression holds."""
-        end = time.monotonic() + seconds
+        end = time.monotonic() + seconds * SLOWER
         while time.monotonic() < end:
             if self.run(f"return {script}", *words):
                 return
@@ -116,13 +121,14 @@ class Chromium(Browser):
         self.port, self.session = port, ""
         options = {"args": ["--headless=new", "--no-sandbox", "--disable-gpu", "--window-size=1280,860", *flags]}
         wanted = {"browserName": "chrome", "goog:chromeOptions": options, "goog:loggingPrefs": {"browser": "ALL"}}
+        wanted["timeouts"] = {"script": SCRIPT}
         answer = retried(
             lambda: self.ask("POST", "/session", {"capabilities": {"alwaysMatch": wanted}}), "chromedriver"
         )
         self.session = f"/session/{answer['sessionId']}"
 
     def ask(self, method, path, body=None):
-        line = http.client.HTTPConnection("127.0.0.1", self.port, timeout=120)
+        line = http.client.HTTPConnection("127.0.0.1", self.port, timeout=120 * SLOWER)
         line.request(method, self.session + path, json.dumps(body or {}) if method == "POST" else None)
         value = json.loads(line.getresponse().read())["value"]
         if isinstance(value, dict) and "error" in value:
@@ -177,11 +183,11 @@ class Firefox(Browser):
             file.write(f'user_pref("marionette.port", {port});\n')
         words = ["firefox-esr", "--marionette", "--headless", "--no-remote", "--profile", self.room]
         self.process = subprocess.Popen(words, stdout=subprocess.DEVNULL, stderr=subprocess.DEVNULL)
-        self.line = retried(lambda: socket.create_connection(("127.0.0.1", port), timeout=60), "Firefox")
+        self.line = retried(lambda: socket.create_connection(("127.0.0.1", port), timeout=60 * SLOWER), "Firefox")
         self.rest, self.number = b"", 0
         self.message()
         self.ask("WebDriver:NewSession", {"capabilities": {}})
-        self.ask("WebDriver:SetTimeouts", {"script": 100000})
+        self.ask("WebDriver:SetTimeouts", {"script": SCRIPT})
 
     def message(self):
         while b":" not in self.rest:

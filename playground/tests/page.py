@@ -6,6 +6,8 @@ import socketserver
 import threading
 import time
 
+from browsers import SLOWER
+
 HERE = os.path.dirname(os.path.abspath(__file__))
 TOP = os.path.dirname(os.path.dirname(HERE))
 OUT = f"{os.path.dirname(HERE)}/out"
@@ -131,7 +133,7 @@ class Page:
         return self.run("return document.activeElement.textContent.trim() || document.activeElement.id")
 
     def rest(self, seconds):
-        time.sleep(seconds)
+        time.sleep(seconds * SLOWER)
 
 
 def many(statements):

@@ -1,12 +1,10 @@
 """How quick it is, what is fetched, and what the browser is allowed. Times are told, and those of an idle machine."""
-import os
 import time
 
+from browsers import SLOWER
 from page import BELOW, many, wide
 
 LINES = 27_000
-# how much longer all may take where the machine has other work, as in `SLOWER=3 playground/test`
-SLOWER = float(os.environ.get("SLOWER", "1"))
 ELSEWHERE = "https://example.org/"
 
 

@@ -35,18 +35,20 @@ function box(object) {
     fields.map((field, number) => row(field, number, object)));
 }
 
-/** An arrow from the row of a field to the object that stands in it. */
+/**
+ * An arrow from the row of a field to the name of the object that stands in it: to the right it leaves and enters as one
+ * reads, to the left the other way round.
+ */
 function arrow(from, number, to, points) {
-  const start = { x: from.x + from.width, y: from.y + (number + 1) * ROW + 13 };
+  const isBack = to.x < from.x;
+  const start = { x: isBack ? from.x : from.x + from.width, y: from.y + (number + 1) * ROW + 13 };
   const draw = (line) => drawn("path", { class: "edge", d: line, "marker-end": "url(#store-tip)" });
   const inner = points.slice(1, -1);
   if (from === to) {
     const aside = start.x + 44;
     return draw(`M${start.x} ${start.y} C${aside} ${start.y}, ${aside} ${from.y + 8}, ${start.x + 2} ${from.y + 12}`);
   }
-  if (to.x > from.x) return draw(lineThrough([start, ...inner, { x: to.x, y: to.y + 12 }]));
-  const end = { x: to.x + to.width / 2, y: to.y + to.height };
-  return draw(lineThrough([start, { x: start.x + 18, y: start.y }, ...inner, end]));
+  return draw(lineThrough([start, ...inner, { x: isBack ? to.x + to.width : to.x, y: to.y + 12 }]));
 }
 
 /** Objects without references stand in rows below the others. */

@@ -1,8 +1,8 @@
 -- What a thread's next step does to the store, by the node at which it stands.
-use Rattle.std.proofs.Common.{◌≡◌, ℕ, zero, suc, ◌+◌, ◌<◌, ◌∷◌, map, Bool, true, false, if◌then◌else◌, [], List, Option, Some, None, length, option_map, inl, inr, refl, sym}
-use Rattle.std.proofs.{Common.{◌∙◌, ap, subst, arith}, lemmas.Bool.{cases_lt}}
-use Rattle.std.proofs.lemmas.Option.{get_or_from_slice_get, slice_get_past}
-use Rattle.std.specs.Prelude.{slice_get, slice_index_or}
+use Rattle.std.proofs.Common.{◌≡◌, ℕ, zero, suc, ◌+◌, ◌<◌, Bool, true, false, if◌then◌else◌, List, [], ◌∷◌, map, length}
+use Rattle.std.proofs.Common.{Option, Some, None, option_map, inl, inr, refl, sym, ap, ◌∙◌, subst, arith}
+use Rattle.std.proofs.lemmas.{Bool.{cases_lt}, Option.{get_or_from_slice_get, slice_get_past}}
+use Rattle.std.specs.Prelude.{slice_index_or}
 use Rattle.sect_lemmas.proofs.Places.{at_of}
 use Rattle.sect_front.specs.declared.tree.Operator.{Operator}
 use Rattle.sect_types.specs.{declared.expansion.action.Condition.{Condition}, declared.expansion.action.Value.{Value}}
@@ -12,20 +12,22 @@ use Rattle.sect_types.specs.declared.meaning.store.Datum.TheVariants.{Number}
 use Rattle.sect_types.specs.{Statements.{TextView, Stop, Do, Choose, Loop, Section}, Store.{StoreView}}
 use Rattle.sect_types.specs.Sections.{SectionView, sections_of}
 use Rattle.sect_types.specs.Meaning.{WorkView, Change, Unchanged, Added, Came, Went, Fell, going, taken, paid, one}
-use Rattle.sect_types.specs.Meaning.{found_at, looked, done, loaded, stored, assigned, fresh, fits, result_of, integer_of}
-use Rattle.sect_types.specs.Meaning.{value_datum, base_datum, name_in, first_datum}
-use Rattle.sect_graph.specs.{declared.flow.Node.{Node}, Graphs.{IsGraphOf}, Layout.{flow_nodes}, Rests.{Begins, rest_at}}
+use Rattle.sect_types.specs.Meaning.{found_at, looked, done, loaded, stored, assigned, fresh, fits, result_of}
+use Rattle.sect_types.specs.Meaning.{integer_of, value_datum, base_datum, name_in, first_datum}
+use Rattle.sect_graph.specs.{declared.flow.Node.{Node}, Graphs.{IsGraphOf}, Layout.{flow_nodes}}
+use Rattle.sect_graph.specs.Rests.{Begins, rest_at}
 use Rattle.sect_graph.proofs.shared.Rests.{past_end}
 use Rattle.sect_emit.specs.{Compiled.{CompiledView, IsCompiled, program_of}, Graphed.{graphed_nodes, graphed_text}}
 use Rattle.sect_emit.specs.State.{Position, Running, Faulted, ThreadState, State, IsThread}
 use Rattle.sect_types.specs.declared.meaning.store.Fault.{Fault}
-use Rattle.sect_world.specs.{Events.{step_in}, Sights.{work_of, work_in}, Standings.{IsBetween, IsStanding}}
+use Rattle.sect_world.specs.{Events.{step_in}, Sights.{work_in}, Standings.{IsBetween, IsStanding}}
 use Rattle.sect_world.specs.declared.standing.Standing.{Standing}
 use Rattle.sect_world.specs.declared.standing.Standing.TheVariants.{At, Broken}
 use Rattle.sect_types.specs.declared.declarations.types.ValueType.{ValueType}
 use Rattle.sect_types.specs.declared.meaning.store.ObjectName.{ObjectName}
 use Rattle.sect_json.specs.{Values.{by_place}, Changes.{placed_json, change_of, change_at, change_in, next_change}}
-use Rattle.sect_json.specs.steps.Changing.{first_json, action_in, node_action, standing_action, action_change, came_change, IsNextAction}
+use Rattle.sect_json.specs.steps.Changing.{first_json, action_in, node_action, standing_action}
+use Rattle.sect_json.specs.steps.Changing.{action_change, came_change, IsNextAction}
 use Rattle.sect_emit.specs.declared.graphs.GraphOf.TheVariants as graphed
 use Rattle.sect_types.specs.declared.expansion.action.Action.TheVariants as action
 use Rattle.sect_types.specs.declared.meaning.store.Fault.TheVariants as fault
@@ -113,7 +115,8 @@ module _ (p : ProgramView) (t : ℕ) (s : StoreView) (w : WorkView) where
     pub loads : (x : ℕ) (b : Base) (f : Field) → Unchanged ≡ action_change p t s w (Some (action.Load x b f))
     loads x b f =
         let a = came_by (action.Load x b f) in
-        sym (a.1 ∙ loads_nothing x f.number (found_at s (looked (action.Load x b f) w.locals)) (record w { fuel = a.0 }))
+        let found = found_at s (looked (action.Load x b f) w.locals) in
+        sym (a.1 ∙ loads_nothing x f.number found (record w { fuel = a.0 }))
 
     pub stores : (b : Base) (f : Field) (v : Value) (told : Change) → ((u : WorkView) → told
         ≡ came_change (stored f.number (value_datum w.locals v) (name_in (base_datum w.locals b)) u))

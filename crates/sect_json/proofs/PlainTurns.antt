@@ -1,7 +1,6 @@
 -- The document of turns has no float.
-use Rattle.std.proofs.{Common.{ℕ, List, [], ◌∷◌, codes, map, length, refl}, lemmas.Bool.{or_from}}
+use Rattle.std.proofs.{Common.{ℕ, List, [], ◌∷◌, codes, length, refl}, lemmas.Bool.{or_from}}
 use Rattle.std.specs.{Prelude.{slice_index_or}, List.{range_with_len}}
-use Rattle.serde_json.specs.Data.{null}
 use Rattle.sect_types.specs.{Programs.{ProgramView}, Meaning.{WorkView, local_datum}}
 use Rattle.sect_places.specs.NodeSpans.{NodeSpansView}
 use Rattle.sect_store.specs.Outcomes.{OutcomeView}
@@ -11,7 +10,7 @@ use Rattle.sect_world.specs.declared.standing.Standing.TheVariants.{At, Broken}
 use Rattle.sect_world.specs.declared.event.Deed.{Deed}
 use Rattle.sect_world.specs.declared.event.Deed.TheVariants.{Local, Enter, Take, Begin, Again, Act, Leave}
 use Rattle.sect_world.specs.declared.event.Event.{Event}
-use Rattle.sect_json.specs.{Inspecting.{spans_at}, Changes.{next_change}, Keys.{key_json}}
+use Rattle.sect_json.specs.{Inspecting.{spans_at}, Changes.{next_change}}
 use Rattle.sect_json.specs.Turns.{TurnView, Told, deed_json, event_json, told_json, own_json, events_json, told_of}
 use Rattle.sect_json.specs.Turns.{turn_json, turns_json, local_json, locals_json, place_at}
 use Rattle.sect_json.proofs.{Plain.{IsPlain, ArePlain, plain_map}, PlainKeys.{plain_key}, PlainOutcomes.{plain_outcome}}

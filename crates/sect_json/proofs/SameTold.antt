@@ -1,7 +1,7 @@
--- Two threads or sites of which the same is told are told alike.
+-- Two threads, sites or turns of which the same is told are told alike.
 use Rattle.std.proofs.Common.{◌≡◌, ℕ, List, ap, ◌∙◌}
 use Rattle.serde_json.specs.Data.{Data}
-use Rattle.sect_json.specs.{Inspecting.{ThreadTold, thread_with}, Sites.{SiteTold, site_with}}
+use Rattle.sect_json.specs.{Inspecting.{ThreadTold, thread_with}, Sites.{SiteTold, site_with}, Turns.{Told}}
 
 abbrev threaded : Data → Data → List ℕ → Data → ThreadTold
 threaded a b c d = record { calls = a; locals = b; name = c; nodes = d }
@@ -25,3 +25,16 @@ same_site s t n call fields global place shape =
     ∙ (ap (λ x. site_with (sited t.call t.fields x s.place s.shape) n) global
     ∙ (ap (λ x. site_with (sited t.call t.fields t.global x s.shape) n) place
     ∙ ap (λ x. site_with (sited t.call t.fields t.global t.place x) n) shape)))
+
+abbrev told : Data → Data → Data → Data → List ℕ → List ℕ → Told
+told a b c d e f = record { fields = a; locals = b; next = c; place = d; state = e; text = f }
+
+pub same_told : (s t : Told) → s.fields ≡ t.fields → s.locals ≡ t.locals → s.next ≡ t.next → s.place ≡ t.place
+    → s.state ≡ t.state → s.text ≡ t.text → s ≡ t
+same_told s t fields locals next place state text =
+    ap (λ x. told x s.locals s.next s.place s.state s.text) fields
+    ∙ (ap (λ x. told t.fields x s.next s.place s.state s.text) locals
+    ∙ (ap (λ x. told t.fields t.locals x s.place s.state s.text) next
+    ∙ (ap (λ x. told t.fields t.locals t.next x s.state s.text) place
+    ∙ (ap (λ x. told t.fields t.locals t.next t.place x s.text) state
+    ∙ ap (λ x. told t.fields t.locals t.next t.place t.state x) text))))

@@ -1,21 +1,14 @@
 -- Turns that are told one after another.
 use Rattle.std.proofs.Common.{◌≡◌, ℕ, ◌<◌, List, [], ◌∷◌, ◌++◌, length, map, refl, sym, ap, ◌∙◌, subst, inl, inr}
 use Rattle.std.proofs.{lemmas.Grind.{flat_map-append}, lemmas.List.{append-nil, map-append}}
-use Rattle.std.specs.{Prelude.{Option}, List.{flat_map}}
-use Rattle.serde_json.specs.{Data.{Data}, View.{view}}
-use Rattle.serde_json.specs.declared.value.Value.{Value}
+use Rattle.std.specs.List.{flat_map}
+use Rattle.serde_json.specs.{View.{view}, declared.value.Value.{Value}}
 use Rattle.sect_lemmas.specs.Lists.{Has}
 use Rattle.sect_lemmas.proofs.Membership.{Has-cases}
-use Rattle.sect_types.specs.{Meaning.{WorkView}, declared.meaning.store.End.{End}}
 use Rattle.sect_places.specs.NodeSpans.{NodeSpansView}
-use Rattle.sect_store.specs.Printing.{state_text}
 use Rattle.sect_emit.specs.{Compiled.{CompiledView, program_of}, State.{State, start}}
-use Rattle.sect_world.specs.{declared.event.Event.{Event}, Worlds.{WorldView, Does, first_world}}
-use Rattle.sect_world.specs.{Sights.{end_of, work_of}, Standings.{IsStanding}}
-use Rattle.sect_json.specs.{Changes.{changes_json, next_change}, Values.{list}}
-use Rattle.sect_json.specs.Turns.{TurnView, IsTurnFrom, AreTurns, turn_json, told_of, locals_json, standing_json}
-use Rattle.sect_json.specs.Turns.{place_at, deed_at, end_at}
-use Rattle.sect_json.specs.steps.Turning.{IsTurnOf}
+use Rattle.sect_world.specs.{Standings.{IsStanding}, Worlds.{WorldView, Does, first_world}}
+use Rattle.sect_json.specs.{Turns.{TurnView, IsTurnFrom, AreTurns, turn_json}, steps.Turning.{IsTurnOf}}
 
 -- one turn more
 turns_more : (c : CompiledView) (s between : State) (xs : List TurnView) (x : TurnView) → AreTurns c s xs between
@@ -89,27 +82,3 @@ module _ (c : CompiledView) (source : List ℕ) (v : NodeSpansView) (fuel : ℕ)
           (subst (λ z. IsStanding c z t x.stands) (sym turn.after)
           (subst (λ z. IsStanding z u.state t x.stands) so.compiled turn.stands));
     }
-
--- what is told of a turn, of which this is known
-pub told_same : (c : CompiledView) (source : List ℕ) (v : NodeSpansView) (x : TurnView) (fields : Data) (w : WorkView)
-    (e : Option End)
-    → fields ≡ list (changes_json (program_of c) x.before.store x.thread (work_of x.before x.thread).made
-    (next_change c x.before x.thread))
-    → w ≡ work_of x.after x.thread → e ≡ end_at x.stands (end_of x.after x.thread)
-    → record {
-      fields = fields;
-      locals = locals_json c w x.thread;
-      next = standing_json c source v x.stands;
-      place = place_at source v x.stood;
-      state = state_text e;
-      text = deed_at c x.stood;
-    } ≡ told_of c source v x
-told_same c source v x fields w e same works ends =
-    ap (λ (d : Data). record (told_of c source v x) {
-      fields = d;
-      locals = locals_json c w x.thread;
-      state = state_text e;
-    }) same
-    ∙ (ap (λ (u : WorkView). record (told_of c source v x) { locals = locals_json c u x.thread; state = state_text e })
-    works
-    ∙ ap (λ (o : Option End). record (told_of c source v x) { state = state_text o }) ends)

@@ -7,7 +7,7 @@ use Rattle.sect_types.specs.declared.meaning.store.Datum.{Datum}
 use Rattle.sect_types.specs.Store.{ObjectView, StoreView, object_at, same_datum}
 use Rattle.sect_types.specs.Meaning.{WorkView, Change, Unchanged, Written, Added, Next, On, Off, datum_or_null}
 use Rattle.sect_store.specs.Printing.{object_name, fields_at}
-use Rattle.sect_emit.specs.{Compiled.{CompiledView, program_of}, State.{ThreadState, State}}
+use Rattle.sect_emit.specs.{Compiled.{CompiledView}, State.{ThreadState, State}}
 use Rattle.sect_emit.specs.State.{Position, Outside, Entered, Running, Faulted}
 use Rattle.sect_world.specs.Events.{step_in}
 use Rattle.sect_json.specs.{Values.{by_place, record_of}, Objects.{datum_json}}

@@ -1,5 +1,5 @@
 -- The turns of a schedule, as JSON. `turns_document` cites it.
-use Rattle.std.specs.Prelude.{◌≡◌, ℕ, List, [], ◌∷◌, ◌++◌, Option, Some, codes, length, map, slice_index_or}
+use Rattle.std.specs.Prelude.{◌≡◌, ℕ, List, [], ◌∷◌, Option, Some, codes, length, map, slice_index_or}
 use Rattle.std.specs.List.{range_with_len, flat_map}
 use Rattle.serde_json.specs.Data.{Data, null, string}
 use Rattle.sect_types.specs.{Programs.{ProgramView}, LocalNames.{local_text}, Meaning.{WorkView, local_datum}}
@@ -8,7 +8,6 @@ use Rattle.sect_types.specs.{declared.meaning.store.End.{End}, declared.meaning.
 use Rattle.sect_names.specs.Printing.{local_at}
 use Rattle.sect_places.specs.NodeSpans.{NodeSpansView, AreNodeSpans}
 use Rattle.sect_store.specs.{Outcomes.{OutcomeView}, Printing.{state_text}}
-use Rattle.sect_modes.specs.{declared.mode.Mode.{Mode}, declared.key.Key.{Key}}
 use Rattle.sect_emit.specs.{Compiled.{CompiledView, program_of}, State.{State, start}, Graphed.{graphed_deed}}
 use Rattle.sect_world.specs.declared.event.Deed.{Deed}
 use Rattle.sect_world.specs.declared.event.Deed.TheVariants.{Local, Enter, Take, Begin, Again, Act, Leave}

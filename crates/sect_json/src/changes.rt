@@ -2,8 +2,9 @@
 
 ghost use Rattle.std.specs.Prelude.{◌≡◌, ◌<◌, ℕ, [], ◌∷◌, Some, IfOk, length, map, slice_index_or};
 ghost use Rattle.serde_json.specs.View.{view};
-ghost use Rattle.sect_types.specs.{Meaning.{WorkView, Added, first_datum, fresh, name_in, stored}, Programs.{ProgramView}};
-ghost use Rattle.sect_types.specs.{Sight.{names_of_declared}, Store.{StoreView, object_at, same_datum}};
+ghost use Rattle.sect_types.specs.Meaning.{WorkView, Added, first_datum, fresh, name_in, stored};
+ghost use Rattle.sect_types.specs.{Programs.{ProgramView}, Sight.{names_of_declared}};
+ghost use Rattle.sect_types.specs.Store.{StoreView, object_at, same_datum};
 ghost use Rattle.sect_types.specs.declared.meaning.store.ObjectName.TheVariants.{Made};
 ghost use Rattle.sect_store.specs.Printing.{fields_at};
 ghost use Rattle.sect_emit.specs.{Compiled.{program_of}, Graphed.{IsThere}};
@@ -161,7 +162,8 @@ fn change_by(work: &Work, action: Action) -> Change
 
 /// What a write to a field of what this refers to does.
 fn write_of(to: Datum, number: u16, datum: Datum) -> Change
-    ensures { (p : ProgramView) (w : WorkView) → change_shown p result ≡ came_change (stored number datum (name_in to) w) }
+    ensures { (p : ProgramView) (w : WorkView)
+        → change_shown p result ≡ came_change (stored number datum (name_in to) w) }
 {
     match to {
         Datum::Number(_) => Change::Nothing,

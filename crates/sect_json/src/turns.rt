@@ -1,14 +1,15 @@
 //! The turns of a schedule, as JSON.
 
-ghost use Rattle.std.specs.{Prelude.{◌≡◌, ◌<◌, [], IfOk, IfErr, OnOk, length, map, slice_index_or}, String.{string_bytes}};
+ghost use Rattle.std.specs.Prelude.{◌≡◌, ◌<◌, [], IfOk, IfErr, OnOk, length, map, slice_index_or};
+ghost use Rattle.std.specs.String.{string_bytes};
 ghost use Rattle.serde_json.specs.View.{view};
 ghost use Rattle.sect_front.specs.Front.{IsSpelled};
 ghost use Rattle.sect_store.specs.Printing.{state_text as state_by};
 ghost use Rattle.sect_emit.specs.Compiled.{program_of};
 ghost use Rattle.sect_world.specs.{Schedules.{IsUnrun}, Worlds.{IsRefused}, Standings.{IsStandingThere}};
 ghost use Rattle.sect_json.specs.Turns.{TurnView, turn_json, IsTurnsDocument, local_with, local_json, locals_json};
-ghost use Rattle.sect_json.specs.{Turns.{turns_with, place_at, deed_at, standing_json, end_at as end_by}, steps.Inspected.{IsInspected}};
-ghost use Rattle.sect_json.specs.steps.Turning.{IsTurnOf, IsSchedule, told_shown, told_by};
+ghost use Rattle.sect_json.specs.Turns.{turns_with, place_at, deed_at, standing_json, end_at as end_by};
+ghost use Rattle.sect_json.specs.steps.{Inspected.{IsInspected}, Turning.{IsTurnOf, IsSchedule, told_shown, told_by}};
 
 use crate::changes::changed_values;
 use crate::context::Inspected;
@@ -164,7 +165,7 @@ fn told_of(alloc: Global, of: &Inspected<'_>, turn: Turn<'_>) -> Result<Told, Al
     requires before { IsStandingThere of.now.compiled.now turn.stood }
     requires after { IsStandingThere of.now.compiled.now turn.stands }
     ensures { IfOk result (λ told. told_shown told
-        ≡ told_by of.now.compiled.now of.now.source.now of.now.spans.now turn) }
+        ≡ told_by of.now.compiled.now of.now.source.now of.now.spans.now turn.entry) }
 {
     let Turn {
         thread,

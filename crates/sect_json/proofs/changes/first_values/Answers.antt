@@ -1,4 +1,4 @@
-use Rattle.std.proofs.{Common.{◌≡◌, ◌≤◌, ◌++◌, length, map, sym, ap, ◌∙◌, arith}, lemmas.List.{append-nil, drop_all}}
+use Rattle.std.proofs.{Common.{◌≤◌, ◌++◌, length, map, sym, ap, ◌∙◌, arith}, lemmas.List.{append-nil, drop_all}}
 use Rattle.serde_json.specs.View.{view}
 use Rattle.sect_types.specs.declared.meaning.store.ObjectName.TheVariants.{Made}
 use Rattle.sect_store.specs.Printing.{fields_at}

@@ -1,7 +1,7 @@
-use Rattle.std.proofs.{Common.{◌≡◌, ◌∙◌, [], Some, rules, sym, ap}, lemmas.Option.{get_or_from_slice_get}}
+use Rattle.std.proofs.{Common.{◌≡◌, ◌∙◌, [], rules, sym, ap}, lemmas.Option.{get_or_from_slice_get}}
 use Rattle.std.proofs.lemmas.Result.{IfOk-weaker}
 use Rattle.std.specs.{Prelude.{None, slice_index_or}, String.{string_bytes}}
-use Rattle.sect_types.specs.{LocalNames.{local_text, all_local_names}, Meaning.{local_datum}}
+use Rattle.sect_types.specs.LocalNames.{local_text, all_local_names}
 use Rattle.sect_names.specs.Printing.{local_at}
 use Rattle.sect_json.specs.Turns.{local_with}
 use Rattle.sect_json.proofs.turns.local_value.Goals as goal

@@ -1,5 +1,5 @@
 -- The turns so far are those of a beginning of the schedule.
-use Rattle.std.proofs.Common.{◌≡◌, ◌≤◌, ◌+◌, [], ◌∷◌, take, map, get_or, length, sym, ap, ◌∙◌, subst, arith}
+use Rattle.std.proofs.Common.{◌≤◌, [], ◌∷◌, take, map, get_or, length, sym, ap, ◌∙◌, subst, arith}
 use Rattle.std.proofs.{Common.{length-append}, lemmas.List.{take_all, take_more}}
 use Rattle.serde_json.specs.View.{view}
 use Rattle.sect_types.specs.Programs.{ProgramView}
@@ -66,6 +66,7 @@ returns-clause-answers c =
     let w = c.loop-thread.world in
     let so = subst (λ ts. SoFar of.compiled.now of.source.now of.spans.now c.args.fuel ts w c.loop-thread.turns.items)
     (take_all c.loop-thread.thread-index schedule c.loop-thread-test.false) c.loop-thread.invariant.so in
+    let at_end = outcome_at w.state (leavers so.turns) in
     let program = c.in_ok-printer.ensures ∙ (c.program.ensures ∙ ap (λ (s : SchemeView). s.program) c.scheme.ensures) in
     let come = c.finish-run.ensures.outcome
     ∙ ap (outcome_at w.state) (c.facts.ensures.order ∙ ap order_of so.trace) in
@@ -79,5 +80,5 @@ returns-clause-answers c =
       lead = so.lead;
       told = c.in_ok-told_schedule.ensures
           ∙ (ap (λ o. turns_with o (map view c.loop-thread.turns.items)) outcome
-          ∙ ap (turns_with (outcome_json (program_of of.compiled.now) (outcome_at w.state (leavers so.turns)))) so.told);
+          ∙ ap (turns_with (outcome_json (program_of of.compiled.now) at_end)) so.told);
     }

@@ -2,16 +2,17 @@
 use Rattle.std.proofs.Common.{◌≡◌, ◌<◌, ◌++◌, List, length, map, drop, refl, sym, ap, ◌∙◌, subst, arith}
 use Rattle.std.proofs.Math.Seq.{drop-append_seam}
 use Rattle.serde_json.specs.View.{view}
-use Rattle.serde_json.proofs.Views.{view-Array}
-use Rattle.sect_types.specs.Programs.{ProgramView}
+use Rattle.sect_types.specs.{Programs.{ProgramView}, Meaning.{WorkView}}
 use Rattle.sect_names.specs.Schemes.{SchemeView}
+use Rattle.sect_store.specs.Printing.{state_text}
 use Rattle.sect_emit.specs.Compiled.{CompiledView, program_of}
 use Rattle.sect_world.specs.{declared.event.Event.{Event}, Sights.{work_of}}
 use Rattle.sect_world.specs.Standings.{IsStanding, IsStandingThere}
 use Rattle.sect_json.specs.{Changes.{changes_json, next_change}, Values.{list}}
-use Rattle.sect_json.specs.Turns.{TurnView, Told, events_json, told_of, end_at}
+use Rattle.sect_json.specs.Turns.{TurnView, Told, events_json, told_of, locals_json, standing_json}
+use Rattle.sect_json.specs.Turns.{place_at, deed_at, end_at}
 use Rattle.sect_json.specs.steps.Turning.{told_shown}
-use Rattle.sect_json.proofs.Scheduled.{told_same}
+use Rattle.sect_json.proofs.SameTold.{same_told}
 use Rattle.sect_json.proofs.turns.told_turn.Goals as goal
 
 pub changed_values-requires-clause-printer : goal.changed_values-requires-clause-printer
@@ -67,8 +68,8 @@ told_of-requires-clause-after c =
     subst (λ z. IsStandingThere z c.standing-stands.result) (c.in-Ok.ensures.ok.compiled ∙ c.requires.compiled)
     c.standing-stands.ensures.there
 
-pub returns-in-Ok-clause-told : goal.returns-in-Ok-clause-told
-returns-in-Ok-clause-told c =
+pub returns-in_ok-turn_value-in-Ok-clause-told : goal.returns-in_ok-turn_value-in-Ok-clause-told
+returns-in_ok-turn_value-in-Ok-clause-told c =
     let of = c.args.of.now in
     let t = c.args.thread in
     let old = c.args.world.now in
@@ -96,8 +97,17 @@ returns-in-Ok-clause-told c =
     c.in_ok-fields.ensures) in
     let ends = c.end_at.ensures ∙ ap (end_at stands) c.end_of.ensures in
     let shown = told_shown c.in_ok-told-in-Ok.told in
-    let told = c.in_ok-told-in-Ok.ensures ∙ told_same of.compiled.now of.source.now of.spans.now x
-    (list (map view c.in_ok-fields.fields.items)) c.work.result.now c.end_at.result fields c.work.ensures ends in (
+    let by : Told = record {
+      fields = list (map view c.in_ok-fields.fields.items);
+      locals = locals_json of.compiled.now c.work.result.now t;
+      next = standing_json of.compiled.now of.source.now of.spans.now stands;
+      place = place_at of.source.now of.spans.now stood;
+      state = state_text c.end_at.result;
+      text = deed_at of.compiled.now stood;
+    } in
+    let told = c.in_ok-told-in-Ok.ensures
+    ∙ same_told by (told_of of.compiled.now of.source.now of.spans.now x) fields
+    (ap (λ (w : WorkView). locals_json of.compiled.now w t) c.work.ensures) refl refl (ap state_text ends) refl in (
       x,
       record {
         compiled = ok.compiled;

@@ -1,6 +1,5 @@
-use Rattle.std.proofs.Common.{List, ◌≡◌, ℕ, length, sym, ap, subst, ◌∙◌}
-use Rattle.std.specs.String.{string_bytes}
-use Rattle.serde_json.specs.{View.{view}, Written.{has_float}}
+use Rattle.std.proofs.Common.{ℕ, List, sym, ap, subst, ◌∙◌}
+use Rattle.serde_json.specs.Written.{has_float}
 use Rattle.sect_front.specs.Front.{IsSpelled}
 use Rattle.sect_types.specs.Programs.{ProgramView}
 use Rattle.sect_names.specs.Schemes.{SchemeView}

@@ -67,10 +67,10 @@ fn turns_printed(
     wanted: Wanted<'_>,
 ) -> Result<String, WorldFault>
     requires { IsSpelled source.now (program_of compiled.now).source }
-    ensures answers { IfOk result (λ text. AreTurnsOf wanted.format source.now compiled.now wanted.fuel
-        wanted.threads.now (string_bytes text)) }
+    ensures answers { IfOk result (λ text. AreTurnsOf wanted.entry.format source.now compiled.now
+        wanted.entry.fuel wanted.entry.threads.now (string_bytes text)) }
     ensures refuses { IfErr result (λ why.
-        IsUnrun why wanted.threads.now (length compiled.now.scheme.program.texts)) }
+        IsUnrun why wanted.entry.threads.now (length compiled.now.scheme.program.texts)) }
 {
     match wanted.format {
         Format::Text => turn_lines(alloc, compiled, wanted.fuel, wanted.threads),

@@ -1,5 +1,5 @@
 -- What is reported of a text that is refused.
-use Rattle.std.specs.{Prelude.{◌≡◌, ◌⊎◌, ◌<◌, ℕ, Some, List, ◌++◌, length, map, codes}, Fmt.{decimal}}
+use Rattle.std.specs.{Prelude.{◌≡◌, ◌⊎◌, ◌<◌, ◌≤◌, ℕ, Some, List, ◌++◌, length, map, codes}, Fmt.{decimal}}
 use Rattle.sect_front.specs.{Front.{line_of}, FaultPlaces.{IsWithin, token_span}, TreeView.{TreeView}}
 use Rattle.sect_front.specs.declared.span.Span.{Span}
 use Rattle.sect_places.specs.{NameSpans.{AreNameSpans}, declared.name_use.NameSpan.{NameSpan}}
@@ -38,9 +38,9 @@ abbrev pub IsJudged : List ℕ → ℕ → Judgment → Type 0
 IsJudged source k (judgment.Accepted s) = IsAccepted source k s
 IsJudged source k (judgment.Refused d) = IsRefusedFor source k d
 
--- memory ran out, or no path may have so many fields
+-- memory ran out where a path may have so many fields, or none may
 abbrev pub IsNotJudged : ℕ → SourceRefusal → Type 0
-IsNotJudged k why = (why ≡ refusal.Memory) ⊎ ((why ≡ refusal.Scheme scheme.BadK) × (3 < k))
+IsNotJudged k why = ((why ≡ refusal.Memory) × (k ≤ 3)) ⊎ ((why ≡ refusal.Scheme scheme.BadK) × (3 < k))
 
 -- the number and the title of a mistake
 unfoldable pub heading : Mistake → List ℕ

@@ -1,6 +1,6 @@
 //! Whether a source text is refused, for which mistake, and where that stands.
 
-ghost use Rattle.std.specs.Prelude.{◌≡◌, ◌≢◌, ◌≤◌, ◌<◌, ℕ, true, Err, Some, IfOk, IfErr, MatchOption, length};
+ghost use Rattle.std.specs.Prelude.{◌≡◌, ◌≢◌, ◌≤◌, ◌<◌, ℕ, true, Err, Some, IfOk, IfErr, MatchOption, OnOk, length};
 ghost use Rattle.sect_front.specs.Front.{IsSpelled};
 ghost use Rattle.sect_front.specs.{FaultPlaces.{IsFaultSpan, IsWithin, AreKindsFor}, LongGaps.{AreGaps}};
 ghost use Rattle.sect_types.specs.Items.{items};
@@ -272,6 +272,8 @@ fn hints_diagnostic(
 pub fn lint(alloc: Global, source: &[u8], k: u16) -> Result<Judgment, SourceRefusal>
     // The text is accepted with the scheme, or the mistake is that for which it is refused.
     ensures judged { IfOk result (IsJudged source.now k) }
+    // A text is judged only where a path may have so many fields.
+    ensures within { OnOk result (k ≤ 3) }
     // Nothing else is answered but that no path may have so many fields.
     ensures fails { IfErr result (IsNotJudged k) }
 {

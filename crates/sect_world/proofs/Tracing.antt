@@ -1,10 +1,13 @@
 -- Events that are kept apart from what they take.
 use Rattle.std.proofs.Common.{◌≡◌, ◌≤◌, ◌+◌, ◌-◌, ◌++◌, ◌∷◌, ℕ, zero, suc, List, [], drop, take, length, refl, sym, ◌∙◌, ap}
-use Rattle.std.proofs.Common.{arith}
-use Rattle.std.proofs.lemmas.List.{drop-append-le, drop-drop, length-drop}
+use Rattle.std.proofs.Common.{arith, cond}
+use Rattle.std.specs.Prelude.{count_by}
+use Rattle.std.proofs.lemmas.{List.{drop-append-le, drop-drop, length-drop}, List.Sums.{sum_by-cons}}
 use Rattle.sect_modes.specs.declared.key.Key.{Key}
-use Rattle.sect_world.specs.{declared.event.Deed.{Deed}, declared.trace.Noted.{Noted}, declared.trace.Note.{Note}}
-use Rattle.sect_world.specs.steps.Tracing.{noted_of, taken_by, count_of, count_in, deed_of, events_of}
+use Rattle.sect_world.specs.{declared.event.Deed.{Deed}, declared.event.Event.{Event}}
+use Rattle.sect_world.specs.{declared.trace.Noted.{Noted}, declared.trace.Note.{Note}}
+use Rattle.sect_world.specs.steps.Tracing.{noted_of, taken_by, count_of, count_in, deed_of, events_of, notes_again}
+use Rattle.sect_world.specs.Traces.{is_again, agains_in}
 use Rattle.sect_world.specs.declared.event.Deed.TheVariants as deed
 use Rattle.sect_world.specs.declared.trace.Noted.TheVariants as noted
 
@@ -113,3 +116,24 @@ last_events n ss last ks taken many few whole notes all theirs keys = (
 
   first : many - few ≡ count_in (take n ss)
   first = omega (arith, whole, parts, all, theirs, behind)
+
+again_noted : (k : Noted) (ks : List Key) → is_again (deed_of k ks) ≡ notes_again k
+again_noted noted.Local ks = refl
+again_noted noted.Enter ks = refl
+again_noted (noted.Take m) [] = refl
+again_noted (noted.Take m) (k ∷ ks) = refl
+again_noted noted.Begin ks = refl
+again_noted noted.Again ks = refl
+again_noted noted.Act ks = refl
+again_noted noted.Leave ks = refl
+
+-- an `again` is noted as such
+pub agains_noted : (ss : List Note) (ks : List Key)
+    → count_by (λ (n : Note). notes_again n.what) ss ≡ agains_in (events_of ss ks)
+agains_noted [] ks = refl
+agains_noted (s ∷ ss) ks =
+    sum_by-cons (λ (n : Note). cond (notes_again n.what) 1 0) s ss
+    ∙ (ap (λ n. cond (notes_again s.what) 1 0 + n) (agains_noted ss (drop (count_of s.what) ks))
+    ∙ (ap (λ b. cond b 1 0 + agains_in (events_of ss (drop (count_of s.what) ks))) (sym (again_noted s.what ks))
+    ∙ sym (sum_by-cons (λ (e : Event). cond (is_again e.deed) 1 0)
+    (record { thread = s.thread; deed = deed_of s.what ks }) (events_of ss (drop (count_of s.what) ks)))))

@@ -1,8 +1,9 @@
 //! The events of a run, in few bytes.
 
 ghost use Rattle.std.specs.Prelude.{◌≡◌, ◌≤◌, ◌<◌, ◌+◌, ◌++◌, ◌∷◌, [], length, drop, vec_len, vec_capacity, IfOk, OnOk};
-ghost use Rattle.std.specs.Prelude.{replicate};
+ghost use Rattle.std.specs.Prelude.{replicate, count_by};
 ghost use Rattle.sect_world.specs.steps.Tracing.{noted_of, taken_by, count_of, count_in, deed_of, events_of};
+ghost use Rattle.sect_world.specs.{steps.Tracing.{notes_again}, Traces.{agains_in}, declared.trace.Note.{Note as ANote}};
 
 use crate::event::{Deed, Event};
 use sect_modes::{Key, Mode};
@@ -72,6 +73,13 @@ impl Trace {
         ensures { result ≡ length self.now.items }
     {
         self.notes.len()
+    }
+
+    /// How many of the events are an `again`.
+    pub fn agains(&self) -> usize
+        ensures { result ≡ agains_in self.now.items }
+    {
+        agains_among(self.notes.as_slice())
     }
 
     /// Where the events' memory comes from.
@@ -177,6 +185,28 @@ fn keys_in(notes: &[Note]) -> usize
         count += keys_of(note.what);
     }
     count
+}
+
+/// Whether an `again` is noted so.
+fn notes_again(what: Noted) -> bool
+    ensures { result ≡ notes_again what }
+{
+    match what {
+        Noted::Again => true,
+        Noted::Take(_) => false,
+        Noted::Local => false,
+        Noted::Enter => false,
+        Noted::Begin => false,
+        Noted::Act => false,
+        Noted::Leave => false,
+    }
+}
+
+/// How many of these are an `again`.
+fn agains_among(notes: &[Note]) -> usize
+    ensures { result ≡ count_by (λ (n : ANote). notes_again n.what) notes.now }
+{
+    notes.iter().filter(|note| notes_again(note.what)).count()
 }
 
 /// The deed that is noted so, which takes the key at this place if it takes one.

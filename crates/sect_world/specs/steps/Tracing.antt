@@ -1,5 +1,5 @@
 -- How a trace keeps events: of each all but the key that it takes, and the keys aside. `Trace` cites it.
-use Rattle.std.specs.Prelude.{◌+◌, ℕ, List, [], ◌∷◌, drop}
+use Rattle.std.specs.Prelude.{◌+◌, ℕ, Bool, true, false, List, [], ◌∷◌, drop}
 use Rattle.sect_modes.specs.declared.key.Key.{Key}
 use Rattle.sect_world.specs.{declared.event.Deed.{Deed}, declared.event.Event.{Event}}
 use Rattle.sect_world.specs.{declared.trace.Note.{Note}, declared.trace.Noted.{Noted}}
@@ -57,3 +57,12 @@ abbrev pub events_of : List Note → List Key → List Event
 events_of [] ks = []
 events_of (n ∷ ns) ks =
     record { thread = n.thread; deed = deed_of n.what ks } ∷ events_of ns (drop (count_of n.what) ks)
+
+abbrev pub notes_again : Noted → Bool
+notes_again noted.Local = false
+notes_again noted.Enter = false
+notes_again (noted.Take m) = false
+notes_again noted.Begin = false
+notes_again noted.Again = true
+notes_again noted.Act = false
+notes_again noted.Leave = false

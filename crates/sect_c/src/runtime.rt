@@ -98,10 +98,10 @@ static void *sect_grown(void *list, size_t count, size_t *room, size_t size) {
 /* ---- keys: one compare-and-swap takes one; who can't have it lets others run, and then waits in a bucket ---- */
 
 #ifndef SECT_PAUSES
-#define SECT_PAUSES 10
+#define SECT_PAUSES 2
 #endif
 #ifndef SECT_YIELDS
-#define SECT_YIELDS 100
+#define SECT_YIELDS 20
 #endif
 #define SECT_BUCKETS 64
 
@@ -114,7 +114,7 @@ static struct sect_bucket *sect_bucket_of(const struct sect_key *key) {
   return &sect_buckets[((uintptr_t)key / 64 * UINT64_C(0x9e3779b97f4a7c15) >> 32) % SECT_BUCKETS];
 }
 
-static int sect_try(struct sect_key *key, enum sect_mode mode) {
+static inline int sect_try(struct sect_key *key, enum sect_mode mode) {
   uint64_t word = atomic_load_explicit(&key->word, memory_order_relaxed);
   while (!(word & sect_against[mode]))
     if (atomic_compare_exchange_weak_explicit(&key->word, &word, word + sect_unit[mode], memory_order_acquire,
@@ -123,12 +123,16 @@ static int sect_try(struct sect_key *key, enum sect_mode mode) {
   return 0;
 }
 
+/* Lets others run, longer each round: whoever looks at a key all the time takes its cache line from the holder. */
 static void sect_pause(unsigned round) {
 #if defined(__GNUC__) && (defined(__x86_64__) || defined(__i386__))
-  if (round < SECT_PAUSES) { __builtin_ia32_pause(); return; }
+  if (round < SECT_PAUSES) {
+    for (unsigned i = 0; i < 2u << round; i++) __builtin_ia32_pause();
+    return;
+  }
 #endif
-  (void)round;
-  sched_yield();
+  unsigned yields = round < SECT_PAUSES ? 1 : round < SECT_PAUSES + 4 ? 1u << (round - SECT_PAUSES) : 16;
+  for (unsigned i = 0; i < yields; i++) sched_yield();
 }
 
 /* Waits until somebody who gave the key back rouses this thread, unless the key may be taken by now. */
@@ -177,13 +181,19 @@ static void sect_rouse(struct sect_key *key) {
   pthread_mutex_unlock(&bucket->mutex);
 }
 
-static void sect_take_key(struct sect_thread *me, struct sect_key *key, enum sect_mode mode) {
-  for (unsigned round = 0; !sect_try(key, mode); round++) {
-    if (round < SECT_PAUSES + SECT_YIELDS) sect_pause(round); else sect_wait(me, key, mode);
-  }
+/* Takes a key that couldn't be had at once. */
+static void sect_await(struct sect_thread *me, struct sect_key *key, enum sect_mode mode) {
+  unsigned round = 0;
+  do {
+    if (round < SECT_PAUSES + SECT_YIELDS) sect_pause(round++); else sect_wait(me, key, mode);
+  } while (!sect_try(key, mode));
 }
 
-static void sect_give_key(struct sect_key *key, enum sect_mode mode) {
+static inline void sect_take_key(struct sect_thread *me, struct sect_key *key, enum sect_mode mode) {
+  if (!sect_try(key, mode)) sect_await(me, key, mode);
+}
+
+static inline void sect_give_key(struct sect_key *key, enum sect_mode mode) {
   if (atomic_fetch_sub_explicit(&key->word, sect_unit[mode], memory_order_release) & SECT_WAITED) sect_rouse(key);
 }
 
@@ -194,16 +204,21 @@ static void sect_give_key(struct sect_key *key, enum sect_mode mode) {
 #define SECT_GET(field) atomic_load_explicit(field, memory_order_relaxed)
 #define SECT_PUT(field, value) atomic_store_explicit(field, value, memory_order_release)
 
-static void sect_plan(struct sect_thread *me, const struct sect_grip *plan) {
-  for (me->count = 0; plan->key != NULL; plan++) {
+/* Wants the keys of a table. Nothing is wanted before. */
+static void sect_want_wholes(struct sect_thread *me, const struct sect_grip *plan) {
+  for (; plan->key != NULL; plan++) {
     me->grips = sect_grown(me->grips, me->count, &me->room, sizeof *me->grips);
     me->grips[me->count++] = *plan;
   }
   me->wholes = me->count;
 }
 
+static inline void sect_plan(struct sect_thread *me, const struct sect_grip *plan) {
+  if (plan->key != NULL) sect_want_wholes(me, plan);
+}
+
 /* Wants an object too. Numbers keep ascending, and what is wanted for reading and for writing is wanted for writing. */
-static void sect_want(struct sect_thread *me, struct sect_object *object, enum sect_mode mode) {
+static void sect_want_among(struct sect_thread *me, struct sect_object *object, enum sect_mode mode) {
   size_t place = me->count;
   while (place > me->wholes && me->grips[place - 1].number > object->number) place--;
   if (place > me->wholes && me->grips[place - 1].key == &object->key) {
@@ -215,8 +230,20 @@ static void sect_want(struct sect_thread *me, struct sect_object *object, enum s
   me->grips[place] = (struct sect_grip){ &object->key, mode, object->number };
 }
 
-static void sect_take(struct sect_thread *me) {
+static inline void sect_want(struct sect_thread *me, struct sect_object *object, enum sect_mode mode) {
+  if (me->count == me->wholes && me->count < me->room)
+    me->grips[me->count++] = (struct sect_grip){ &object->key, mode, object->number };
+  else
+    sect_want_among(me, object, mode);
+}
+
+static void sect_take_all(struct sect_thread *me) {
   for (size_t i = 0; i < me->count; i++) sect_take_key(me, me->grips[i].key, me->grips[i].mode);
+}
+
+/* Many sections have one key. */
+static inline void sect_take(struct sect_thread *me) {
+  if (me->count == 1) sect_take_key(me, me->grips[0].key, me->grips[0].mode); else sect_take_all(me);
 }
 
 static int sect_holds(const struct sect_thread *me, struct sect_object *object, enum sect_mode mode) {
@@ -225,8 +252,12 @@ static int sect_holds(const struct sect_thread *me, struct sect_object *object, 
   return 0;
 }
 
-static void sect_give(struct sect_thread *me) {
+static void sect_give_all(struct sect_thread *me) {
   for (size_t i = me->count; i > 0; i--) sect_give_key(me->grips[i - 1].key, me->grips[i - 1].mode);
+}
+
+static inline void sect_give(struct sect_thread *me) {
+  if (me->count == 1) sect_give_key(me->grips[0].key, me->grips[0].mode); else sect_give_all(me);
   me->count = me->wholes = 0;
 }
 

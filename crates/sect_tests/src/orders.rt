@@ -97,6 +97,30 @@ fn orders_come_to_outcomes(rt: HostRuntime) -> Result<(), Fail> {
     Ok(())
 }
 
+/// More fuel shows the same, as `sect_free::fuel_only_helps` says where no thread has ended for want of it.
+fn shows_with_more(
+    rt: &(impl Abort + AllocGlobal),
+    source: &str,
+    order: &[u16],
+    wanted: &str,
+) -> Result<(), Fail> {
+    for fuel in [200, 10000] {
+        shows(rt, (source, fuel, order), wanted)?;
+    }
+    Ok(())
+}
+
+#[test]
+fn more_fuel_changes_no_outcome(rt: HostRuntime) -> Result<(), Fail> {
+    sect_free::fuel_only_helps();
+    for (source, _, order, wanted) in ORDERS {
+        if *source != ENDLESS {
+            shows_with_more(&rt, source, order, wanted)?;
+        }
+    }
+    shows_with_more(&rt, ENDLESS, &[], "thread 0 fuel\norder none\n")
+}
+
 /// The end of the run in which one thread has pushed a node that the other then found.
 fn is_pushed(rt: &impl Abort, end: &SerialEnd) -> Result<(), Fail> {
     assert_eq!(rt; end.ends(), [End::Done, End::Done].as_slice());

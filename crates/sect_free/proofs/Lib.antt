@@ -1,0 +1,3 @@
+mod MoreSteps
+mod MoreSections
+mod Freely

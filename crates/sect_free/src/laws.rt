@@ -1,0 +1,20 @@
+//! Laws of runs in which no thread wants for fuel, proved. The functions have empty bodies.
+
+ghost use Rattle.sect_free.specs.Freely.{FuelOnlyHelps, FreeEndsAreOne, FoundAreFree, FreeAreFound};
+
+/// What whole sections in an order come to with no want of fuel, they come to with more fuel.
+pub fn fuel_only_helps()
+    ensures { FuelOnlyHelps }
+{}
+
+/// With no want of fuel an order comes to one end, however much fuel there is.
+pub fn free_ends_are_one()
+    ensures { FreeEndsAreOne }
+{}
+
+/// The ends that orders come to with no want of fuel are those of all outcomes, over all fuels: each is there with
+/// enough fuel, and with all that is more.
+pub fn free_ends_are_outcomes()
+    ensures found { FoundAreFree }
+    ensures free { FreeAreFound }
+{}

@@ -1,5 +1,5 @@
 -- What the commands `lint` and `inspect` answer to a source text. `findings` and `inspection` cite it.
-use Rattle.std.specs.{Prelude.{◌≡◌, ◌<◌, ℕ, List, ⊤}, String.{string_bytes}}
+use Rattle.std.specs.{Prelude.{◌≡◌, ◌<◌, ℕ, List, Option, ⊤}, String.{string_bytes}}
 use Rattle.sect_lint.specs.{declared.diagnostic.Diagnostic.{Diagnostic}, declared.format.LintFormat.{LintFormat}}
 use Rattle.sect_lint.specs.{Formats.{report_as}, Reports.{IsRefusedFor}}
 use Rattle.sect_emit.specs.Compiled.{CompiledView, IsCompiledFrom}
@@ -10,11 +10,12 @@ use Rattle.sect_names.specs.declared.fault.SchemeFault.TheVariants as scheme
 use Rattle.sect_names.specs.declared.refusal.SourceRefusal.TheVariants as source_refusal
 use Rattle.sect_answers.specs.declared.refusal.Refusal.TheVariants as refusal
 
--- the text is accepted, and the bytes are the warnings that are due of its compiled program
-pub record IsUnblamed (source : List ℕ) (k : ℕ) (format : LintFormat) (bytes : List ℕ) : Type 0 where
+-- the text of this file is accepted, and the bytes are the warnings that are due of its compiled program
+pub record IsUnblamed (file : Option (List ℕ)) (source : List ℕ) (k : ℕ) (format : LintFormat) (bytes : List ℕ)
+    : Type 0 where
   pub compiled : CompiledView
   pub from : IsCompiledFrom source k compiled
-  pub warned : AreWarningsPrinted source compiled format bytes
+  pub warned : AreWarningsPrinted file source compiled format bytes
 
 -- the text is accepted, and the bytes are the document of its compiled program
 pub record IsInspection (source : List ℕ) (k : ℕ) (bytes : List ℕ) : Type 0 where
@@ -22,14 +23,14 @@ pub record IsInspection (source : List ℕ) (k : ℕ) (bytes : List ℕ) : Type 
   pub from : IsCompiledFrom source k compiled
   pub told : IsInspectionDocument source compiled bytes
 
--- the bytes are the report of the mistake for which the text is refused
-abbrev pub IsReported : List ℕ → ℕ → LintFormat → List ℕ → Type 0
-IsReported source k format bytes =
-    (d : Diagnostic) × IsRefusedFor source k d × (bytes ≡ report_as format source d)
+-- the bytes are the report of the mistake for which the text of this file is refused
+abbrev pub IsReported : Option (List ℕ) → List ℕ → ℕ → LintFormat → List ℕ → Type 0
+IsReported file source k format bytes =
+    (d : Diagnostic) × IsRefusedFor source k d × (bytes ≡ report_as format file source d)
 
 -- the refusal is due: the report of the text, or that no path may have so many fields
-abbrev pub IsLintDue : List ℕ → ℕ → LintFormat → Refusal → Type 0
-IsLintDue source k format refusal.Memory = ⊤
-IsLintDue source k format (refusal.Report text) = IsReported source k format (string_bytes text)
-IsLintDue source k format (refusal.Source why) = (why ≡ source_refusal.Scheme scheme.BadK) × (3 < k)
-IsLintDue source k format _ = ⊥
+abbrev pub IsLintDue : Option (List ℕ) → List ℕ → ℕ → LintFormat → Refusal → Type 0
+IsLintDue file source k format refusal.Memory = ⊤
+IsLintDue file source k format (refusal.Report text) = IsReported file source k format (string_bytes text)
+IsLintDue file source k format (refusal.Source why) = (why ≡ source_refusal.Scheme scheme.BadK) × (3 < k)
+IsLintDue file source k format _ = ⊥

@@ -1,6 +1,6 @@
 //! The commands `lint` and `inspect`.
 
-ghost use Rattle.std.specs.{Prelude.{IfOk, IfErr}, String.{string_bytes}};
+ghost use Rattle.std.specs.{Prelude.{None, IfOk, IfErr, option_map}, String.{string_bytes}};
 ghost use Rattle.sect_emit.specs.Compiled.{IsCompiledFrom};
 ghost use Rattle.sect_lint.specs.declared.format.LintFormat.TheVariants.{Json};
 ghost use Rattle.sect_answers.specs.Findings.{IsUnblamed, IsInspection, IsLintDue};
@@ -12,16 +12,23 @@ use sect_lint::{Judgment, LintFormat, lint, report_as};
 use sect_warnings::warnings_as;
 use std::alloc::Global;
 
-/// The warnings of a source text that is accepted, in this form. A text that is refused is reported on, by a refusal.
-/// How many fields a path may have is judged before the source.
-pub fn findings(alloc: Global, source: &[u8], k: u16, format: LintFormat) -> Result<String, Refusal>
+/// The warnings of the source text of this file, where it is accepted, in this form. A text that is refused is reported
+/// on, by a refusal. How many fields a path may have is judged before the source. A text on standard input has no file.
+pub fn findings(
+    alloc: Global,
+    file: Option<&str>,
+    source: &[u8],
+    k: u16,
+    format: LintFormat,
+) -> Result<String, Refusal>
     // The text is accepted, and the warnings are those that are due.
-    ensures answers { IfOk result (λ text. IsUnblamed source.now k format (string_bytes text)) }
+    ensures answers { IfOk result (λ text. IsUnblamed (option_map (λ name. name.now) file.entry) source.now k format
+        (string_bytes text)) }
     // The report is of the mistake for which the text is refused.
-    ensures refuses { IfErr result (IsLintDue source.now k format) }
+    ensures refuses { IfErr result (IsLintDue (option_map (λ name. name.now) file.entry) source.now k format) }
 {
-    let compiled = compiled_or_report(alloc, source, k, format)?;
-    Ok(warnings_as(alloc, source, &compiled, format)?)
+    let compiled = compiled_or_report(alloc, file, source, k, format)?;
+    Ok(warnings_as(alloc, file, source, &compiled, format)?)
 }
 
 /// What is known of a source text that is accepted, as a document. A text that is refused is reported on as by
@@ -30,21 +37,22 @@ pub fn inspection(alloc: Global, source: &[u8], k: u16) -> Result<Vec<u8>, Refus
     // The text is accepted, and this is the document of its compiled program.
     ensures answers { IfOk result (λ text. IsInspection source.now k text.items) }
     // The report is of the mistake for which the text is refused.
-    ensures refuses { IfErr result (IsLintDue source.now k Json) }
+    ensures refuses { IfErr result (IsLintDue None source.now k Json) }
 {
-    let compiled = compiled_or_report(alloc, source, k, LintFormat::Json)?;
+    let compiled = compiled_or_report(alloc, None, source, k, LintFormat::Json)?;
     Ok(inspection_document(alloc, source, &compiled)?)
 }
 
-/// The compiled program of a source text, or the report on the mistake for which it is refused.
+/// The compiled program of the source text of this file, or the report on the mistake for which it is refused.
 fn compiled_or_report(
     alloc: Global,
+    file: Option<&str>,
     source: &[u8],
     k: u16,
     format: LintFormat,
 ) -> Result<Compiled, Refusal>
     ensures answers { IfOk result (IsCompiledFrom source.now k) }
-    ensures refuses { IfErr result (IsLintDue source.now k format) }
+    ensures refuses { IfErr result (IsLintDue (option_map (λ name. name.now) file.entry) source.now k format) }
 {
     match lint(alloc, source, k)? {
         Judgment::Accepted(scheme) => {
@@ -52,7 +60,7 @@ fn compiled_or_report(
             Ok(compiled)
         }
         Judgment::Refused(diagnostic) => {
-            let report = report_as(alloc, source, &diagnostic, format)?;
+            let report = report_as(alloc, file, source, &diagnostic, format)?;
             Err(Refusal::Report(report))
         }
     }

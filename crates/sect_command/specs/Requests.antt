@@ -1,6 +1,6 @@
 -- What a request is answered of a source text.
-use Rattle.std.specs.Prelude.{◌≡◌, ◌≢◌, ◌⊎◌, ◌++◌, ℕ, Bool, true, false, not, List, [], codes}
-use Rattle.std.specs.Str.{bytes_eq}
+use Rattle.std.specs.Prelude.{◌≡◌, ◌≢◌, ◌⊎◌, ◌++◌, ℕ, Bool, true, false, not, if◌then◌else◌, List, [], codes}
+use Rattle.std.specs.{Prelude.{Option, Some, None}, Str.{bytes_eq}}
 use Rattle.sect_infer.specs.Workers.{AreOffered}
 use Rattle.sect_answers.specs.{Answers.{IsAnswer, IsDue}, Charting.{IsCharted}, Checking.{IsValidInput, IsCheckDue}}
 use Rattle.sect_answers.specs.Compiling.{IsCertified, IsProgramListing, IsProgramDocument, IsCompileDue}
@@ -26,49 +26,53 @@ threads_of (Schedule k fuel schedule format) = schedule.items
 threads_of (Chart k fuel schedule) = schedule.items
 threads_of request = []
 
--- the bytes are what is requested of the source
-abbrev pub Answers : Request → List ℕ → List ℕ → Type 0
-Answers (Locks k format) source bytes = IsAnswer source k format bytes
-Answers (Compile k workers Listing) source bytes = AreOffered workers × IsProgramListing source k bytes
-Answers (Compile k workers Document) source bytes = AreOffered workers × IsProgramDocument source k bytes
-Answers (Compile k workers Certificate) source bytes = AreOffered workers × IsCertified source k bytes
-Answers (C k) source bytes = IsProgramInC source k bytes
-Answers (Explain k format) source bytes = IsProgramExplanation source k format bytes
-Answers (Conflicts k format) source bytes = AreProgramConflicts source k format bytes
-Answers (Serial fuel order format) source bytes = IsOutcome source fuel order.items format bytes
-Answers (Outcomes fuel most format) source bytes = AreAllOutcomes source fuel most format bytes
-Answers (Schedule k fuel schedule format) source bytes = IsScheduled source k fuel schedule.items format bytes
-Answers (Chart k fuel schedule) source bytes = IsCharted source k fuel schedule.items bytes
-Answers (Run k fuel format) source bytes = IsOutcomeOfRun source k fuel format bytes
-Answers (Graph k section) source bytes = IsProgramGraph source k section bytes
-Answers (Lint k format) source bytes = IsUnblamed source k format bytes
-Answers (Inspect k) source bytes = IsInspection source k bytes
-Answers (Check k) source bytes = IsValidInput source k × (bytes ≡ codes "valid\n")
+-- the name that stands for standard input
+abbrev pub input_name : List ℕ
+input_name = codes "-"
 
--- the refusal is due where this is requested of the source
-abbrev pub IsRefusalDue : Request → List ℕ → Refusal → Type 0
-IsRefusalDue (Locks k format) source = IsDue source k
-IsRefusalDue (Compile k workers form) source = IsCompileDue source k workers
-IsRefusalDue (C k) source = IsDue source k
-IsRefusalDue (Explain k format) source = IsDue source k
-IsRefusalDue (Conflicts k format) source = IsDue source k
-IsRefusalDue (Serial fuel order format) source = IsSerialDue source fuel order.items
-IsRefusalDue (Outcomes fuel most format) source = IsOutcomesDue source fuel most
-IsRefusalDue (Schedule k fuel schedule format) source = IsScheduleDue source k schedule.items
-IsRefusalDue (Chart k fuel schedule) source = IsScheduleDue source k schedule.items
-IsRefusalDue (Run k fuel format) source = IsDue source k
-IsRefusalDue (Graph k section) source = IsGraphDue source k section
-IsRefusalDue (Lint k format) source = IsLintDue source k format
-IsRefusalDue (Inspect k) source = IsLintDue source k Json
-IsRefusalDue (Check k) source = IsCheckDue source k
+-- the file of the text of a name
+abbrev pub file_of : List ℕ → Option (List ℕ)
+file_of name = if bytes_eq name input_name then None else Some name
+
+-- the bytes are what is requested of the source of this name
+abbrev pub Answers : List ℕ → Request → List ℕ → List ℕ → Type 0
+Answers name (Locks k format) source bytes = IsAnswer source k format bytes
+Answers name (Compile k workers Listing) source bytes = AreOffered workers × IsProgramListing source k bytes
+Answers name (Compile k workers Document) source bytes = AreOffered workers × IsProgramDocument source k bytes
+Answers name (Compile k workers Certificate) source bytes = AreOffered workers × IsCertified source k bytes
+Answers name (C k) source bytes = IsProgramInC source k bytes
+Answers name (Explain k format) source bytes = IsProgramExplanation source k format bytes
+Answers name (Conflicts k format) source bytes = AreProgramConflicts source k format bytes
+Answers name (Serial fuel order format) source bytes = IsOutcome source fuel order.items format bytes
+Answers name (Outcomes fuel most format) source bytes = AreAllOutcomes source fuel most format bytes
+Answers name (Schedule k fuel schedule format) source bytes = IsScheduled source k fuel schedule.items format bytes
+Answers name (Chart k fuel schedule) source bytes = IsCharted source k fuel schedule.items bytes
+Answers name (Run k fuel format) source bytes = IsOutcomeOfRun source k fuel format bytes
+Answers name (Graph k section) source bytes = IsProgramGraph source k section bytes
+Answers name (Lint k format) source bytes = IsUnblamed (file_of name) source k format bytes
+Answers name (Inspect k) source bytes = IsInspection source k bytes
+Answers name (Check k) source bytes = IsValidInput source k × (bytes ≡ codes "valid\n")
+
+-- the refusal is due where this is requested of the source of this name
+abbrev pub IsRefusalDue : List ℕ → Request → List ℕ → Refusal → Type 0
+IsRefusalDue name (Locks k format) source = IsDue source k
+IsRefusalDue name (Compile k workers form) source = IsCompileDue source k workers
+IsRefusalDue name (C k) source = IsDue source k
+IsRefusalDue name (Explain k format) source = IsDue source k
+IsRefusalDue name (Conflicts k format) source = IsDue source k
+IsRefusalDue name (Serial fuel order format) source = IsSerialDue source fuel order.items
+IsRefusalDue name (Outcomes fuel most format) source = IsOutcomesDue source fuel most
+IsRefusalDue name (Schedule k fuel schedule format) source = IsScheduleDue source k schedule.items
+IsRefusalDue name (Chart k fuel schedule) source = IsScheduleDue source k schedule.items
+IsRefusalDue name (Run k fuel format) source = IsDue source k
+IsRefusalDue name (Graph k section) source = IsGraphDue source k section
+IsRefusalDue name (Lint k format) source = IsLintDue (file_of name) source k format
+IsRefusalDue name (Inspect k) source = IsLintDue None source k Json
+IsRefusalDue name (Check k) source = IsCheckDue source k
 
 -- what is written for a refusal
 abbrev pub line_of : Refusal → List ℕ
 line_of why = refusal_text why ++ codes "\n"
-
--- the name that stands for standard input
-abbrev pub input_name : List ℕ
-input_name = codes "-"
 
 -- whether the name of a text stands before the line of its refusal: that of a file does, but for a report, which has
 -- lines of its own
@@ -115,6 +119,6 @@ IsLineFor name request source why = IsMarkedLine (is_marked name why) name reque
 -- the answer is done with what is requested of the source of this name, or it is the line of a refusal that is due
 abbrev pub IsRightFor : List ℕ → Request → List ℕ → Answer → Type 0
 IsRightFor name request source answer =
-    ((answer.status ≡ done) × Answers request source answer.text.items)
-    ⊎ ((answer.status ≡ refused) × ((why : Refusal) × (why ≢ refusal.Memory) × IsRefusalDue request source why
+    ((answer.status ≡ done) × Answers name request source answer.text.items)
+    ⊎ ((answer.status ≡ refused) × ((why : Refusal) × (why ≢ refusal.Memory) × IsRefusalDue name request source why
     × IsLineFor name request source why answer.text.items))

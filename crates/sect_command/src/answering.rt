@@ -1,9 +1,10 @@
 //! What is answered to the texts of which a request is asked.
 
-ghost use Rattle.std.specs.{Prelude.{◌≡◌, ◌++◌, [], if◌then◌else◌, IfOk, IfErr, OnOk}, String.{string_bytes}};
+ghost use Rattle.std.specs.Prelude.{◌≡◌, ◌++◌, [], if◌then◌else◌, IfOk, IfErr, OnOk, option_map};
+ghost use Rattle.std.specs.String.{string_bytes};
 ghost use Rattle.sect_command.specs.declared.failure.Failure.TheVariants.{Memory};
 ghost use Rattle.sect_command.specs.Requests.{AddsPlaceOf, Answers, IsLineFor, IsRefusalDue, IsRightFor};
-ghost use Rattle.sect_command.specs.Requests.{is_marked as is_marked_for, threads_of};
+ghost use Rattle.sect_command.specs.Requests.{file_of as file_by, is_marked as is_marked_for, threads_of};
 ghost use Rattle.sect_command.specs.Reporting.{AddsComplaint, AddsRight, AddsText, IsGiven, IsReport};
 ghost use Rattle.sect_command.specs.Reporting.{has_headings, heading};
 
@@ -36,6 +37,20 @@ struct Setting<'a, R: Threads + Wait + Sync, T: Texts> {
     texts: &'a T,
     asked: &'a Asked,
     given: &'a [u8],
+}
+
+/// A source text, and its name.
+#[derive(Clone, Copy)]
+struct Text<'a> {
+    name: &'a str,
+    source: &'a [u8],
+}
+
+/// The file of the text of a name: that on standard input has none.
+fn file_of(name: &str) -> Option<&str>
+    ensures { option_map (λ file. file.now) result ≡ file_by name.now }
+{
+    if name == INPUT { None } else { Some(name) }
 }
 
 /// What is answered to each text of which a request is asked, one after another.
@@ -114,7 +129,8 @@ fn add_answer_to<R: Threads + Wait + Sync, T: Texts>(
 ) -> Result<(), Failure>
     ensures { OnOk result (AddsRight setting.now.asked.now name.now source.now report.old report.new) }
 {
-    let answer = worked(setting.rt, alloc, &setting.asked.request, name, source)?;
+    let text = Text { name, source };
+    let answer = worked(setting.rt, alloc, &setting.asked.request, text)?;
     put_head(&mut report.text, setting.asked, name)?;
     report.text.extend_from_slice(answer.text.as_slice())?;
     report.status = report.status.max(answer.status);
@@ -164,24 +180,23 @@ fn add_complaint(
     Ok(())
 }
 
-/// What a request is answered of a text of this name.
+/// What a request is answered of a text.
 fn worked<R: Threads + Wait + Sync>(
     rt: &R,
     alloc: Global,
     request: &Request,
-    name: &str,
-    source: &[u8],
+    text: Text<'_>,
 ) -> Result<Answer, Failure>
-    ensures answers { IfOk result (IsRightFor name.now request.now source.now) }
+    ensures answers { IfOk result (IsRightFor text.entry.name.now request.now text.entry.source.now) }
     ensures fails { IfErr result (λ failure. failure ≡ Memory) }
 {
     let threads = request.threads().to_vec(alloc)?;
-    match printed(rt, alloc, request, threads, source) {
+    match printed(rt, alloc, request, threads, text) {
         Ok(text) => Ok(Answer { status: DONE, text }),
         Err(Refusal::Memory) => Err(Failure::Memory),
         Err(refusal) => Ok(Answer {
             status: REFUSED,
-            text: refusal_line(alloc, name, request, source, &refusal)?.into_bytes(),
+            text: refusal_line(alloc, request, text, &refusal)?.into_bytes(),
         }),
     }
 }
@@ -189,17 +204,17 @@ fn worked<R: Threads + Wait + Sync>(
 /// The line of a refusal. Before it stands the name of the file whose text is refused, and where its mistake stands.
 fn refusal_line(
     alloc: Global,
-    name: &str,
     request: &Request,
-    source: &[u8],
+    text: Text<'_>,
     refusal: &Refusal,
 ) -> Result<String, AllocError>
-    ensures { IfOk result (λ line. IsLineFor name.now request.now source.now refusal.now (string_bytes line)) }
+    ensures { IfOk result (λ line. IsLineFor text.entry.name.now request.now text.entry.source.now refusal.now
+        (string_bytes line)) }
 {
     let mut line = String::new(alloc);
-    if is_marked(name, refusal) {
-        line.push_str(name)?;
-        put_place(alloc, &mut line, request, source, refusal)?;
+    if is_marked(text.name, refusal) {
+        line.push_str(text.name)?;
+        put_place(alloc, &mut line, request, text.source, refusal)?;
         line.push_str(": ")?;
     }
     put_refusal(&mut line, refusal)?;
@@ -241,12 +256,14 @@ fn printed<R: Threads + Wait + Sync>(
     alloc: Global,
     request: &Request,
     threads: Vec<u16>,
-    source: &[u8],
+    text: Text<'_>,
 ) -> Result<Vec<u8>, Refusal>
     requires { threads.items ≡ threads_of request.now }
-    ensures answers { IfOk result (λ text. Answers request.now source.now text.items) }
-    ensures refuses { IfErr result (IsRefusalDue request.now source.now) }
+    ensures answers { IfOk result (λ answer. Answers text.entry.name.now request.now text.entry.source.now
+        answer.items) }
+    ensures refuses { IfErr result (IsRefusalDue text.entry.name.now request.now text.entry.source.now) }
 {
+    let source = text.source;
     match request {
         Request::Locks { k, format } => Ok(locks(alloc, source, *k, *format)?.into_bytes()),
         Request::Compile {
@@ -288,7 +305,9 @@ fn printed<R: Threads + Wait + Sync>(
             Ok(run_outcome(rt, alloc, source, *k, *fuel, &OpenGate, *format)?.into_bytes())
         }
         Request::Graph { k, section } => program_graph(alloc, source, *k, *section),
-        Request::Lint { k, format } => Ok(findings(alloc, source, *k, *format)?.into_bytes()),
+        Request::Lint { k, format } => {
+            Ok(findings(alloc, file_of(text.name), source, *k, *format)?.into_bytes())
+        }
         Request::Inspect { k } => inspection(alloc, source, *k),
         Request::Check { k } => Ok(verdict(alloc, source, *k)?.into_bytes()),
     }

@@ -5,7 +5,7 @@ use Rattle.std.proofs.Common.{length, take, drop, fold, cond, ◌==◌, inl, inr
 use Rattle.std.proofs.lemmas.List.{take-append-drop, drop-take, take-take, take_all, length-take-le, drop-drop}
 use Rattle.std.proofs.lemmas.{List.{length-drop}, List.Sums.{take_while-cons}, Bool.{cases_lt, lt-ltb}}
 use Rattle.std.proofs.Math.{Seq.{take-add, take-append-add}, Nat.{min-eq_left}}
-use Rattle.std.specs.{Prelude.{if◌then◌else◌, take_while, not, nat_lt, codes}, List.{flat_map}, Fmt.{decimal}}
+use Rattle.std.specs.{Prelude.{if◌then◌else◌, take_while, not, nat_lt, codes}, List.{flat_map}}
 use Rattle.sect_front.specs.Gaps.{line_feed}
 use Rattle.sect_places.{specs.Positions.{next_column, column_of}, proofs.shared.Bounds.{column_least, column_most}}
 use Rattle.sect_lint.specs.Excerpts.{in_line, line_text, most_shown, left_out, shown_line, marked_line, excerpt_of}
@@ -178,8 +178,8 @@ long_alike number column line count long =
 
     joined : List ℕ → List ℕ → List ℕ
     joined text marks =
-        codes " --> " ++ number ++ codes ":" ++ decimal column ++ codes "\n" ++ blanks_under number ++ codes "|\n"
-        ++ number ++ codes " | " ++ text ++ codes "\n" ++ blanks_under number ++ codes "| " ++ marks
+        blanks_under number ++ codes "|\n" ++ number ++ codes " | " ++ text ++ codes "\n"
+        ++ blanks_under number ++ codes "| " ++ marks
 
 pub cut_alike : (number : List ℕ) (column : ℕ) (line : List ℕ) (count : ℕ) → 1 ≤ column
     → excerpt_of number column (take (column + most_shown) line) count ≡ excerpt_of number column line count

@@ -48,14 +48,14 @@ plain_json source d = by d.mistake d.span d.detail
     by m s (detail.Counts c) = refl
     by m s (detail.Expected kinds) = refl
 
-pub plain_log : (source : List ℕ) (d : Diagnostic) → has_float (diagnostic_log source d) ≡ false
-plain_log source d = by d.mistake d.span d.detail
+pub plain_log : (uri source : List ℕ) (d : Diagnostic) → has_float (diagnostic_log uri source d) ≡ false
+plain_log uri source d = by d.mistake d.span d.detail
   where
     by : (m : Mistake) (s : Span) (t : Detail)
-        → has_float (diagnostic_log source (record { mistake = m; span = s; detail = t })) ≡ false
+        → has_float (diagnostic_log uri source (record { mistake = m; span = s; detail = t })) ≡ false
     by m s (detail.Circle calls) =
-        or_from _ _ (or_from _ _ (or_from _ _ (or_from _ _ (or_from _ _ (plain_each (related_call source) (λ c. refl)
-        calls.items) refl) refl) refl) refl) refl
+        or_from _ _ (or_from _ _ (or_from _ _ (or_from _ _ (or_from _ _
+        (plain_each (related_call uri source) (λ c. refl) calls.items) refl) refl) refl) refl) refl
     by m s detail.Nothing = refl
     by m s (detail.Bytes n) = refl
     by m s (detail.OpenBrace at) = refl

@@ -70,15 +70,18 @@ blanks_under number = replicate (length number + 1) 32
 abbrev pub margin : ℕ → List ℕ
 margin line = blanks_under (decimal line)
 
--- a line of this number and its place, with what stands under so many of its bytes from this column on
+-- an empty line beside the margin, and a line of this number from this byte on
+abbrev pub numbered_line : List ℕ → List ℕ → ℕ → List ℕ
+numbered_line number line from =
+    blanks_under number ++ codes "|\n" ++ number ++ codes " | " ++ shown_line line from ++ codes "\n"
+
+-- a line of this number, with what stands under so many of its bytes from this column on
 unfoldable pub excerpt_of : List ℕ → ℕ → List ℕ → ℕ → List ℕ
 excerpt_of number column line count =
     let from : ℕ = left_out (length line) (column - 1) in
-    codes " --> " ++ number ++ codes ":" ++ decimal column ++ codes "\n" ++ blanks_under number ++ codes "|\n"
-    ++ number ++ codes " | " ++ shown_line line from ++ codes "\n" ++ blanks_under number ++ codes "| "
-    ++ marked_line line from (column - 1) count
+    numbered_line number line from ++ blanks_under number ++ codes "| " ++ marked_line line from (column - 1) count
 
--- the place of a span, its line and what stands under it
+-- the line of a span and what stands under it
 abbrev pub excerpt : List ℕ → Span → List ℕ
 excerpt source span =
     excerpt_of (decimal (line_of source span.start)) (column_of source span.start) (line_text source span.start)

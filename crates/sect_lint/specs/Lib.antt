@@ -10,6 +10,7 @@ pub mod Arguments
 pub mod Kinds
 pub mod Labels
 pub mod Details
+pub mod Files
 pub mod Places
 pub mod Reports
 pub mod Json

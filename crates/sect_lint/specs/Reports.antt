@@ -2,13 +2,13 @@
 use Rattle.std.specs.{Prelude.{◌≡◌, ◌⊎◌, ◌<◌, ◌≤◌, ℕ, Some, List, ◌++◌, length, map, codes}, Fmt.{decimal}}
 use Rattle.sect_front.specs.{Front.{line_of}, FaultPlaces.{IsWithin, token_span}, TreeView.{TreeView}}
 use Rattle.sect_front.specs.declared.span.Span.{Span}
-use Rattle.sect_places.specs.{NameSpans.{AreNameSpans}, declared.name_use.NameSpan.{NameSpan}}
+use Rattle.sect_places.specs.{NameSpans.{AreNameSpans}, Positions.{position}, declared.name_use.NameSpan.{NameSpan}}
 use Rattle.sect_names.specs.{Sources.{IsAccepted, IsDue}, declared.refusal.SourceRefusal.{SourceRefusal}}
 use Rattle.sect_lint.specs.{declared.diagnostic.Detail.{Detail}, declared.diagnostic.Diagnostic.{Diagnostic}}
 use Rattle.sect_lint.specs.{declared.judge.Judgment.{Judgment}, declared.mistake.Mistake.{Mistake}}
 use Rattle.sect_lint.specs.{Mistakes.{mistake_of, number_of, title_of, note_of}, Places.{IsPlaceOf}}
 use Rattle.sect_lint.specs.Details.{IsFrontDetail, IsDetailWithin, IsDetailBy, detail_text}
-use Rattle.sect_lint.specs.Excerpts.{excerpt, margin}
+use Rattle.sect_lint.specs.{Excerpts.{excerpt, margin}, Files.{place_line}}
 use Rattle.sect_names.specs.declared.fault.SchemeFault.TheVariants as scheme
 use Rattle.sect_names.specs.declared.refusal.SourceRefusal.TheVariants as refusal
 use Rattle.sect_lint.specs.declared.diagnostic.Detail.TheVariants as detail
@@ -50,9 +50,10 @@ heading m = codes "error[" ++ decimal (number_of m) ++ codes "]: " ++ title_of m
 unfoldable pub note_line : ℕ → Mistake → List ℕ
 note_line line m = codes "\n" ++ margin line ++ codes "= " ++ note_of m
 
--- the report of a diagnostic: the mistake, its place with what is said beside the carets, and what is wanted, but for
--- the line feed at its end
-abbrev pub report : List ℕ → Diagnostic → List ℕ
-report source d =
-    heading d.mistake ++ excerpt source d.span ++ detail_text source d.detail
+-- the report of a diagnostic: the mistake, its place behind this mark, its line with what is said beside the carets,
+-- and what is wanted, but for the line feed at its end
+abbrev pub report : List ℕ → List ℕ → Diagnostic → List ℕ
+report mark source d =
+    heading d.mistake ++ place_line mark (position source d.span.start) ++ excerpt source d.span
+    ++ detail_text source d.detail
     ++ note_line (line_of source d.span.start) d.mistake

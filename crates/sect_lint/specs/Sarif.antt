@@ -21,31 +21,32 @@ region_json source span =
     (member (codes "startColumn") (count (column_of source span.start))
     (member (codes "startLine") (count (line_of source span.start)) no_members))))))
 
--- the text is read from standard input
-abbrev pub physical_json : List ℕ → Span → Data
-physical_json source span =
-    object (member (codes "artifactLocation") (object (member (codes "uri") (string (codes "stdin")) no_members))
+-- a span of the text of this URI
+abbrev pub physical_json : List ℕ → List ℕ → Span → Data
+physical_json uri source span =
+    object (member (codes "artifactLocation") (object (member (codes "uri") (string uri) no_members))
     (member (codes "region") (region_json source span) no_members))
 
-abbrev pub location_json : List ℕ → Span → Data
-location_json source span = object (member (codes "physicalLocation") (physical_json source span) no_members)
+abbrev pub location_json : List ℕ → List ℕ → Span → Data
+location_json uri source span =
+    object (member (codes "physicalLocation") (physical_json uri source span) no_members)
 
 -- what is said of another place
-abbrev pub related_json : List ℕ → List ℕ → Span → Data
-related_json source message span =
+abbrev pub related_json : List ℕ → List ℕ → List ℕ → Span → Data
+related_json uri source message span =
     object (member (codes "message") (text_json message) (member (codes "physicalLocation")
-    (physical_json source span) no_members))
+    (physical_json uri source span) no_members))
 
 -- a call of a circle
-abbrev pub related_call : List ℕ → Span → Data
-related_call source called = related_json source (quoted source called ++ codes " is called here") called
+abbrev pub related_call : List ℕ → List ℕ → Span → Data
+related_call uri source called = related_json uri source (quoted source called ++ codes " is called here") called
 
 -- the places beside that of the mistake
-abbrev pub related_by : List ℕ → Detail → List Data
-related_by source (detail.OpenBrace at) = related_json source (codes "this `{` is open") (span_from at 1) ∷ []
-related_by source (detail.Earlier span) = related_json source (codes "first declared here") span ∷ []
-related_by source (detail.Circle calls) = map (related_call source) calls.items
-related_by source _ = []
+abbrev pub related_by : List ℕ → List ℕ → Detail → List Data
+related_by uri source (detail.OpenBrace at) = related_json uri source (codes "this `{` is open") (span_from at 1) ∷ []
+related_by uri source (detail.Earlier span) = related_json uri source (codes "first declared here") span ∷ []
+related_by uri source (detail.Circle calls) = map (related_call uri source) calls.items
+related_by uri source _ = []
 
 -- what is said beside the carets, where it has no place of its own
 abbrev pub aside_by : List ℕ → Detail → List ℕ
@@ -64,12 +65,12 @@ aside_by source (detail.Expected kinds) = codes ": " ++ kinds_text kinds.items
 abbrev pub said_by : List ℕ → Diagnostic → List ℕ
 said_by source d = title_of d.mistake ++ aside_by source d.detail
 
-abbrev pub result_json : List ℕ → Diagnostic → Data
-result_json source d =
+abbrev pub result_json : List ℕ → List ℕ → Diagnostic → Data
+result_json uri source d =
     object (member (codes "level") (string (codes "error"))
-    (member (codes "locations") (list (location_json source d.span ∷ []))
+    (member (codes "locations") (list (location_json uri source d.span ∷ []))
     (member (codes "message") (text_json (said_by source d))
-    (member (codes "relatedLocations") (list (related_by source d.detail))
+    (member (codes "relatedLocations") (list (related_by uri source d.detail))
     (member (codes "ruleId") (string (decimal (number_of d.mistake))) no_members)))))
 
 abbrev pub rule_json : Mistake → Data
@@ -95,9 +96,9 @@ log_json run =
     object (member (codes "$schema") (string (codes "https://json.schemastore.org/sarif-2.1.0.json"))
     (member (codes "runs") (list (run ∷ [])) (member (codes "version") (string (codes "2.1.0")) no_members)))
 
-abbrev pub diagnostic_log : List ℕ → Diagnostic → Data
-diagnostic_log source d =
-    log_json (run_json (list (result_json source d ∷ [])) (tool_json (list (rule_json d.mistake ∷ []))))
+abbrev pub diagnostic_log : List ℕ → List ℕ → Diagnostic → Data
+diagnostic_log uri source d =
+    log_json (run_json (list (result_json uri source d ∷ [])) (tool_json (list (rule_json d.mistake ∷ []))))
 
 abbrev pub empty_log : Data
 empty_log = log_json (run_json (list []) (tool_json (list [])))

@@ -6,7 +6,7 @@ ghost use Rattle.sect_front.specs.{Front.{line_of}, FaultPlaces.{IsWithin}};
 ghost use Rattle.sect_places.specs.Positions.{column_of as column_by};
 ghost use Rattle.sect_lint.specs.Excerpts.{is_plain as plain_by, hexadecimal as hexadecimal_by, shown, under, in_line};
 ghost use Rattle.sect_lint.specs.Excerpts.{line_text, most_shown, left_out as left_out_by, shown_line, carets};
-ghost use Rattle.sect_lint.specs.Excerpts.{marked_line, excerpt_of, excerpt};
+ghost use Rattle.sect_lint.specs.Excerpts.{marked_line, numbered_line, excerpt_of, excerpt};
 
 use sect_front::Span;
 use std::alloc::AllocError;
@@ -36,7 +36,7 @@ fn hexadecimal(number: u8) -> u8
 }
 
 /// Adds a byte of ASCII.
-fn put_ascii(text: &mut String, byte: u8) -> Result<(), AllocError>
+pub fn put_ascii(text: &mut String, byte: u8) -> Result<(), AllocError>
     requires { byte < 128 }
     ensures { OnOk result (string_bytes text.new ≡ string_bytes text.old ++ byte ∷ []) }
 {
@@ -219,7 +219,23 @@ pub fn put_margin(text: &mut String, number: &str) -> Result<(), AllocError>
     put_blanks(text, number.len() + 1)
 }
 
-/// Adds a line of this number and its place, and what stands under so many of its bytes from this column on.
+/// Adds an empty line beside the margin, and a line of this number from this byte on.
+fn put_numbered_line(
+    text: &mut String,
+    number: &str,
+    line: &[u8],
+    from: usize,
+) -> Result<(), AllocError>
+    requires { from ≤ length line.now }
+    ensures { OnOk result (string_bytes text.new ≡ string_bytes text.old ++ numbered_line number.now line.now from) }
+{
+    put_margin(text, number)?;
+    write!(text, "|\n{number} | ")?;
+    put_line(text, line, from)?;
+    text.push_str("\n")
+}
+
+/// Adds a line of this number, and what stands under so many of its bytes from this column on.
 #[tactic(auto, unfolding(crate::specs::Excerpts::excerpt_of))]
 fn put_marked_line(
     text: &mut String,
@@ -233,17 +249,13 @@ fn put_marked_line(
         ≡ string_bytes text.old ++ excerpt_of number.now column line.now count) }
 {
     let from = left_out(line.len(), column - 1);
-    write!(text, " --> {number}:{column}\n")?;
-    put_margin(text, number)?;
-    write!(text, "|\n{number} | ")?;
-    put_line(text, line, from)?;
-    text.push_str("\n")?;
+    put_numbered_line(text, number, line, from)?;
     put_margin(text, number)?;
     text.push_str("| ")?;
     put_marked(text, line, from, column - 1, count)
 }
 
-/// Adds the place of a span, its line and what stands under it. `number` is the number of the line, and `column` the
+/// Adds the line of a span and what stands under it. `number` is the number of the line, and `column` the
 /// column of the first byte.
 pub fn put_excerpt(
     text: &mut String,

@@ -1,11 +1,13 @@
 //! The forms in which a diagnostic is printed.
 
-ghost use Rattle.std.specs.{Prelude.{◌≡◌, IfOk, length, false}, String.{string_bytes}};
+ghost use Rattle.std.specs.{Prelude.{◌≡◌, IfOk, length, option_map, false}, String.{string_bytes}};
 ghost use Rattle.serde_json.specs.{View.{view}, Written.{compact_text, has_float}};
 ghost use Rattle.sect_front.specs.FaultPlaces.{IsWithin};
-ghost use Rattle.sect_lint.specs.{Details.{IsDetailWithin}, Reports.{report}, Formats.{report_as as report_by, clean}};
+ghost use Rattle.sect_lint.specs.{Details.{IsDetailWithin}, Files.{place_mark as place_mark_by}, Reports.{report}};
+ghost use Rattle.sect_lint.specs.Formats.{report_as as report_by, clean};
 
 use crate::diagnostic::Diagnostic;
+use crate::file::{place_mark, uri_of};
 use crate::json::diagnostic_value;
 use crate::report::put_report;
 use crate::sarif::{diagnostic_log, empty_log};
@@ -33,35 +35,46 @@ pub fn compact(alloc: Global, value: &Value) -> Result<String, AllocError>
 }
 
 /// The report of a diagnostic for a reader.
-fn report_text(alloc: Global, source: &[u8], diagnostic: &Diagnostic) -> Result<String, AllocError>
+fn report_text(
+    alloc: Global,
+    file: Option<&str>,
+    source: &[u8],
+    diagnostic: &Diagnostic,
+) -> Result<String, AllocError>
     requires span { IsWithin (length source.now) diagnostic.now.span }
     requires detail { IsDetailWithin (length source.now) diagnostic.now.detail }
-    ensures { IfOk result (λ text. string_bytes text ≡ report source.now diagnostic.now) }
+    ensures { IfOk result (λ text. string_bytes text
+        ≡ report (place_mark_by (option_map (λ name. name.now) file.entry)) source.now diagnostic.now) }
 {
+    let mark = place_mark(alloc, file)?;
     let mut text = String::new(alloc);
-    put_report(alloc, &mut text, source, diagnostic)?;
+    put_report(alloc, &mut text, mark.as_str(), source, diagnostic)?;
     Ok(text)
 }
 
-/// A diagnostic of a source text as it is printed, but for the line feed at its end.
+/// A diagnostic of the source text of this file as it is printed, but for the line feed at its end. A text on standard
+/// input has no file.
 pub fn report_as(
     alloc: Global,
+    file: Option<&str>,
     source: &[u8],
     diagnostic: &Diagnostic,
     format: LintFormat,
 ) -> Result<String, AllocError>
     requires span { IsWithin (length source.now) diagnostic.now.span }
     requires detail { IsDetailWithin (length source.now) diagnostic.now.detail }
-    ensures { IfOk result (λ text. string_bytes text ≡ report_by format source.now diagnostic.now) }
+    ensures { IfOk result (λ text. string_bytes text
+        ≡ report_by format (option_map (λ name. name.now) file.entry) source.now diagnostic.now) }
 {
     match format {
-        LintFormat::Text => report_text(alloc, source, diagnostic),
+        LintFormat::Text => report_text(alloc, file, source, diagnostic),
         LintFormat::Json => {
             let value = diagnostic_value(alloc, source, diagnostic)?;
             compact(alloc, &value)
         }
         LintFormat::Sarif => {
-            let log = diagnostic_log(alloc, source, diagnostic)?;
+            let uri = uri_of(alloc, file)?;
+            let log = diagnostic_log(alloc, uri.as_str(), source, diagnostic)?;
             compact(alloc, &log)
         }
     }

@@ -9,6 +9,7 @@ ghost use Rattle.sect_lint.specs.{Details.{IsDetailWithin}, Reports.{heading, no
 
 use crate::diagnostic::{Detail, Diagnostic};
 use crate::excerpt::{put_excerpt, put_margin};
+use crate::file::put_place_line;
 use crate::kinds::put_kinds;
 use crate::label::{put_counts, put_quoted, put_typed, put_types};
 use crate::mistake::Mistake;
@@ -162,21 +163,25 @@ fn put_note(
     Ok(write!(text, "= {}", mistake.note())?)
 }
 
-/// Adds the report of a diagnostic of a source text: the number and the title of the mistake, where it stands, the line
-/// with carets under the bytes, and what is wanted, but for the line feed at its end.
+/// Adds the report of a diagnostic of a source text: the number and the title of the mistake, where it stands, behind
+/// this mark, the line with carets under the bytes, and what is wanted, but for the line feed at its end.
 pub fn put_report(
     alloc: Global,
     text: &mut String,
+    mark: &str,
     source: &[u8],
     diagnostic: &Diagnostic,
 ) -> Result<(), AllocError>
     requires span { IsWithin (length source.now) diagnostic.now.span }
     requires detail { IsDetailWithin (length source.now) diagnostic.now.detail }
-    ensures { OnOk result (string_bytes text.new ≡ string_bytes text.old ++ report source.now diagnostic.now) }
+    ensures { OnOk result (string_bytes text.new
+        ≡ string_bytes text.old ++ report mark.now source.now diagnostic.now) }
 {
-    let Position { line, column } = position_of(source, diagnostic.span.start);
+    let position = position_of(source, diagnostic.span.start);
+    let Position { line, column } = position;
     let number = format!(in alloc; "{line}")?;
     put_heading(text, diagnostic.mistake)?;
+    put_place_line(text, mark, position)?;
     put_excerpt(text, source, diagnostic.span, number.as_str(), column)?;
     put_detail(alloc, text, source, &diagnostic.detail)?;
     put_note(text, diagnostic.mistake, number.as_str(), line)?;

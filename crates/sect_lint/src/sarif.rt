@@ -33,52 +33,64 @@ fn region_value(alloc: Global, source: &LineIndex<'_>, span: Span) -> Result<Val
         "startColumn": start_column, "startLine": start_line})
 }
 
-/// Where a span stands.
+/// Where a span of the text of this URI stands.
 pub fn location_value(
     alloc: Global,
+    uri: &str,
     source: &LineIndex<'_>,
     span: Span,
 ) -> Result<Value, AllocError>
     requires { IsWithin (length source.now) span }
-    ensures { IfOk result (λ v. view v ≡ location_json source.now span) }
+    ensures { IfOk result (λ v. view v ≡ location_json uri.now source.now span) }
 {
-    json!(in alloc; {"physicalLocation": {"artifactLocation": {"uri": "stdin"},
+    json!(in alloc; {"physicalLocation": {"artifactLocation": {"uri": uri},
         "region": region_value(alloc, source, span)?}})
 }
 
 /// What is said of another place.
 fn related_value(
     alloc: Global,
+    uri: &str,
     source: &LineIndex<'_>,
     message: &str,
     span: Span,
 ) -> Result<Value, AllocError>
     requires { IsWithin (length source.now) span }
-    ensures { IfOk result (λ v. view v ≡ related_json source.now message.now span) }
+    ensures { IfOk result (λ v. view v ≡ related_json uri.now source.now message.now span) }
 {
     json!(in alloc; {"message": {"text": message},
-        "physicalLocation": {"artifactLocation": {"uri": "stdin"}, "region": region_value(alloc, source, span)?}})
+        "physicalLocation": {"artifactLocation": {"uri": uri}, "region": region_value(alloc, source, span)?}})
 }
 
 /// A call of a circle.
-fn call_value(alloc: Global, source: &LineIndex<'_>, called: Span) -> Result<Value, AllocError>
+fn call_value(
+    alloc: Global,
+    uri: &str,
+    source: &LineIndex<'_>,
+    called: Span,
+) -> Result<Value, AllocError>
     requires { IsWithin (length source.now) called }
-    ensures { IfOk result (λ v. view v ≡ related_call source.now called) }
+    ensures { IfOk result (λ v. view v ≡ related_call uri.now source.now called) }
 {
     let mut text = String::new(alloc);
     put_quoted(&mut text, source.text(), called)?;
     text.push_str(" is called here")?;
-    related_value(alloc, source, text.as_str(), called)
+    related_value(alloc, uri, source, text.as_str(), called)
 }
 
 /// The calls of a circle.
-fn circle_value(alloc: Global, source: &LineIndex<'_>, calls: &[Span]) -> Result<Value, AllocError>
+fn circle_value(
+    alloc: Global,
+    uri: &str,
+    source: &LineIndex<'_>,
+    calls: &[Span],
+) -> Result<Value, AllocError>
     requires { All (IsWithin (length source.now)) calls.now }
-    ensures { IfOk result (λ v. view v ≡ list (map (related_call source.now) calls.now)) }
+    ensures { IfOk result (λ v. view v ≡ list (map (related_call uri.now source.now) calls.now)) }
 {
     let mut values = Vec::new(alloc);
     for called in calls {
-        values.push(call_value(alloc, source, *called)?)?;
+        values.push(call_value(alloc, uri, source, *called)?)?;
     }
     Ok(Value::Array(values))
 }
@@ -86,11 +98,12 @@ fn circle_value(alloc: Global, source: &LineIndex<'_>, calls: &[Span]) -> Result
 /// The places beside that of the mistake.
 fn related_values(
     alloc: Global,
+    uri: &str,
     source: &LineIndex<'_>,
     detail: &Detail,
 ) -> Result<Value, AllocError>
     requires { IsDetailWithin (length source.now) detail.now }
-    ensures { IfOk result (λ v. view v ≡ list (related_by source.now detail.now)) }
+    ensures { IfOk result (λ v. view v ≡ list (related_by uri.now source.now detail.now)) }
 {
     match detail {
         Detail::OpenBrace(at) => {
@@ -101,16 +114,16 @@ fn related_values(
             };
             one_of(
                 alloc,
-                related_value(alloc, source, "this `{` is open", brace)?,
+                related_value(alloc, uri, source, "this `{` is open", brace)?,
             )
         }
         Detail::Earlier(span) => {
             one_of(
                 alloc,
-                related_value(alloc, source, "first declared here", *span)?,
+                related_value(alloc, uri, source, "first declared here", *span)?,
             )
         }
-        Detail::Circle(calls) => circle_value(alloc, source, calls.as_slice()),
+        Detail::Circle(calls) => circle_value(alloc, uri, source, calls.as_slice()),
         _ => json!(in alloc; []),
     }
 }
@@ -160,16 +173,17 @@ fn message_of(alloc: Global, source: &[u8], diagnostic: &Diagnostic) -> Result<S
 /// A mistake, and where it stands.
 fn result_value(
     alloc: Global,
+    uri: &str,
     source: &LineIndex<'_>,
     diagnostic: &Diagnostic,
 ) -> Result<Value, AllocError>
     requires span { IsWithin (length source.now) diagnostic.now.span }
     requires detail { IsDetailWithin (length source.now) diagnostic.now.detail }
-    ensures { IfOk result (λ v. view v ≡ result_json source.now diagnostic.now) }
+    ensures { IfOk result (λ v. view v ≡ result_json uri.now source.now diagnostic.now) }
 {
-    json!(in alloc; {"level": "error", "locations": [location_value(alloc, source, diagnostic.span)?],
+    json!(in alloc; {"level": "error", "locations": [location_value(alloc, uri, source, diagnostic.span)?],
         "message": {"text": message_of(alloc, source.text(), diagnostic)?},
-        "relatedLocations": related_values(alloc, source, &diagnostic.detail)?,
+        "relatedLocations": related_values(alloc, uri, source, &diagnostic.detail)?,
         "ruleId": format!(in alloc; "{}", diagnostic.mistake.number())?})
 }
 
@@ -204,20 +218,21 @@ pub fn log_value(alloc: Global, run: Value) -> Result<Value, AllocError>
     json!(in alloc; {"$schema": "https://json.schemastore.org/sarif-2.1.0.json", "runs": [run], "version": "2.1.0"})
 }
 
-/// The log of a diagnostic of a source text.
+/// The log of a diagnostic of the source text of this URI.
 pub fn diagnostic_log(
     alloc: Global,
+    uri: &str,
     source: &[u8],
     diagnostic: &Diagnostic,
 ) -> Result<Value, AllocError>
     requires span { IsWithin (length source.now) diagnostic.now.span }
     requires detail { IsDetailWithin (length source.now) diagnostic.now.detail }
-    ensures { IfOk result (λ v. view v ≡ log_by source.now diagnostic.now) }
+    ensures { IfOk result (λ v. view v ≡ log_by uri.now source.now diagnostic.now) }
 {
     let rules = one_of(alloc, rule_value(alloc, diagnostic.mistake)?)?;
     let tool = tool_value(alloc, rules)?;
     let lines = LineIndex::new(alloc, source)?;
-    let results = one_of(alloc, result_value(alloc, &lines, diagnostic)?)?;
+    let results = one_of(alloc, result_value(alloc, uri, &lines, diagnostic)?)?;
     log_value(alloc, run_value(alloc, results, tool)?)
 }
 

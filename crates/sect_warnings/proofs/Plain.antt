@@ -12,10 +12,10 @@ plain_labels source span (b ∷ bs) = refl
 pub plain_warning : (source : List ℕ) (p : PlacedView) → has_float (warning_json source p) ≡ false
 plain_warning source p = or_from _ _ (plain_labels source p.span p.label) refl
 
-plain_results : (source : List ℕ) (ps : List PlacedView)
-    → items_have_float (items_of (map (result_json source) ps)) ≡ false
-plain_results source [] = refl
-plain_results source (p ∷ ps) = or_from _ _ refl (plain_results source ps)
+plain_results : (uri source : List ℕ) (ps : List PlacedView)
+    → items_have_float (items_of (map (result_json uri source) ps)) ≡ false
+plain_results uri source [] = refl
+plain_results uri source (p ∷ ps) = or_from _ _ refl (plain_results uri source ps)
 
-pub plain_log : (source : List ℕ) (ps : List PlacedView) → has_float (warnings_log source ps) ≡ false
-plain_log source ps = or_from _ _ (or_from _ _ (or_from _ _ (plain_results source ps) refl) refl) refl
+pub plain_log : (uri source : List ℕ) (ps : List PlacedView) → has_float (warnings_log uri source ps) ≡ false
+plain_log uri source ps = or_from _ _ (or_from _ _ (or_from _ _ (plain_results uri source ps) refl) refl) refl

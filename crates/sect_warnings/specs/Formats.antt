@@ -1,8 +1,8 @@
 -- What is printed of warnings, in each form.
-use Rattle.std.specs.{Prelude.{◌≡◌, ℕ, List, [], ◌∷◌, ◌++◌, codes}, List.{flat_map}}
+use Rattle.std.specs.{Prelude.{◌≡◌, ℕ, List, Option, [], ◌∷◌, ◌++◌, codes}, List.{flat_map}}
 use Rattle.serde_json.specs.Written.{compact_text}
 use Rattle.sect_lint.specs.declared.format.LintFormat.{LintFormat, TheVariants.{Text, Json, Sarif}}
-use Rattle.sect_lint.specs.Formats.{clean}
+use Rattle.sect_lint.specs.{Files.{place_mark, uri_of}, Formats.{clean}}
 use Rattle.sect_emit.specs.Compiled.{CompiledView}
 use Rattle.sect_warnings.specs.{declared.warning.Warning.{Warning}, Placed.{PlacedView}, Warnings.{AreWarnings}}
 use Rattle.sect_warnings.specs.{Spares.{AreSpares}, Reports.{ArePlaced, reports}, Json.{warning_json}}
@@ -13,16 +13,16 @@ use Rattle.sect_places.specs.{declared.name_use.NameSpan.{NameSpan}, NameSpans.{
 unfoldable pub json_line : List ℕ → PlacedView → List ℕ
 json_line source p = compact_text (warning_json source p) ++ codes "\n"
 
--- some warnings, one after another: their reports, an object a line, or one log
-abbrev pub told : LintFormat → List ℕ → List PlacedView → List ℕ
-told Text source ps = reports source ps
-told Json source ps = flat_map (json_line source) ps
-told Sarif source ps = compact_text (warnings_log source ps) ++ codes "\n"
+-- some warnings of the text of this file, one after another: their reports, an object a line, or one log
+abbrev pub told : LintFormat → Option (List ℕ) → List ℕ → List PlacedView → List ℕ
+told Text file source ps = reports (place_mark file) source ps
+told Json file source ps = flat_map (json_line source) ps
+told Sarif file source ps = compact_text (warnings_log (uri_of file) source ps) ++ codes "\n"
 
 -- where there is none, nothing is told
-abbrev pub printed : LintFormat → List ℕ → List PlacedView → List ℕ
-printed format source [] = clean format
-printed format source (p ∷ ps) = told format source (p ∷ ps)
+abbrev pub printed : LintFormat → Option (List ℕ) → List ℕ → List PlacedView → List ℕ
+printed format file source [] = clean format
+printed format file source (p ∷ ps) = told format file source (p ∷ ps)
 
 -- what is worth a second look in the program of that text, with its bytes: of its sections, and then of its
 -- declarations
@@ -32,7 +32,7 @@ AreAllPlaced source c all =
     × AreWarnings c ws × ArePlaced source names c ws ps × AreNameSpans source c.scheme.program.source names
     × AreSpares c.scheme names spares × (all ≡ ps ++ spares)
 
--- the bytes are what is printed of that
-abbrev pub AreWarningsPrinted : List ℕ → CompiledView → LintFormat → List ℕ → Type 0
-AreWarningsPrinted source c format bytes =
-    (all : List PlacedView) × AreAllPlaced source c all × (bytes ≡ printed format source all)
+-- the bytes are what is printed of that, where the text is this file's
+abbrev pub AreWarningsPrinted : Option (List ℕ) → List ℕ → CompiledView → LintFormat → List ℕ → Type 0
+AreWarningsPrinted file source c format bytes =
+    (all : List PlacedView) × AreAllPlaced source c all × (bytes ≡ printed format file source all)

@@ -3,7 +3,8 @@ use Rattle.std.specs.{Prelude.{◌≡◌, ℕ, List, [], ◌∷◌, ◌++◌, ma
 use Rattle.sect_front.specs.{Front.{IsSpelled, line_of}, FaultPlaces.{token_span, IsWithin}, TreeView.{TreeView}}
 use Rattle.sect_front.specs.declared.span.Span.{Span}
 use Rattle.sect_places.specs.{declared.name_use.NameSpan.{NameSpan}, Ranges.{item_tokens}, Spans.{span_in}}
-use Rattle.sect_lint.specs.{Excerpts.{excerpt, margin}, Places.{no_range}}
+use Rattle.sect_places.specs.Positions.{position}
+use Rattle.sect_lint.specs.{Excerpts.{excerpt, margin}, Files.{place_line}, Places.{no_range}}
 use Rattle.sect_emit.specs.Compiled.{CompiledView}
 use Rattle.sect_warnings.specs.{declared.warning.Warning.{Warning}, declared.warning.Told.{Told}, Marks.{MarkView}}
 use Rattle.sect_warnings.specs.{Labels.{IsMarkOf}, Placed.{PlacedView, behind}, Titles.{told_name, told_title}}
@@ -41,13 +42,14 @@ heading t = codes "warning[" ++ told_name t ++ codes "]: " ++ told_title t ++ co
 unfoldable pub note_line : ℕ → List ℕ → List ℕ
 note_line line note = codes "\n" ++ margin line ++ codes "= " ++ note ++ codes "\n"
 
--- the report of a warning: what is told, its place with what is said of it, and what it means
-abbrev pub report : List ℕ → PlacedView → List ℕ
-report source p =
-    heading p.told ++ excerpt source p.span ++ behind (codes " ") p.label
-    ++ note_line (line_of source p.span.start) p.note
+-- the report of a warning: what is told, its place behind this mark, its line with what is said of it, and what it
+-- means
+abbrev pub report : List ℕ → List ℕ → PlacedView → List ℕ
+report mark source p =
+    heading p.told ++ place_line mark (position source p.span.start) ++ excerpt source p.span
+    ++ behind (codes " ") p.label ++ note_line (line_of source p.span.start) p.note
 
 -- one after another, with an empty line between them
-abbrev pub reports : List ℕ → List PlacedView → List ℕ
-reports source [] = []
-reports source (p ∷ ps) = report source p ++ flat_map (λ q. codes "\n" ++ report source q) ps
+abbrev pub reports : List ℕ → List ℕ → List PlacedView → List ℕ
+reports mark source [] = []
+reports mark source (p ∷ ps) = report mark source p ++ flat_map (λ q. codes "\n" ++ report mark source q) ps

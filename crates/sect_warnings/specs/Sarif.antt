@@ -14,10 +14,10 @@ use Rattle.sect_warnings.specs.declared.warning.Spare.TheVariants as spare
 abbrev pub message_of : PlacedView → List ℕ
 message_of p = told_title p.told ++ behind (codes ": ") p.label
 
-abbrev pub result_json : List ℕ → PlacedView → Data
-result_json source p =
+abbrev pub result_json : List ℕ → List ℕ → PlacedView → Data
+result_json uri source p =
     object (member (codes "level") (string (codes "warning"))
-    (member (codes "locations") (list (location_json source p.span ∷ []))
+    (member (codes "locations") (list (location_json uri source p.span ∷ []))
     (member (codes "message") (text_json (message_of p))
     (member (codes "ruleId") (string (told_name p.told)) no_members))))
 
@@ -39,5 +39,5 @@ rules =
     ∷ finding_rule (finding.ClassLock 0 effect.Read) ∷ finding_rule (finding.NeverFilled 0 0)
     ∷ spare_rule (spare.Unused thing.Local) ∷ spare_rule spare.Hint ∷ [])
 
-abbrev pub warnings_log : List ℕ → List PlacedView → Data
-warnings_log source ps = log_json (run_json (list (map (result_json source) ps)) (tool_json rules))
+abbrev pub warnings_log : List ℕ → List ℕ → List PlacedView → Data
+warnings_log uri source ps = log_json (run_json (list (map (result_json uri source) ps)) (tool_json rules))

@@ -1,6 +1,7 @@
 //! The forms in which warnings are printed.
 
-ghost use Rattle.std.specs.{Prelude.{◌≡◌, ◌++◌, IfOk, OnOk, length}, List.{flat_map}, String.{string_bytes}};
+ghost use Rattle.std.specs.Prelude.{◌≡◌, ◌++◌, IfOk, OnOk, length, option_map};
+ghost use Rattle.std.specs.{List.{flat_map}, String.{string_bytes}};
 ghost use Rattle.sect_front.specs.{Front.{IsSpelled}, FaultPlaces.{IsWithin}};
 ghost use Rattle.sect_warnings.specs.Reports.{AreWithin};
 ghost use Rattle.sect_warnings.specs.Formats.{json_line, told as told_by, printed as printed_by, AreAllPlaced};
@@ -15,7 +16,7 @@ use crate::report::reports_text;
 use crate::sarif::warnings_log;
 use crate::spare::spares;
 use sect_emit::Compiled;
-use sect_lint::{LintFormat, clean_text, compact};
+use sect_lint::{LintFormat, clean_text, compact, place_mark, uri_of};
 use sect_places::{LineIndex, tree_names};
 use std::alloc::{AllocError, Global};
 
@@ -65,46 +66,60 @@ fn json_lines(alloc: Global, source: &[u8], placed: &[Placed]) -> Result<String,
 }
 
 /// Warnings as a log of SARIF.
-fn log_text(alloc: Global, source: &[u8], placed: &[Placed]) -> Result<String, AllocError>
+fn log_text(
+    alloc: Global,
+    file: Option<&str>,
+    source: &[u8],
+    placed: &[Placed],
+) -> Result<String, AllocError>
     requires { AreWithin (length source.now) placed.now }
-    ensures { IfOk result (λ text. string_bytes text ≡ told_by LintFormat.Sarif source.now placed.now) }
+    ensures { IfOk result (λ text. string_bytes text
+        ≡ told_by LintFormat.Sarif (option_map (λ name. name.now) file.entry) source.now placed.now) }
 {
-    let log = warnings_log(alloc, source, placed)?;
+    let uri = uri_of(alloc, file)?;
+    let log = warnings_log(alloc, uri.as_str(), source, placed)?;
     let mut text = compact(alloc, &log)?;
     text.push_str("\n")?;
     Ok(text)
 }
 
-/// Some warnings in this form.
+/// Some warnings of the text of this file in this form.
 fn told(
     alloc: Global,
+    file: Option<&str>,
     source: &[u8],
     placed: &[Placed],
     format: LintFormat,
 ) -> Result<String, AllocError>
     requires { AreWithin (length source.now) placed.now }
-    ensures { IfOk result (λ text. string_bytes text ≡ told_by format source.now placed.now) }
+    ensures { IfOk result (λ text. string_bytes text
+        ≡ told_by format (option_map (λ name. name.now) file.entry) source.now placed.now) }
 {
     match format {
-        LintFormat::Text => reports_text(alloc, source, placed),
+        LintFormat::Text => {
+            let mark = place_mark(alloc, file)?;
+            reports_text(alloc, mark.as_str(), source, placed)
+        }
         LintFormat::Json => json_lines(alloc, source, placed),
-        LintFormat::Sarif => log_text(alloc, source, placed),
+        LintFormat::Sarif => log_text(alloc, file, source, placed),
     }
 }
 
-/// Warnings as they are printed.
+/// Warnings of the text of this file as they are printed.
 fn printed(
     alloc: Global,
+    file: Option<&str>,
     source: &[u8],
     placed: &[Placed],
     format: LintFormat,
 ) -> Result<String, AllocError>
     requires { AreWithin (length source.now) placed.now }
-    ensures { IfOk result (λ text. string_bytes text ≡ printed_by format source.now placed.now) }
+    ensures { IfOk result (λ text. string_bytes text
+        ≡ printed_by format (option_map (λ name. name.now) file.entry) source.now placed.now) }
 {
     match placed {
         [] => clean_text(alloc, format),
-        _ => told(alloc, source, placed, format),
+        _ => told(alloc, file, source, placed, format),
     }
 }
 
@@ -132,16 +147,18 @@ pub fn placed_warnings(
     Ok(placed)
 }
 
-/// The same, as it is printed.
+/// The same, as it is printed of the text of this file. A text on standard input has none.
 pub fn warnings_as(
     alloc: Global,
+    file: Option<&str>,
     source: &[u8],
     compiled: &Compiled,
     format: LintFormat,
 ) -> Result<String, AllocError>
     requires { IsSpelled source.now compiled.now.scheme.program.source }
-    ensures { IfOk result (λ text. AreWarningsPrinted source.now compiled.now format (string_bytes text)) }
+    ensures { IfOk result (λ text. AreWarningsPrinted (option_map (λ name. name.now) file.entry) source.now
+        compiled.now format (string_bytes text)) }
 {
     let placed = placed_warnings(alloc, source, compiled)?;
-    printed(alloc, source, placed.as_slice(), format)
+    printed(alloc, file, source, placed.as_slice(), format)
 }

@@ -8,7 +8,7 @@ ghost use Rattle.sect_warnings.specs.Reports.{heading, note_line, report, report
 
 use crate::placed::{Placed, put_behind};
 use crate::warning::{Finding, Told, Warning};
-use sect_lint::{put_excerpt, put_margin};
+use sect_lint::{put_excerpt, put_margin, put_place_line};
 use sect_names::Effect;
 use sect_places::{LineIndex, Position};
 use std::alloc::{AllocError, Global};
@@ -88,20 +88,23 @@ fn put_note(text: &mut String, note: &str, number: &str, line: usize) -> Result<
     Ok(write!(text, "= {note}\n")?)
 }
 
-/// Adds the report of a warning.
+/// Adds the report of a warning, whose place stands behind this mark.
 fn put_report(
     alloc: Global,
     text: &mut String,
+    mark: &str,
     source: &LineIndex<'_>,
     placed: &Placed,
 ) -> Result<(), AllocError>
     requires { IsWithin (length source.now) placed.now.span }
-    ensures { OnOk result (string_bytes text.new ≡ string_bytes text.old ++ report source.now placed.now) }
+    ensures { OnOk result (string_bytes text.new ≡ string_bytes text.old ++ report mark.now source.now placed.now) }
 {
     let (told, span) = (placed.told(), placed.span());
-    let Position { line, column } = source.position(span.start);
+    let position = source.position(span.start);
+    let Position { line, column } = position;
     let number = format!(in alloc; "{line}")?;
     put_heading(text, told)?;
+    put_place_line(text, mark, position)?;
     put_excerpt(text, source.text(), span, number.as_str(), column)?;
     put_behind(text, " ", placed.label())?;
     put_note(text, placed.note(), number.as_str(), line)
@@ -111,31 +114,37 @@ fn put_report(
 fn put_others(
     alloc: Global,
     text: &mut String,
+    mark: &str,
     source: &LineIndex<'_>,
     others: &[Placed],
 ) -> Result<(), AllocError>
     requires { AreWithin (length source.now) others.now }
     ensures { OnOk result (string_bytes text.new
-        ≡ string_bytes text.old ++ flat_map (λ q. codes "\n" ++ report source.now q) others.now) }
+        ≡ string_bytes text.old ++ flat_map (λ q. codes "\n" ++ report mark.now source.now q) others.now) }
 {
     for other in others {
         text.push_str("\n")?;
-        put_report(alloc, text, source, other)?;
+        put_report(alloc, text, mark, source, other)?;
     }
     Ok(())
 }
 
-/// The reports of warnings, with an empty line between them.
-pub fn reports_text(alloc: Global, source: &[u8], placed: &[Placed]) -> Result<String, AllocError>
+/// The reports of warnings, whose places stand behind this mark, with an empty line between them.
+pub fn reports_text(
+    alloc: Global,
+    mark: &str,
+    source: &[u8],
+    placed: &[Placed],
+) -> Result<String, AllocError>
     requires { AreWithin (length source.now) placed.now }
-    ensures { IfOk result (λ text. string_bytes text ≡ reports source.now placed.now) }
+    ensures { IfOk result (λ text. string_bytes text ≡ reports mark.now source.now placed.now) }
 {
     let mut text = String::new(alloc);
     let Some((first, others)) = placed.split_first() else {
         return Ok(text);
     };
     let lines = LineIndex::new(alloc, source)?;
-    put_report(alloc, &mut text, &lines, first)?;
-    put_others(alloc, &mut text, &lines, others)?;
+    put_report(alloc, &mut text, mark, &lines, first)?;
+    put_others(alloc, &mut text, mark, &lines, others)?;
     Ok(text)
 }

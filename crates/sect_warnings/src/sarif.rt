@@ -27,14 +27,19 @@ fn message_of(alloc: Global, placed: &Placed) -> Result<String, AllocError>
 }
 
 /// A warning, and where it stands.
-fn result_value(alloc: Global, source: &LineIndex<'_>, placed: &Placed) -> Result<Value, AllocError>
+fn result_value(
+    alloc: Global,
+    uri: &str,
+    source: &LineIndex<'_>,
+    placed: &Placed,
+) -> Result<Value, AllocError>
     requires { IsWithin (length source.now) placed.now.span }
-    ensures { IfOk result (λ v. view v ≡ result_json source.now placed.now) }
+    ensures { IfOk result (λ v. view v ≡ result_json uri.now source.now placed.now) }
 {
     let rule = placed.told().name();
     json!(in alloc; {
         "level": "warning",
-        "locations": [location_value(alloc, source, placed.span())?],
+        "locations": [location_value(alloc, uri, source, placed.span())?],
         "message": {"text": message_of(alloc, placed)?},
         "ruleId": rule
     })
@@ -43,15 +48,16 @@ fn result_value(alloc: Global, source: &LineIndex<'_>, placed: &Placed) -> Resul
 /// All of them.
 fn results_value(
     alloc: Global,
+    uri: &str,
     source: &LineIndex<'_>,
     placed: &[Placed],
 ) -> Result<Value, AllocError>
     requires { AreWithin (length source.now) placed.now }
-    ensures { IfOk result (λ v. view v ≡ list (map (result_json source.now) placed.now)) }
+    ensures { IfOk result (λ v. view v ≡ list (map (result_json uri.now source.now) placed.now)) }
 {
     let mut results = Vec::new(alloc);
     for warning in placed {
-        results.push(result_value(alloc, source, warning)?)?;
+        results.push(result_value(alloc, uri, source, warning)?)?;
     }
     Ok(Value::Array(results))
 }
@@ -91,13 +97,18 @@ fn rules_value(alloc: Global) -> Result<Value, AllocError>
     ])
 }
 
-/// The log of the warnings of a source text.
-pub fn warnings_log(alloc: Global, source: &[u8], placed: &[Placed]) -> Result<Value, AllocError>
+/// The log of the warnings of the source text of this URI.
+pub fn warnings_log(
+    alloc: Global,
+    uri: &str,
+    source: &[u8],
+    placed: &[Placed],
+) -> Result<Value, AllocError>
     requires { AreWithin (length source.now) placed.now }
-    ensures { IfOk result (λ v. view v ≡ log_by source.now placed.now) }
+    ensures { IfOk result (λ v. view v ≡ log_by uri.now source.now placed.now) }
 {
     let tool = tool_value(alloc, rules_value(alloc)?)?;
     let lines = LineIndex::new(alloc, source)?;
-    let results = results_value(alloc, &lines, placed)?;
+    let results = results_value(alloc, uri, &lines, placed)?;
     log_value(alloc, run_value(alloc, results, tool)?)
 }

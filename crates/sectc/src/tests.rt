@@ -4,6 +4,7 @@
 mod changed;
 mod check;
 mod hostile;
+mod names;
 mod programs;
 mod run;
 mod sessions;

@@ -9,4 +9,4 @@ compact-requires c =
 
 pub compact-requires-in-Sarif : goal.compact-requires-in-Sarif
 compact-requires-in-Sarif c =
-    ap has_float c.in_ok-log-in-Sarif.ensures ∙ plain_log c.args.source.now c.args.diagnostic.now
+    ap has_float c.in_ok-log-in-Sarif.ensures ∙ plain_log _ c.args.source.now c.args.diagnostic.now

@@ -1,4 +1,5 @@
 use Rattle.std.proofs.{Common.{ap, ◌∙◌}, lemmas.Result.{IfOk-weaker}}
+use Rattle.std.specs.Prelude.{option_map}
 use Rattle.sect_warnings.specs.Formats.{printed}
 use Rattle.sect_warnings.proofs.format.warnings_as.Goals as goal
 
@@ -8,5 +9,7 @@ returns c =
     (λ text h. (
       c.in_ok-placed.placed.items,
       c.in_ok-placed.ensures.placed,
-      h ∙ ap (printed c.args.format c.args.source.now) c.as_slice.ensures.value,
+      h
+      ∙ ap (printed c.args.format (option_map (λ name. name.now) c.args.file.entry) c.args.source.now)
+      c.as_slice.ensures.value,
     )) c.printed.ensures

@@ -5,4 +5,4 @@ use Rattle.sect_warnings.proofs.sarif.results_value.Given as goal
 
 abbrev pub invariant-loop-warning : goal.invariant-loop-warning
 invariant-loop-warning l =
-    map view l.results.items ≡ map (result_json l.source) (take l.warning-index l.placed)
+    map view l.results.items ≡ map (result_json l.uri l.source) (take l.warning-index l.placed)

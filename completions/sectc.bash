@@ -12,7 +12,7 @@ _sectc() {
         serial) words='--fuel --format --file --help' ;;
         outcomes) words='--fuel --most --format --help' files=1 ;;
         schedule) words='--k --format --fuel --chart --file --help' ;;
-        run) words='--k --format --fuel --help' files=1 ;;
+        run) words='--k --format --fuel --time --help' files=1 ;;
         lint) words='--k --format --help' files=1 ;;
         lsp) words='--help' ;;
         check) words='--k --help' files=1 ;;

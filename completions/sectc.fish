@@ -47,6 +47,7 @@ complete -c sectc -n __fish_use_subcommand -a run -d 'runs the compiled program 
 complete -c sectc -n '__fish_seen_subcommand_from run' -l k -x -a '0 1 2 3' -d 'the most fields of a path in a lock, 0 to 3 (default 2)'
 complete -c sectc -n '__fish_seen_subcommand_from run' -l format -x -a 'text json' -d 'how the answer is printed, text or json (default text)'
 complete -c sectc -n '__fish_seen_subcommand_from run' -l fuel -x -a '' -d 'the units of fuel of each thread, 1 to 1000000 (default 10000)'
+complete -c sectc -n '__fish_seen_subcommand_from run' -l time -d 'tells on standard error what the run took, and what its threads waited for'
 complete -c sectc -n '__fish_seen_subcommand_from run' -a '(__fish_complete_suffix .sect)'
 complete -c sectc -n __fish_use_subcommand -a lint -d 'tells what is wrong with the source text, and where'
 complete -c sectc -n '__fish_seen_subcommand_from lint' -l k -x -a '0 1 2 3' -d 'the most fields of a path in a lock, 0 to 3 (default 2)'

@@ -5,6 +5,7 @@ import { Heap } from "./heap.js";
 
 const OUTPUT = 1;
 const NO_FILE = 2;
+const INVALID = 22;
 const WHY = new TextEncoder().encode("No such file or directory\0");
 
 /** The program has ended with a status. */
@@ -51,6 +52,12 @@ export class Run {
   /** There are no files here. */
   open() {
     this.errno = NO_FILE;
+    return -1;
+  }
+
+  /** There is no clock here: what a run takes isn't known. */
+  clock() {
+    this.errno = INVALID;
     return -1;
   }
 
@@ -105,6 +112,7 @@ export class Run {
       __read: (_stream, address, length) => this.read(address, length),
       write: (stream, address, length) => this.write(stream, address, length),
       __write: (stream, address, length) => this.write(stream, address, length),
+      clock_gettime: () => this.clock(),
       open: () => this.open(),
       close: done,
       __xpg_strerror_r: (_errno, address, length) => this.why(address, length),

@@ -3,4 +3,5 @@ mod Cutting
 mod Lines
 mod Outcoming
 mod Refusing
+mod Running
 mod Scheduled

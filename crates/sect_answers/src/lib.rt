@@ -20,6 +20,7 @@ mod run;
 mod schedule;
 mod serial;
 mod splitting;
+mod times;
 mod turns;
 
 pub use c::program_in_c;
@@ -36,6 +37,6 @@ pub use outcomes::all_outcomes;
 pub use placing::put_mistake_place;
 pub use printing::put_refusal;
 pub use refusal::Refusal;
-pub use run::run_outcome;
+pub use run::{Timed, run_outcome, timed_outcome};
 pub use schedule::schedule_outcome;
 pub use serial::serial_outcome;

@@ -11,11 +11,13 @@ ghost use Rattle.sect_answers.specs.{Formats.{outcome_in}, Running.{IsOutcomeOfR
 use crate::format::Format;
 use crate::outcome::outcome_printed;
 use crate::refusal::Refusal;
+use crate::times::{Reading, put_times};
 use sect_emit::{Compiled, compile};
-use sect_run::{Gate, RunFault, run_threads};
+use sect_run::{Gate, Meter, RunFault, run_threads};
 use std::alloc::Global;
 use std::sync::Wait;
 use std::thread::Threads;
+use std::time::{Clock, CpuClock};
 
 /// The outcome of a source text's compiled program, run by threads that pass this gate.
 pub fn run_outcome<R: Threads + Wait + Sync, G: Gate>(
@@ -54,4 +56,54 @@ fn outcome_of<R: Threads + Wait + Sync, G: Gate>(
     let run = run_threads(rt, alloc, compiled, fuel, gate)?;
     let program = compiled.scheme().program();
     Ok(outcome_printed(alloc, program, &run.outcome, format)?)
+}
+
+/// The outcome of a run as it is printed, and lines that tell what the run took and what its threads waited for.
+#[derive(Drop)]
+pub struct Timed {
+    pub outcome: String,
+    pub times: String,
+}
+
+/// The outcome of a source text's compiled program, run by threads, and what the run took.
+pub fn timed_outcome<R: Threads + Wait + Sync + Clock + CpuClock>(
+    rt: &R,
+    alloc: Global,
+    source: &[u8],
+    k: u16,
+    fuel: u32,
+    format: Format,
+) -> Result<Timed, Refusal>
+    // The outcome is what `run_outcome` answers.
+    ensures answers { IfOk result (λ timed. IsOutcomeOfRun source.now k fuel format (string_bytes timed.outcome)) }
+    // A text that is accepted is run to its end, unless memory runs out.
+    ensures only { (s : SchemeView) → IsAccepted source.now k s → IsOkUnless result Memory }
+    // A refusal is due, and it is the first that is.
+    ensures refuses { IfErr result (IsDue source.now k) }
+{
+    let compiled = compile(alloc, source, k)?;
+    Ok(timed_of(rt, alloc, &compiled, fuel, format)?)
+}
+
+/// The outcome of a compiled program, run by threads, and what the run took.
+fn timed_of<R: Threads + Wait + Sync + Clock + CpuClock>(
+    rt: &R,
+    alloc: Global,
+    compiled: &Compiled,
+    fuel: u32,
+    format: Format,
+) -> Result<Timed, RunFault>
+    ensures { IfOk result (λ timed. (run : Run) × IsWholeRun compiled.now fuel run
+        × (string_bytes timed.outcome ≡ outcome_in format (program_of compiled.now) run.outcome)) }
+{
+    let program = compiled.scheme().program();
+    let meter = Meter::new(rt, alloc, program.thread_count())?;
+    let began = Reading::of(rt);
+    let run = run_threads(rt, alloc, compiled, fuel, &meter)?;
+    let took = Reading::of(rt).since(began);
+    let measured = meter.measured()?;
+    let mut times = String::new(alloc);
+    put_times(&mut times, program, took, &run.events, &measured)?;
+    let outcome = outcome_printed(alloc, program, &run.outcome, format)?;
+    Ok(Timed { outcome, times })
 }

@@ -8,6 +8,7 @@ use std::alloc::{AllocError, Global};
 use std::rt::Files;
 use std::sync::Wait;
 use std::thread::Threads;
+use std::time::{Clock, CpuClock};
 
 /// What a command prints on standard output and on standard error, and its status.
 #[derive(Drop)]
@@ -35,7 +36,7 @@ fn shown(alloc: Global, bytes: &[u8]) -> Result<String, AllocError> {
 
 /// What a command line answers to an input, and to the files that it names.
 fn answer_to(
-    rt: &(impl Files + Threads + Wait + Sync + AllocGlobal),
+    rt: &(impl Files + Threads + Wait + Sync + Clock + CpuClock + AllocGlobal),
     line: &str,
     input: &[u8],
 ) -> Result<Answer, AllocError> {
@@ -87,7 +88,7 @@ fn pieces_of(rt: &(impl Files + AllocGlobal), case: &Case<'_>) -> Result<Vec<u8>
 
 /// What the command of a case answers, to an editor a line for each message.
 pub fn answer_of(
-    rt: &(impl Files + Threads + Wait + Sync + AllocGlobal),
+    rt: &(impl Files + Threads + Wait + Sync + Clock + CpuClock + AllocGlobal),
     case: &Case<'_>,
 ) -> Result<Answer, Failure> {
     let pieces = pieces_of(rt, case)?;

@@ -9,6 +9,7 @@ use std::io::Write;
 use std::rt::Files;
 use std::sync::Wait;
 use std::thread::Threads;
+use std::time::{Clock, CpuClock};
 
 /// How many cases were run, and how many of them differ from what they say.
 #[derive(Clone, Copy)]
@@ -19,7 +20,7 @@ struct Tally {
 
 /// Runs a case, prints how its answer differs if it does, and says whether it is as expected.
 fn run_case(
-    rt: &(impl Files + Threads + Wait + Sync + AllocGlobal),
+    rt: &(impl Files + Threads + Wait + Sync + Clock + CpuClock + AllocGlobal),
     name: &str,
     case: &Case<'_>,
     output: &mut impl Write,
@@ -34,7 +35,7 @@ fn run_case(
 
 /// Runs the cases of a file.
 fn run_file(
-    rt: &(impl Files + Threads + Wait + Sync + AllocGlobal),
+    rt: &(impl Files + Threads + Wait + Sync + Clock + CpuClock + AllocGlobal),
     name: &str,
     output: &mut impl Write,
 ) -> Result<Tally, Failure> {
@@ -66,7 +67,7 @@ fn put_file(output: &mut impl Write, name: &str, tally: Tally) -> Result<bool, F
 
 /// Runs the files of these names but the first, which is the program's. It says whether all cases are as expected.
 pub fn run_files(
-    rt: &(impl Files + Threads + Wait + Sync + AllocGlobal),
+    rt: &(impl Files + Threads + Wait + Sync + Clock + CpuClock + AllocGlobal),
     names: &[String],
     output: &mut impl Write,
 ) -> Result<bool, Failure> {

@@ -8,7 +8,7 @@ use Rattle.sect_command.specs.Saying.{SaysNumber, flag_in, values_in}
 use Rattle.sect_command.specs.declared.request.Request.{Request}
 use Rattle.sect_command.specs.declared.request.Request.TheVariants.{Locks, Compile, C, Explain, Conflicts, Graph}
 use Rattle.sect_command.specs.declared.request.Request.TheVariants.{Inspect, Check, Serial, Outcomes, Schedule}
-use Rattle.sect_command.specs.declared.request.Request.TheVariants.{Chart, Run, Lint}
+use Rattle.sect_command.specs.declared.request.Request.TheVariants.{Chart, Run, TimedRun, Lint}
 use Rattle.sect_command.specs.declared.subcommand.Subcommand.{Subcommand}
 use Rattle.sect_command.specs.declared.subcommand.Subcommand.TheVariants as subcommand
 
@@ -27,6 +27,7 @@ subcommand_of (Outcomes fuel most format) = subcommand.Outcomes
 subcommand_of (Schedule k fuel schedule format) = subcommand.Schedule
 subcommand_of (Chart k fuel schedule) = subcommand.Schedule
 subcommand_of (Run k fuel format) = subcommand.Run
+subcommand_of (TimedRun k fuel format) = subcommand.Run
 subcommand_of (Check k) = subcommand.Check
 
 abbrev pub IsFormat : Found → Format → Type 0
@@ -60,7 +61,10 @@ IsSaid found behind (Schedule k fuel schedule f) =
 IsSaid found behind (Chart k fuel schedule) =
     SaysK found k × IsFuel found fuel × AreOperands found behind schedule.items × IsFormat found format.Text
     × SaysFlag (flag_in found (codes "chart")) true
-IsSaid found behind (Run k fuel f) = SaysK found k × IsFuel found fuel × IsFormat found f
+IsSaid found behind (Run k fuel f) =
+    SaysK found k × IsFuel found fuel × IsFormat found f × SaysFlag (flag_in found (codes "time")) false
+IsSaid found behind (TimedRun k fuel f) =
+    SaysK found k × IsFuel found fuel × IsFormat found f × SaysFlag (flag_in found (codes "time")) true
 IsSaid found behind (Check k) = SaysK found k
 
 -- the subcommand makes the request by these options, and the words behind them

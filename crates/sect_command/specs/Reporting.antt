@@ -51,7 +51,7 @@ pub record AddsAnswer (asked : Asked) (name : List ℕ) (answer : Answer) (befor
   pub text : after.text.items ≡ before.text.items
       ++ (if has_headings asked then heading before.text.items name else []) ++ answer.text.items
   pub status : after.status ≡ max before.status answer.status
-  pub complaints : after.complaints.items ≡ before.complaints.items
+  pub complaints : after.complaints.items ≡ before.complaints.items ++ answer.remarks.items
 
 -- it is added that the text of this name can't be read, and why
 pub record AddsComplaint (name : List ℕ) (before after : Report) : Type 0 where

@@ -1,5 +1,5 @@
 -- What a request is answered of a source text.
-use Rattle.std.specs.Prelude.{◌≡◌, ◌≢◌, ◌⊎◌, ◌++◌, ℕ, Bool, true, false, not, if◌then◌else◌, List, [], codes}
+use Rattle.std.specs.Prelude.{◌≡◌, ◌≢◌, ◌⊎◌, ◌++◌, ℕ, Bool, true, false, not, if◌then◌else◌, List, [], codes, ⊤}
 use Rattle.std.specs.{Prelude.{Option, Some, None}, Str.{bytes_eq}}
 use Rattle.sect_infer.specs.Workers.{AreOffered}
 use Rattle.sect_answers.specs.{Answers.{IsAnswer, IsDue}, Charting.{IsCharted}, Checking.{IsValidInput, IsCheckDue}}
@@ -16,7 +16,7 @@ use Rattle.sect_command.specs.declared.request.Form.TheVariants.{Listing, Docume
 use Rattle.sect_command.specs.declared.request.Request.{Request}
 use Rattle.sect_command.specs.declared.request.Request.TheVariants.{Locks, Compile, C, Explain, Conflicts, Graph}
 use Rattle.sect_command.specs.declared.request.Request.TheVariants.{Inspect, Check, Serial, Outcomes, Schedule, Chart}
-use Rattle.sect_command.specs.declared.request.Request.TheVariants.{Run, Lint}
+use Rattle.sect_command.specs.declared.request.Request.TheVariants.{Run, TimedRun, Lint}
 use Rattle.sect_answers.specs.declared.refusal.Refusal.TheVariants as refusal
 
 -- the threads of an order or a schedule; of another request none
@@ -48,6 +48,7 @@ Answers name (Outcomes fuel most format) source bytes = AreAllOutcomes source fu
 Answers name (Schedule k fuel schedule format) source bytes = IsScheduled source k fuel schedule.items format bytes
 Answers name (Chart k fuel schedule) source bytes = IsCharted source k fuel schedule.items bytes
 Answers name (Run k fuel format) source bytes = IsOutcomeOfRun source k fuel format bytes
+Answers name (TimedRun k fuel format) source bytes = IsOutcomeOfRun source k fuel format bytes
 Answers name (Graph k section) source bytes = IsProgramGraph source k section bytes
 Answers name (Lint k format) source bytes = IsUnblamed (file_of name) source k format bytes
 Answers name (Inspect k) source bytes = IsInspection source k bytes
@@ -65,6 +66,7 @@ IsRefusalDue name (Outcomes fuel most format) source = IsOutcomesDue source fuel
 IsRefusalDue name (Schedule k fuel schedule format) source = IsScheduleDue source k schedule.items
 IsRefusalDue name (Chart k fuel schedule) source = IsScheduleDue source k schedule.items
 IsRefusalDue name (Run k fuel format) source = IsDue source k
+IsRefusalDue name (TimedRun k fuel format) source = IsDue source k
 IsRefusalDue name (Graph k section) source = IsGraphDue source k section
 IsRefusalDue name (Lint k format) source = IsLintDue (file_of name) source k format
 IsRefusalDue name (Inspect k) source = IsLintDue None source k Json
@@ -92,6 +94,7 @@ path_length_of (Outcomes fuel most format) = 2
 path_length_of (Schedule k fuel schedule format) = k
 path_length_of (Chart k fuel schedule) = k
 path_length_of (Run k fuel format) = k
+path_length_of (TimedRun k fuel format) = k
 path_length_of (Graph k section) = k
 path_length_of (Lint k format) = k
 path_length_of (Inspect k) = k
@@ -116,9 +119,25 @@ IsMarkedLine true name request source why line =
 abbrev pub IsLineFor : List ℕ → Request → List ℕ → Refusal → List ℕ → Type 0
 IsLineFor name request source why = IsMarkedLine (is_marked name why) name request source why
 
--- the answer is done with what is requested of the source of this name, or it is the line of a refusal that is due
+-- what may be said on standard error of an answer: what a run took, where that is asked for, and else nothing
+abbrev pub MayRemark : Request → List ℕ → Type 0
+MayRemark (TimedRun k fuel format) remarks = ⊤
+MayRemark request remarks = remarks ≡ []
+
+-- the answer is what is requested of the source of this name
+pub record IsDone (name : List ℕ) (request : Request) (source : List ℕ) (answer : Answer) : Type 0 where
+  pub status : answer.status ≡ done
+  pub text : Answers name request source answer.text.items
+  pub remarks : MayRemark request answer.remarks.items
+
+-- the answer is the line of a refusal that is due, of the source of this name
+pub record IsRefused (name : List ℕ) (request : Request) (source : List ℕ) (answer : Answer) : Type 0 where
+  pub why : Refusal
+  pub told : why ≢ refusal.Memory
+  pub due : IsRefusalDue name request source why
+  pub status : answer.status ≡ refused
+  pub line : IsLineFor name request source why answer.text.items
+  pub remarks : answer.remarks.items ≡ []
+
 abbrev pub IsRightFor : List ℕ → Request → List ℕ → Answer → Type 0
-IsRightFor name request source answer =
-    ((answer.status ≡ done) × Answers name request source answer.text.items)
-    ⊎ ((answer.status ≡ refused) × ((why : Refusal) × (why ≢ refusal.Memory) × IsRefusalDue name request source why
-    × IsLineFor name request source why answer.text.items))
+IsRightFor name request source answer = IsDone name request source answer ⊎ IsRefused name request source answer

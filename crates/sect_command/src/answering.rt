@@ -3,7 +3,7 @@
 ghost use Rattle.std.specs.Prelude.{◌≡◌, ◌++◌, [], if◌then◌else◌, IfOk, IfErr, OnOk, option_map};
 ghost use Rattle.std.specs.String.{string_bytes};
 ghost use Rattle.sect_command.specs.declared.failure.Failure.TheVariants.{Memory};
-ghost use Rattle.sect_command.specs.Requests.{AddsPlaceOf, Answers, IsLineFor, IsRefusalDue, IsRightFor};
+ghost use Rattle.sect_command.specs.Requests.{AddsPlaceOf, Answers, IsDone, IsLineFor, IsRefusalDue, IsRightFor};
 ghost use Rattle.sect_command.specs.Requests.{file_of as file_by, is_marked as is_marked_for, threads_of};
 ghost use Rattle.sect_command.specs.Reporting.{AddsComplaint, AddsRight, AddsText, IsGiven, IsReport};
 ghost use Rattle.sect_command.specs.Reporting.{has_headings, heading};
@@ -17,7 +17,7 @@ use sect_answers::{
     Format, Refusal, all_outcomes, findings, inspection, locks, program_certificate,
     program_conflicts, program_document, program_explanation, program_graph, program_in_c,
     program_listing, put_mistake_place, put_refusal, run_outcome, schedule_chart, schedule_outcome,
-    serial_outcome, verdict,
+    serial_outcome, timed_outcome, verdict,
 };
 use sect_lint::LintFormat;
 use sect_run::OpenGate;
@@ -26,13 +26,14 @@ use std::io;
 use std::io::{ErrorKind, Read};
 use std::sync::Wait;
 use std::thread::Threads;
+use std::time::{Clock, CpuClock};
 
 /// The name that stands for standard input.
 pub const INPUT: &str = "-";
 
 /// A request with all that its answers come from: threads, named texts, and the text on standard input.
 #[derive(Drop)]
-struct Setting<'a, R: Threads + Wait + Sync, T: Texts> {
+struct Setting<'a, R: Threads + Wait + Sync + Clock + CpuClock, T: Texts> {
     rt: &'a R,
     texts: &'a T,
     asked: &'a Asked,
@@ -54,7 +55,7 @@ fn file_of(name: &str) -> Option<&str>
 }
 
 /// What is answered to each text of which a request is asked, one after another.
-pub fn reported<R: Threads + Wait + Sync, T: Texts, I: Read + Drop>(
+pub fn reported<R: Threads + Wait + Sync + Clock + CpuClock, T: Texts, I: Read + Drop>(
     rt: &R,
     alloc: Global,
     texts: &T,
@@ -100,7 +101,7 @@ fn given_text<I: Read + Drop>(
 }
 
 /// Adds what is answered to the text of a name.
-fn add_text<R: Threads + Wait + Sync, T: Texts>(
+fn add_text<R: Threads + Wait + Sync + Clock + CpuClock, T: Texts>(
     alloc: Global,
     setting: &Setting<'_, R, T>,
     name: &str,
@@ -120,7 +121,7 @@ fn add_text<R: Threads + Wait + Sync, T: Texts>(
 }
 
 /// Adds what is answered to a text of this name.
-fn add_answer_to<R: Threads + Wait + Sync, T: Texts>(
+fn add_answer_to<R: Threads + Wait + Sync + Clock + CpuClock, T: Texts>(
     alloc: Global,
     setting: &Setting<'_, R, T>,
     name: &str,
@@ -133,6 +134,9 @@ fn add_answer_to<R: Threads + Wait + Sync, T: Texts>(
     let answer = worked(setting.rt, alloc, &setting.asked.request, text)?;
     put_head(&mut report.text, setting.asked, name)?;
     report.text.extend_from_slice(answer.text.as_slice())?;
+    report
+        .complaints
+        .extend_from_slice(answer.remarks.as_slice())?;
     report.status = report.status.max(answer.status);
     Ok(())
 }
@@ -181,7 +185,7 @@ fn add_complaint(
 }
 
 /// What a request is answered of a text.
-fn worked<R: Threads + Wait + Sync>(
+fn worked<R: Threads + Wait + Sync + Clock + CpuClock>(
     rt: &R,
     alloc: Global,
     request: &Request,
@@ -190,15 +194,41 @@ fn worked<R: Threads + Wait + Sync>(
     ensures answers { IfOk result (IsRightFor text.entry.name.now request.now text.entry.source.now) }
     ensures fails { IfErr result (λ failure. failure ≡ Memory) }
 {
-    let threads = request.threads().to_vec(alloc)?;
-    match printed(rt, alloc, request, threads, text) {
-        Ok(text) => Ok(Answer { status: DONE, text }),
+    match done(rt, alloc, request, text) {
+        Ok(answer) => Ok(answer),
         Err(Refusal::Memory) => Err(Failure::Memory),
         Err(refusal) => Ok(Answer {
             status: REFUSED,
             text: refusal_line(alloc, request, text, &refusal)?.into_bytes(),
+            remarks: Vec::new(alloc),
         }),
     }
+}
+
+/// The answer to a request that is not refused.
+fn done<R: Threads + Wait + Sync + Clock + CpuClock>(
+    rt: &R,
+    alloc: Global,
+    request: &Request,
+    text: Text<'_>,
+) -> Result<Answer, Refusal>
+    ensures answers { IfOk result (IsDone text.entry.name.now request.now text.entry.source.now) }
+    ensures refuses { IfErr result (IsRefusalDue text.entry.name.now request.now text.entry.source.now) }
+{
+    if let Request::TimedRun { k, fuel, format } = request {
+        let timed = timed_outcome(rt, alloc, text.source, *k, *fuel, *format)?;
+        return Ok(Answer {
+            status: DONE,
+            text: timed.outcome.into_bytes(),
+            remarks: timed.times.into_bytes(),
+        });
+    }
+    let threads = request.threads().to_vec(alloc)?;
+    Ok(Answer {
+        status: DONE,
+        text: printed(rt, alloc, request, threads, text)?,
+        remarks: Vec::new(alloc),
+    })
 }
 
 /// The line of a refusal. Before it stands the name of the file whose text is refused, and where its mistake stands.
@@ -251,7 +281,7 @@ fn is_marked(name: &str, refusal: &Refusal) -> bool
 }
 
 /// What is printed for a request, with a copy of its threads, that is not refused.
-fn printed<R: Threads + Wait + Sync>(
+fn printed<R: Threads + Wait + Sync + Clock + CpuClock>(
     rt: &R,
     alloc: Global,
     request: &Request,
@@ -301,7 +331,7 @@ fn printed<R: Threads + Wait + Sync>(
         Request::Chart { k, fuel, .. } => {
             Ok(schedule_chart(alloc, source, *k, *fuel, threads)?.into_bytes())
         }
-        Request::Run { k, fuel, format } => {
+        Request::Run { k, fuel, format } | Request::TimedRun { k, fuel, format } => {
             Ok(run_outcome(rt, alloc, source, *k, *fuel, &OpenGate, *format)?.into_bytes())
         }
         Request::Graph { k, section } => program_graph(alloc, source, *k, *section),

@@ -18,6 +18,7 @@ use std::alloc::Global;
 use std::io::{Read, Write};
 use std::sync::Wait;
 use std::thread::Threads;
+use std::time::{Clock, CpuClock};
 
 /// What a run writes that lacked memory.
 pub const OUT_OF_MEMORY: &[u8] = b"out of memory\n";
@@ -39,7 +40,7 @@ struct Ended {
 /// Judges the words (the program's name first), reads the whole input, works, and writes the answer; or serves an
 /// editor, if they ask for that. It gives the exit status: 0 done, 1 refused, 2 the words are wrong, 3 want of memory,
 /// or the input or the output failed. There are no files: one that the words name can't be read.
-pub fn command<R: Threads + Wait + Sync + AllocGlobal, I: Read + Drop, O: Write>(
+pub fn command<R: Threads + Wait + Sync + Clock + CpuClock + AllocGlobal, I: Read + Drop, O: Write>(
     rt: &R,
     words: &[String],
     input: I,
@@ -53,7 +54,7 @@ pub fn command<R: Threads + Wait + Sync + AllocGlobal, I: Read + Drop, O: Write>
 /// As `command`, for words that may name texts. What is said of one that can't be read goes to standard error, the
 /// status is 3 then, and the others are answered.
 pub fn command_on_texts<
-    R: Threads + Wait + Sync + AllocGlobal,
+    R: Threads + Wait + Sync + Clock + CpuClock + AllocGlobal,
     T: Texts,
     I: Read + Drop,
     O: Write,
@@ -70,7 +71,7 @@ pub fn command_on_texts<
 }
 
 /// Judges the words and answers what they ask for.
-fn answered<R: Threads + Wait + Sync + AllocGlobal, T: Texts, I: Read + Drop, O: Write>(
+fn answered<R: Threads + Wait + Sync + Clock + CpuClock + AllocGlobal, T: Texts, I: Read + Drop, O: Write>(
     rt: &R,
     words: &[String],
     texts: &T,

@@ -92,6 +92,12 @@ const CHART: Argument = Argument {
     help: "prints a column for each thread and a row for each turn, with what waits for what",
 };
 
+const TIME: Argument = Argument {
+    name: "time",
+    given: Given::Alone,
+    help: "tells on standard error what the run took, and what its threads waited for",
+};
+
 const ORDER: Argument = Argument {
     name: "threads",
     given: Given::Unnamed("T"),
@@ -195,7 +201,7 @@ const COMMANDS: &[Row] = &[
         subcommand: Subcommand::Run,
         name: "run",
         about: "runs the compiled program of the source text by threads, and prints the outcome",
-        takes: &[K, FORMAT, FUEL, FILE],
+        takes: &[K, FORMAT, FUEL, TIME, FILE],
     },
     Row {
         subcommand: Subcommand::Lint,

@@ -1,6 +1,6 @@
 //! What the words of a command line ask for: each subcommand's request, by its options.
 
-ghost use Rattle.std.specs.Prelude.{◌≡◌, [], IfOk, map};
+ghost use Rattle.std.specs.Prelude.{◌≡◌, ℕ, List, IfOk, map};
 ghost use Rattle.std.specs.String.{string_bytes};
 ghost use Rattle.clap.specs.Matches.{found_of};
 ghost use Rattle.sect_command.specs.{Asking.{IsMade, IsRequested, files_in}, Saying.{SaysK, SaysForm}};
@@ -110,7 +110,7 @@ fn k_of(alloc: Global, options: &ArgMatches<'_>) -> Result<u16, UsageFault>
 
 /// What `locks` asks for by its options.
 fn locks_request(alloc: Global, options: &ArgMatches<'_>) -> Result<Request, UsageFault>
-    ensures { IfOk result (IsMade subcommand.Locks (found_of options.now) []) }
+    ensures { IfOk result (λ r. (behind : List (List ℕ)) → IsMade subcommand.Locks (found_of options.now) behind r) }
 {
     let k = k_of(alloc, options)?;
     let format = format_of(alloc, options)?;
@@ -119,7 +119,7 @@ fn locks_request(alloc: Global, options: &ArgMatches<'_>) -> Result<Request, Usa
 
 /// What `c` asks for by its options.
 fn c_request(alloc: Global, options: &ArgMatches<'_>) -> Result<Request, UsageFault>
-    ensures { IfOk result (IsMade subcommand.C (found_of options.now) []) }
+    ensures { IfOk result (λ r. (behind : List (List ℕ)) → IsMade subcommand.C (found_of options.now) behind r) }
 {
     let k = k_of(alloc, options)?;
     Ok(Request::C { k })
@@ -127,7 +127,7 @@ fn c_request(alloc: Global, options: &ArgMatches<'_>) -> Result<Request, UsageFa
 
 /// What `explain` asks for by its options.
 fn explain_request(alloc: Global, options: &ArgMatches<'_>) -> Result<Request, UsageFault>
-    ensures { IfOk result (IsMade subcommand.Explain (found_of options.now) []) }
+    ensures { IfOk result (λ r. (behind : List (List ℕ)) → IsMade subcommand.Explain (found_of options.now) behind r) }
 {
     let k = k_of(alloc, options)?;
     let format = format_of(alloc, options)?;
@@ -136,7 +136,7 @@ fn explain_request(alloc: Global, options: &ArgMatches<'_>) -> Result<Request, U
 
 /// What `conflicts` asks for by its options.
 fn conflicts_request(alloc: Global, options: &ArgMatches<'_>) -> Result<Request, UsageFault>
-    ensures { IfOk result (IsMade subcommand.Conflicts (found_of options.now) []) }
+    ensures { IfOk result (λ r. (behind : List (List ℕ)) → IsMade subcommand.Conflicts (found_of options.now) behind r) }
 {
     let k = k_of(alloc, options)?;
     let format = format_of(alloc, options)?;
@@ -145,7 +145,7 @@ fn conflicts_request(alloc: Global, options: &ArgMatches<'_>) -> Result<Request,
 
 /// What `inspect` asks for by its options.
 fn inspect_request(alloc: Global, options: &ArgMatches<'_>) -> Result<Request, UsageFault>
-    ensures { IfOk result (IsMade subcommand.Inspect (found_of options.now) []) }
+    ensures { IfOk result (λ r. (behind : List (List ℕ)) → IsMade subcommand.Inspect (found_of options.now) behind r) }
 {
     let k = k_of(alloc, options)?;
     Ok(Request::Inspect { k })
@@ -153,7 +153,7 @@ fn inspect_request(alloc: Global, options: &ArgMatches<'_>) -> Result<Request, U
 
 /// What `graph` asks for by its options.
 fn graph_request(alloc: Global, options: &ArgMatches<'_>) -> Result<Request, UsageFault>
-    ensures { IfOk result (IsMade subcommand.Graph (found_of options.now) []) }
+    ensures { IfOk result (λ r. (behind : List (List ℕ)) → IsMade subcommand.Graph (found_of options.now) behind r) }
 {
     let k = k_of(alloc, options)?;
     let section = number_of(alloc, options, "section")?;
@@ -162,7 +162,7 @@ fn graph_request(alloc: Global, options: &ArgMatches<'_>) -> Result<Request, Usa
 
 /// What `lint` asks for by its options.
 fn lint_request(alloc: Global, options: &ArgMatches<'_>) -> Result<Request, UsageFault>
-    ensures { IfOk result (IsMade subcommand.Lint (found_of options.now) []) }
+    ensures { IfOk result (λ r. (behind : List (List ℕ)) → IsMade subcommand.Lint (found_of options.now) behind r) }
 {
     let k = k_of(alloc, options)?;
     let format = lint_format_of(alloc, options)?;
@@ -171,7 +171,7 @@ fn lint_request(alloc: Global, options: &ArgMatches<'_>) -> Result<Request, Usag
 
 /// What `check` asks for by its options.
 fn check_request(alloc: Global, options: &ArgMatches<'_>) -> Result<Request, UsageFault>
-    ensures { IfOk result (IsMade subcommand.Check (found_of options.now) []) }
+    ensures { IfOk result (λ r. (behind : List (List ℕ)) → IsMade subcommand.Check (found_of options.now) behind r) }
 {
     let k = k_of(alloc, options)?;
     Ok(Request::Check { k })
@@ -197,7 +197,7 @@ fn serial_request(
 
 /// What `outcomes` asks for by its options.
 fn outcomes_request(alloc: Global, options: &ArgMatches<'_>) -> Result<Request, UsageFault>
-    ensures { IfOk result (IsMade subcommand.Outcomes (found_of options.now) []) }
+    ensures { IfOk result (λ r. (behind : List (List ℕ)) → IsMade subcommand.Outcomes (found_of options.now) behind r) }
 {
     let fuel = FUEL.of(alloc, options)?;
     let most = STATES.of(alloc, options)?;
@@ -230,17 +230,21 @@ fn schedule_request(
 
 /// What `run` asks for by its options.
 fn run_request(alloc: Global, options: &ArgMatches<'_>) -> Result<Request, UsageFault>
-    ensures { IfOk result (IsMade subcommand.Run (found_of options.now) []) }
+    ensures { IfOk result (λ r. (behind : List (List ℕ)) → IsMade subcommand.Run (found_of options.now) behind r) }
 {
     let k = k_of(alloc, options)?;
     let fuel = FUEL.of(alloc, options)?;
     let format = format_of(alloc, options)?;
-    Ok(Request::Run { k, fuel, format })
+    if options.get_flag("time") {
+        Ok(Request::TimedRun { k, fuel, format })
+    } else {
+        Ok(Request::Run { k, fuel, format })
+    }
 }
 
 /// What `compile` asks for by its options.
 fn compile_request(alloc: Global, options: &ArgMatches<'_>) -> Result<Request, UsageFault>
-    ensures { IfOk result (IsMade subcommand.Compile (found_of options.now) []) }
+    ensures { IfOk result (λ r. (behind : List (List ℕ)) → IsMade subcommand.Compile (found_of options.now) behind r) }
 {
     let k = k_of(alloc, options)?;
     let workers = number_or(alloc, options, "workers", DEFAULT_WORKERS)?;

@@ -85,6 +85,12 @@ pub enum Request {
         fuel: u32,
         format: Format,
     },
+    /// The same run, and on standard error what it took and what its threads waited for.
+    TimedRun {
+        k: u16,
+        fuel: u32,
+        format: Format,
+    },
     /// Whether a certificate is valid for the source behind it, with paths of at most k fields.
     Check {
         k: u16,
@@ -123,6 +129,7 @@ impl Request {
             | Request::Schedule { k, .. }
             | Request::Chart { k, .. }
             | Request::Run { k, .. }
+            | Request::TimedRun { k, .. }
             | Request::Graph { k, .. }
             | Request::Lint { k, .. }
             | Request::Inspect { k }

@@ -19,6 +19,7 @@ use std::process::Abort;
 use std::sync::Wait;
 use std::test::Fail;
 use std::thread::Threads;
+use std::time::{Clock, CpuClock};
 
 /// Two threads that add to one object.
 const TWO_ADD: &str = "record Acct { int bal; }
@@ -56,7 +57,7 @@ fn words_of(alloc: Global, line: &str) -> Result<Vec<String>, AllocError> {
 
 /// Runs a command line on an input, and returns the status.
 fn status_of(
-    rt: &(impl Threads + Wait + Sync + AllocGlobal + Abort),
+    rt: &(impl Threads + Wait + Sync + Clock + CpuClock + AllocGlobal + Abort),
     line: &str,
     input: &[u8],
     out: &mut Vec<u8>,
@@ -73,7 +74,7 @@ fn text_of(alloc: Global, bytes: &[u8]) -> Result<String, AllocError> {
 
 /// What a command line prints of an input, and the status.
 fn answer_of(
-    rt: &(impl Threads + Wait + Sync + AllocGlobal + Abort),
+    rt: &(impl Threads + Wait + Sync + Clock + CpuClock + AllocGlobal + Abort),
     line: &str,
     input: &[u8],
 ) -> Result<(u8, String), Fail> {
@@ -84,7 +85,7 @@ fn answer_of(
 
 /// Runs a command line on a source, and compares the status and the text.
 fn expect_bytes(
-    rt: &(impl Threads + Wait + Sync + AllocGlobal + Abort),
+    rt: &(impl Threads + Wait + Sync + Clock + CpuClock + AllocGlobal + Abort),
     line: &str,
     source: &[u8],
     status: u8,
@@ -98,7 +99,7 @@ fn expect_bytes(
 
 /// A run of a program of two sections, of thread 0 and of thread 1, comes to what they come to in their order.
 fn expect_run_in_order(
-    rt: &(impl Threads + Wait + Sync + AllocGlobal + Abort),
+    rt: &(impl Threads + Wait + Sync + Clock + CpuClock + AllocGlobal + Abort),
     source: &str,
 ) -> Result<(), Fail> {
     let (status, shown) = answer_of(rt, "run", source.as_bytes())?;
@@ -113,7 +114,7 @@ fn expect_run_in_order(
 
 /// So many runs of a program of two sections come to what they come to in their order.
 fn expect_runs_in_order(
-    rt: &(impl Threads + Wait + Sync + AllocGlobal + Abort),
+    rt: &(impl Threads + Wait + Sync + Clock + CpuClock + AllocGlobal + Abort),
     source: &str,
     count: u8,
 ) -> Result<(), Fail> {

@@ -8,6 +8,7 @@ use std::process::Abort;
 use std::sync::Wait;
 use std::test::Fail;
 use std::thread::Threads;
+use std::time::{Clock, CpuClock};
 
 /// Numbers that look like chance, the same ones each time.
 #[derive(Drop)]
@@ -58,7 +59,7 @@ const TEXTS: u16 = 360;
 
 /// The text with some changes is answered, or refused by name.
 fn expect_answered(
-    rt: &(impl Threads + Wait + Sync + AllocGlobal + Abort),
+    rt: &(impl Threads + Wait + Sync + Clock + CpuClock + AllocGlobal + Abort),
     source: &[u8],
     chance: &mut Chance,
 ) -> Result<(), Fail> {
@@ -120,7 +121,7 @@ fn expect_same_entries(
 
 /// A certificate with some changes, and the source text behind it, is judged.
 fn expect_judged(
-    rt: &(impl Threads + Wait + Sync + AllocGlobal + Abort),
+    rt: &(impl Threads + Wait + Sync + Clock + CpuClock + AllocGlobal + Abort),
     certificate: &str,
     source: &[u8],
     chance: &mut Chance,
@@ -136,7 +137,7 @@ fn expect_judged(
 
 /// The certificate of a program, with some changes each time, is judged.
 fn expect_all_judged(
-    rt: &(impl Threads + Wait + Sync + AllocGlobal + Abort),
+    rt: &(impl Threads + Wait + Sync + Clock + CpuClock + AllocGlobal + Abort),
     source: &[u8],
     chance: &mut Chance,
 ) -> Result<(), Fail> {

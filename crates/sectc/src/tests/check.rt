@@ -5,6 +5,7 @@ use std::process::Abort;
 use std::sync::Wait;
 use std::test::Fail;
 use std::thread::Threads;
+use std::time::{Clock, CpuClock};
 
 /// A program whose section adds one to a field of a global.
 const ADDING: &str = "record Acct { int bal; }
@@ -19,7 +20,7 @@ const CERTIFICATE: &[u8] =
 
 /// The bytes before a program are no certificate.
 fn expect_no_certificate(
-    rt: &(impl Threads + Wait + Sync + AllocGlobal + Abort),
+    rt: &(impl Threads + Wait + Sync + Clock + CpuClock + AllocGlobal + Abort),
     bytes: &[u8],
 ) -> Result<(), Fail> {
     let mut input = Vec::from_slice(rt.alloc(), bytes)?;

@@ -6,6 +6,7 @@ use std::process::Abort;
 use std::sync::Wait;
 use std::test::Fail;
 use std::thread::Threads;
+use std::time::{Clock, CpuClock};
 
 /// The refusals of a source text, up to the number of a line, an item or a record.
 const REFUSED: [&str; 18] = [
@@ -67,7 +68,7 @@ fn is_one_of(text: &str, refusals: &[&str]) -> bool {
 
 /// What `locks` answers to a source text, which is refused as one of these if it is refused.
 fn expect_known(
-    rt: &(impl Threads + Wait + Sync + AllocGlobal + Abort),
+    rt: &(impl Threads + Wait + Sync + Clock + CpuClock + AllocGlobal + Abort),
     source: &[u8],
     refusals: &[&str],
 ) -> Result<(u8, String), Fail> {
@@ -79,7 +80,7 @@ fn expect_known(
 
 /// A command answers a source text that `locks` answers, and refuses another by the same line.
 fn expect_alike(
-    rt: &(impl Threads + Wait + Sync + AllocGlobal + Abort),
+    rt: &(impl Threads + Wait + Sync + Clock + CpuClock + AllocGlobal + Abort),
     line: &str,
     source: &[u8],
     status: u8,
@@ -93,7 +94,7 @@ fn expect_alike(
 
 /// `compile`, `schedule` and `run` answer a source text that `locks` answers, and refuse another by the same line.
 fn expect_all_alike(
-    rt: &(impl Threads + Wait + Sync + AllocGlobal + Abort),
+    rt: &(impl Threads + Wait + Sync + Clock + CpuClock + AllocGlobal + Abort),
     source: &[u8],
     status: u8,
     shown: &str,
@@ -106,7 +107,7 @@ fn expect_all_alike(
 
 /// `serial` refuses a source text by the line of `locks`, but for hints, and else answers it or misses its sections.
 fn expect_serial(
-    rt: &(impl Threads + Wait + Sync + AllocGlobal + Abort),
+    rt: &(impl Threads + Wait + Sync + Clock + CpuClock + AllocGlobal + Abort),
     source: &[u8],
     status: u8,
     shown: &str,
@@ -148,7 +149,7 @@ fn expect_named(rt: &(impl AllocGlobal + Abort), report: &str, refused: &str) ->
 
 /// `lint` accepts a source text that `locks` answers, and reports of another the mistake for which `locks` refuses it.
 pub(super) fn expect_linted(
-    rt: &(impl Threads + Wait + Sync + AllocGlobal + Abort),
+    rt: &(impl Threads + Wait + Sync + Clock + CpuClock + AllocGlobal + Abort),
     source: &[u8],
 ) -> Result<(), Fail> {
     let (status, shown) = expect_known(rt, source, &REFUSED)?;
@@ -162,7 +163,7 @@ pub(super) fn expect_linted(
 
 /// Each command answers a source text, or refuses it by the line by which the others do, which is one of these.
 fn expect_answers(
-    rt: &(impl Threads + Wait + Sync + AllocGlobal + Abort),
+    rt: &(impl Threads + Wait + Sync + Clock + CpuClock + AllocGlobal + Abort),
     source: &[u8],
     refusals: &[&str],
 ) -> Result<(), Fail> {
@@ -172,7 +173,7 @@ fn expect_answers(
 
 /// Each command answers any source text, or refuses it by the line by which the others do.
 pub(super) fn expect_any(
-    rt: &(impl Threads + Wait + Sync + AllocGlobal + Abort),
+    rt: &(impl Threads + Wait + Sync + Clock + CpuClock + AllocGlobal + Abort),
     source: &[u8],
 ) -> Result<(), Fail> {
     expect_answers(rt, source, &REFUSED)
@@ -180,7 +181,7 @@ pub(super) fn expect_any(
 
 /// Whether `check` finds that the input is valid; it refuses it by name where it isn't.
 pub(super) fn is_valid(
-    rt: &(impl Threads + Wait + Sync + AllocGlobal + Abort),
+    rt: &(impl Threads + Wait + Sync + Clock + CpuClock + AllocGlobal + Abort),
     input: &[u8],
 ) -> Result<bool, Fail> {
     let (status, text) = answer_of(rt, "check", input)?;
@@ -192,7 +193,7 @@ pub(super) fn is_valid(
 
 /// Each beginning of a text is answered, or refused as one of these.
 fn expect_beginnings(
-    rt: &(impl Threads + Wait + Sync + AllocGlobal + Abort),
+    rt: &(impl Threads + Wait + Sync + Clock + CpuClock + AllocGlobal + Abort),
     source: &[u8],
     refusals: &[&str],
 ) -> Result<(), Fail> {
@@ -212,7 +213,7 @@ fn beginnings_of_programs(rt: HostRuntime) -> Result<(), Fail> {
 
 /// The beginning of a certificate lacks the line in which it is cut.
 fn expect_cut(
-    rt: &(impl Threads + Wait + Sync + AllocGlobal + Abort),
+    rt: &(impl Threads + Wait + Sync + Clock + CpuClock + AllocGlobal + Abort),
     begun: &[u8],
 ) -> Result<(), Fail> {
     let feeds = begun.iter().filter(|byte| **byte == b'\n').count();
@@ -223,7 +224,7 @@ fn expect_cut(
 
 /// Each beginning of a program's certificate lacks the line in which it is cut.
 fn expect_cuts(
-    rt: &(impl Threads + Wait + Sync + AllocGlobal + Abort),
+    rt: &(impl Threads + Wait + Sync + Clock + CpuClock + AllocGlobal + Abort),
     source: &str,
 ) -> Result<(), Fail> {
     let (status, certificate) = answer_of(rt, "compile --cert", source.as_bytes())?;

@@ -8,6 +8,7 @@ use std::process::Abort;
 use std::sync::Wait;
 use std::test::Fail;
 use std::thread::Threads;
+use std::time::{Clock, CpuClock};
 
 /// One text, to which every name leads.
 #[derive(Drop)]
@@ -27,7 +28,7 @@ impl Texts for OneText<'_> {
 
 /// A command line refuses a text of one bad byte, and what it prints has this in it.
 fn expect_told(
-    rt: &(impl Threads + Wait + Sync + AllocGlobal + Abort),
+    rt: &(impl Threads + Wait + Sync + Clock + CpuClock + AllocGlobal + Abort),
     line: &str,
     part: &str,
 ) -> Result<(), Fail> {

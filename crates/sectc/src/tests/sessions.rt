@@ -10,6 +10,7 @@ use std::process::Abort;
 use std::sync::Wait;
 use std::test::Fail;
 use std::thread::Threads;
+use std::time::{Clock, CpuClock};
 
 /// An editor begins, and counts by units of UTF-16.
 const BEGIN: &str =
@@ -217,7 +218,7 @@ fn are_messages(written: &str) -> bool {
 
 /// A conversation ends with the status 0 or 1, and all that is written are messages.
 fn expect_served(
-    rt: &(impl Threads + Wait + Sync + AllocGlobal + Abort),
+    rt: &(impl Threads + Wait + Sync + Clock + CpuClock + AllocGlobal + Abort),
     input: &[u8],
 ) -> Result<(), Fail> {
     let words = words_of(rt.alloc(), "lsp")?;

@@ -9,6 +9,7 @@ use std::process::Abort;
 use std::sync::Wait;
 use std::test::Fail;
 use std::thread::Threads;
+use std::time::{Clock, CpuClock};
 
 /// A certificate and the text that it is of.
 const CERTIFIED: &str =
@@ -83,7 +84,7 @@ impl Write for FailingWriter {
 
 /// A command whose input fails behind these bytes says so.
 fn expect_unread(
-    rt: &(impl Threads + Wait + Sync + AllocGlobal + Abort),
+    rt: &(impl Threads + Wait + Sync + Clock + CpuClock + AllocGlobal + Abort),
     words: &[String],
     given: &[u8],
 ) -> Result<(), Fail> {
@@ -100,7 +101,7 @@ fn expect_unread(
 
 /// A command whose input fails anywhere says so.
 fn expect_all_unread(
-    rt: &(impl Threads + Wait + Sync + AllocGlobal + Abort),
+    rt: &(impl Threads + Wait + Sync + Clock + CpuClock + AllocGlobal + Abort),
     line: &str,
     bytes: &[u8],
 ) -> Result<(), Fail> {
@@ -121,7 +122,7 @@ fn a_reader_fails_in_the_middle(rt: HostRuntime) -> Result<(), Fail> {
 
 /// The status of a command line, where there is room for so many bytes.
 fn written(
-    rt: &(impl Threads + Wait + Sync + AllocGlobal + Abort),
+    rt: &(impl Threads + Wait + Sync + Clock + CpuClock + AllocGlobal + Abort),
     words: &[String],
     input: &[u8],
     room: usize,
@@ -132,7 +133,7 @@ fn written(
 
 /// A command fails where its output does, and has its own status where all of its output is taken.
 fn expect_unwritten(
-    rt: &(impl Threads + Wait + Sync + AllocGlobal + Abort),
+    rt: &(impl Threads + Wait + Sync + Clock + CpuClock + AllocGlobal + Abort),
     words: &[String],
     input: &[u8],
     count: usize,
@@ -147,7 +148,7 @@ fn expect_unwritten(
 
 /// A command fails wherever its output does.
 fn expect_line_unwritten(
-    rt: &(impl Threads + Wait + Sync + AllocGlobal + Abort),
+    rt: &(impl Threads + Wait + Sync + Clock + CpuClock + AllocGlobal + Abort),
     line: &str,
     input: &[u8],
 ) -> Result<(), Fail> {
@@ -167,7 +168,7 @@ fn a_writer_fails_in_the_middle(rt: HostRuntime) -> Result<(), Fail> {
 
 /// A wrong command line is answered though no input can be read, and fails where its output does.
 fn expect_told(
-    rt: &(impl Threads + Wait + Sync + AllocGlobal + Abort),
+    rt: &(impl Threads + Wait + Sync + Clock + CpuClock + AllocGlobal + Abort),
     line: &str,
 ) -> Result<(), Fail> {
     let words = words_of(rt.alloc(), line)?;

@@ -11,6 +11,7 @@ use std::process::Abort;
 use std::sync::Wait;
 use std::test::Fail;
 use std::thread::Threads;
+use std::time::{Clock, CpuClock};
 
 /// The programs, and how many threads each has.
 const THREADS: &[(&str, u8)] = &[
@@ -78,7 +79,7 @@ fn order_of(outcome: &str) -> &str {
 
 /// What a schedule by which all threads end has come to.
 fn ended_by(
-    rt: &(impl Threads + Wait + Sync + AllocGlobal + Abort),
+    rt: &(impl Threads + Wait + Sync + Clock + CpuClock + AllocGlobal + Abort),
     source: &str,
     line: &str,
 ) -> Result<String, Fail> {
@@ -91,7 +92,7 @@ fn ended_by(
 
 /// All threads end by these turns, and the outcome is that of whole sections in the order that is printed.
 fn expect_serial(
-    rt: &(impl Threads + Wait + Sync + AllocGlobal + Abort),
+    rt: &(impl Threads + Wait + Sync + Clock + CpuClock + AllocGlobal + Abort),
     source: &str,
     (k, fuel): (&str, &str),
     turns: &str,
@@ -114,7 +115,7 @@ const OPTIONS: &[(&str, &str)] = &[
 
 /// These turns come to whole sections, with each of the options.
 fn expect_each_serial(
-    rt: &(impl Threads + Wait + Sync + AllocGlobal + Abort),
+    rt: &(impl Threads + Wait + Sync + Clock + CpuClock + AllocGlobal + Abort),
     source: &str,
     turns: &str,
 ) -> Result<(), Fail> {
@@ -126,7 +127,7 @@ fn expect_each_serial(
 
 /// Schedules that begin with each of so many threads come to whole sections, with stretches of so many turns.
 fn expect_stretches(
-    rt: &(impl Threads + Wait + Sync + AllocGlobal + Abort),
+    rt: &(impl Threads + Wait + Sync + Clock + CpuClock + AllocGlobal + Abort),
     source: &str,
     threads: u8,
     stretch: u8,

@@ -6,13 +6,14 @@ use std::process::Abort;
 use std::sync::Wait;
 use std::test::Fail;
 use std::thread::Threads;
+use std::time::{Clock, CpuClock};
 
 /// Command lines without a word on workers.
 const WITHOUT: &[&str] = &["compile", "compile --cert", "compile --cert --k 0"];
 
 /// So many workers print what is printed without a word on workers.
 fn expect_same_line(
-    rt: &(impl Threads + Wait + Sync + AllocGlobal + Abort),
+    rt: &(impl Threads + Wait + Sync + Clock + CpuClock + AllocGlobal + Abort),
     source: &[u8],
     without: &str,
     workers: u8,
@@ -25,7 +26,7 @@ fn expect_same_line(
 
 /// So many workers print what is printed without a word on workers, as a listing and as a certificate.
 fn expect_same(
-    rt: &(impl Threads + Wait + Sync + AllocGlobal + Abort),
+    rt: &(impl Threads + Wait + Sync + Clock + CpuClock + AllocGlobal + Abort),
     source: &str,
     workers: u8,
 ) -> Result<(), Fail> {

@@ -1,11 +1,11 @@
 -- What is reported of the texts of which a request is asked, one after another.
 use Rattle.std.specs.Prelude.{◌≡◌, ◌≢◌, ◌⊎◌, ◌++◌, ◌∷◌, ◌&&◌, not, ℕ, Bool, true, false, max, List, [], Option, IfSome}
-use Rattle.std.specs.Prelude.{codes, map, length, nat_lt, if◌then◌else◌}
+use Rattle.std.specs.Prelude.{codes, map, length, nat_lt, take, if◌then◌else◌}
 use Rattle.std.specs.{String.{string_bytes}}
 use Rattle.sect_lemmas.specs.Lists.{Has}
 use Rattle.sect_answers.specs.declared.format.Format.TheVariants as format
 use Rattle.sect_lint.specs.declared.format.LintFormat.TheVariants as lint_format
-use Rattle.sect_command.specs.{Statuses.{done, failed}, Requests.{IsRightFor, input_name}}
+use Rattle.sect_command.specs.{Statuses.{done, failed}, Requests.{IsRightFor, input_name, most_kept_of}}
 use Rattle.sect_command.specs.{declared.report.Answer.{Answer}, declared.report.Report.{Report}}
 use Rattle.sect_command.specs.{declared.request.Asked.{Asked}, declared.request.Request.{Request}}
 use Rattle.sect_command.specs.declared.request.Request.TheVariants.{Locks, Conflicts, Lint}
@@ -65,12 +65,16 @@ abbrev pub AddsRight : Asked → List ℕ → List ℕ → Report → Report →
 AddsRight asked name source before after =
     (answer : Answer) × IsRightFor name asked.request source answer × AddsAnswer asked name answer before after
 
+-- the bytes are known, and this is as much of them as is looked at, or they aren't known
+abbrev pub IsKeptOf : Asked → Option (List ℕ) → List ℕ → Type 0
+IsKeptOf asked known text = IfSome known (λ bytes. text ≡ take (most_kept_of asked.request) bytes)
+
 -- what is reported of the text of a name: the right answer to standard input, or to the text that the name leads to, as
--- far as its bytes are known, or that it can't be read
+-- far as it is looked at and its bytes are known, or that it can't be read
 abbrev pub AddsText : (List ℕ → Option (List ℕ)) → List ℕ → Asked → List ℕ → Report → Report → Type 0
 AddsText bytes_of given asked name before after =
     ((name ≡ input_name) × AddsRight asked name given before after)
-    ⊎ ((name ≢ input_name) × (((source : List ℕ) × IfSome (bytes_of name) (λ bytes. source ≡ bytes)
+    ⊎ ((name ≢ input_name) × (((source : List ℕ) × IsKeptOf asked (bytes_of name) source
     × AddsRight asked name source before after) ⊎ AddsComplaint name before after))
 
 -- the texts of these names are reported on, one after another
@@ -80,9 +84,9 @@ AddsTexts bytes_of given asked (name ∷ names) before after =
     (between : Report) × AddsText bytes_of given asked name before between
     × AddsTexts bytes_of given asked names between after
 
--- this is the text on standard input, where it is asked for and its bytes are known
+-- this is the text on standard input, as far as it is looked at, where it is asked for and its bytes are known
 abbrev pub IsGiven : Option (List ℕ) → Asked → List ℕ → Type 0
-IsGiven input asked given = Has (names_of asked) input_name → IfSome input (λ bytes. given ≡ bytes)
+IsGiven input asked given = Has (names_of asked) input_name → IsKeptOf asked input given
 
 -- all texts of which the request is asked are reported on, and no others
 pub record IsReport (bytes_of : List ℕ → Option (List ℕ)) (input : Option (List ℕ)) (asked : Asked) (report : Report)

@@ -1,6 +1,7 @@
 -- What a request is answered of a source text.
-use Rattle.std.specs.Prelude.{◌≡◌, ◌≢◌, ◌⊎◌, ◌++◌, ℕ, Bool, true, false, not, if◌then◌else◌, List, [], codes, ⊤}
+use Rattle.std.specs.Prelude.{◌≡◌, ◌≢◌, ◌⊎◌, ◌+◌, ◌++◌, ℕ, Bool, true, false, not, if◌then◌else◌, List, [], codes, ⊤}
 use Rattle.std.specs.{Prelude.{Option, Some, None}, Str.{bytes_eq}}
+use Rattle.sect_front.specs.Limits.{most_bytes}
 use Rattle.sect_infer.specs.Workers.{AreOffered}
 use Rattle.sect_answers.specs.{Answers.{IsAnswer, IsDue}, Charting.{IsCharted}, Checking.{IsValidInput, IsCheckDue}}
 use Rattle.sect_answers.specs.Compiling.{IsCertified, IsProgramListing, IsProgramDocument, IsCompileDue}
@@ -99,6 +100,12 @@ path_length_of (Graph k section) = k
 path_length_of (Lint k format) = k
 path_length_of (Inspect k) = k
 path_length_of (Check k) = k
+
+-- how many bytes of a text are looked at: one more than an accepted text may have, by which a longer one is seen to be
+-- too large; a certificate with the source behind it may have any number
+abbrev pub most_kept_of : Request → ℕ
+most_kept_of (Check k) = 18446744073709551615
+most_kept_of request = 1 + most_bytes
 
 -- where the text itself is refused, the place of its mistake is added to these bytes
 abbrev pub AddsPlaceOf : Request → List ℕ → Refusal → List ℕ → List ℕ → Type 0

@@ -12,7 +12,7 @@ use crate::failure::Failure;
 use crate::report::{Answer, Report};
 use crate::request::{Asked, Form, Request};
 use crate::statuses::{DONE, FAILED, REFUSED};
-use crate::texts::Texts;
+use crate::texts::{Texts, first_bytes};
 use sect_answers::{
     Format, Refusal, all_outcomes, findings, inspection, locks, program_certificate,
     program_conflicts, program_document, program_explanation, program_graph, program_in_c,
@@ -89,15 +89,14 @@ pub fn reported<R: Threads + Wait + Sync + Clock + CpuClock, T: Texts, I: Read +
 fn given_text<I: Read + Drop>(
     alloc: Global,
     asked: &Asked,
-    mut input: I,
+    input: I,
 ) -> Result<Vec<u8>, Failure>
     ensures { IfOk result (λ given. IsGiven (I.remaining input) asked.now given.items) }
 {
-    let mut given = Vec::new(alloc);
-    if asked.reads_input() {
-        input.read_to_end(&mut given)?;
+    if !asked.reads_input() {
+        return Ok(Vec::new(alloc));
     }
-    Ok(given)
+    Ok(first_bytes(alloc, input, asked.request.most_kept())?)
 }
 
 /// Adds what is answered to the text of a name.
@@ -113,7 +112,8 @@ fn add_text<R: Threads + Wait + Sync + Clock + CpuClock, T: Texts>(
     if name == INPUT {
         return add_answer_to(alloc, setting, name, setting.given, report);
     }
-    match setting.texts.text_of(alloc, name) {
+    let most = setting.asked.request.most_kept();
+    match setting.texts.text_of(alloc, name, most) {
         Ok(source) => add_answer_to(alloc, setting, name, source.as_slice(), report),
         Err(failed) if failed.kind() == ErrorKind::OutOfMemory => Err(Failure::Memory),
         Err(failed) => Ok(add_complaint(alloc, name, failed, report)?),

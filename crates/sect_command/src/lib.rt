@@ -19,4 +19,4 @@ mod usage;
 
 pub use dispatch::{OUT_OF_MEMORY, Writers, command, command_on_texts, told};
 pub use statuses::{DONE, FAILED, REFUSED, WRONG_WORDS, statuses_are_numbers};
-pub use texts::{NoTexts, SystemFiles, Texts};
+pub use texts::{NoTexts, SystemFiles, Texts, kept_texts_are_enough};

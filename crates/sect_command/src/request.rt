@@ -2,7 +2,7 @@
 
 ghost use Rattle.std.specs.Prelude.{◌≡◌, true};
 ghost use Rattle.sect_lemmas.specs.Lists.{Has};
-ghost use Rattle.sect_command.specs.Requests.{input_name, path_length_of, threads_of};
+ghost use Rattle.sect_command.specs.Requests.{input_name, most_kept_of, path_length_of, threads_of};
 ghost use Rattle.sect_command.specs.Reporting.{has_headings as has_headings_of, names_of};
 ghost use Rattle.sect_command.specs.Reporting.{is_document as is_document_of};
 
@@ -10,6 +10,9 @@ use crate::answering::INPUT;
 use crate::numbers::DEFAULT_K;
 use sect_answers::Format;
 use sect_lint::LintFormat;
+
+/// One byte more than a text may have.
+const MOST_KEPT: u64 = 1048577;
 
 /// What is answered to a whole text.
 #[derive(Drop)]
@@ -135,6 +138,17 @@ impl Request {
             | Request::Inspect { k }
             | Request::Check { k } => *k,
             Request::Serial { .. } | Request::Outcomes { .. } => DEFAULT_K,
+        }
+    }
+
+    /// How many bytes of a text are looked at: one more than an accepted text may have, by which a longer one is seen to
+    /// be too large. A certificate with the source behind it may have any number.
+    pub fn most_kept(&self) -> u64
+        ensures { result ≡ most_kept_of self.now }
+    {
+        match self {
+            Request::Check { .. } => u64::MAX,
+            _ => MOST_KEPT,
         }
     }
 

@@ -13,7 +13,7 @@ use Rattle.sect_types.specs.Sections.{SectionView, sections_from, sections_of}
 use Rattle.sect_types.specs.{Sound.{IsSound, AreSound}, Traces.{node_count}}
 use Rattle.sect_types.specs.Statements.{TextView, Stop, Do, Choose, Loop, Section, section_bodies, statement_count}
 use Rattle.sect_types.specs.declared.declarations.types.ValueType.{ValueType}
-use Rattle.sect_types.proofs.shared.{TypedPrograms.{program_sound}, SectionSound.{section_sound}}
+use Rattle.sect_types.proofs.shared.SectionSound.{section_sound}
 use Rattle.sect_graph.specs.Layout.{entry_of, nodes_of, flow_nodes}
 use Rattle.sect_names.specs.{declared.lock.Lock.{Lock}, Locks.{IsLockOf}}
 use Rattle.sect_emit.specs.{declared.plan.Grip.{Grip}, Compiled.{CompiledView, program_of}}
@@ -178,7 +178,7 @@ module _ (c : CompiledView) (taken : TakenView) (w : IsWritten c taken) where
   small = texts_small p.texts w.short w.limits.few_statements
 
   sound : AreSound p.records p.globals p.locals p.texts
-  sound = program_sound p w.compiled.typed w.compiled.of_tree
+  sound = w.compiled.typed.sound
 
   graph_fits : (u : ℕ) (inside : Bool) (text : TextView) → IsSound (environment_at p u) inside text → IsSmall text
       → FitsGraph p u (flow_nodes text)
@@ -267,7 +267,7 @@ pub legible : (c : CompiledView) (taken : TakenView) → IsWritten c taken → I
 legible c taken w = record {
   names = w.names;
   tell = w.tell;
-  ends = names_end (program_of c) w.compiled.of_tree;
+  ends = names_end (program_of c) w.tree;
   records = fields_there (program_of c) w.there;
   globals = globals_there (program_of c) w.there w.limits;
   locals = locals_there (program_of c) w.there;

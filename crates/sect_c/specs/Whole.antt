@@ -1,6 +1,6 @@
 -- Whole programs can be read back.
 use Rattle.std.specs.{Prelude.{◌≡◌, ◌<◌, ℕ, [], length, map, nat_eq, slice_index_or}, List.{AllByRecursion}}
-use Rattle.sect_types.specs.{Programs.{ProgramView, IsWithinLimits, AreRecordsThere}, Statements.{TextView}}
+use Rattle.sect_types.specs.{Programs.{ProgramView, IsOfTree, IsWithinLimits, AreRecordsThere}, Statements.{TextView}}
 use Rattle.sect_types.specs.{Sections.{SectionView, sections_of}, declared.expansion.action.Field.{Field}}
 use Rattle.sect_graph.specs.Layout.{flow_nodes}
 use Rattle.sect_names.specs.Printing.{global_name, field_name, local_at}
@@ -33,10 +33,12 @@ pub record TopsAlike (p q : ProgramView) : Type 0 where
   pub global_names : (g : ℕ) → global_name p.source g ≡ global_name q.source g
   pub field_names : (f : Field) → field_name p.source f ≡ field_name q.source f
 
--- a compiled program of an accepted text, whose sections take these keys: its names are names and tell what they name,
--- its counts are within the limits, each reference has its record, and its integers have 63 bits
+-- a compiled program of an accepted text, whose sections take these keys: its numbers are those of its tree, its names
+-- are names and tell what they name, its counts are within the limits, each reference has its record, and its integers
+-- have 63 bits
 pub record IsWritten (c : CompiledView) (taken : TakenView) : Type 0 where
   pub compiled : IsCompiled c
+  pub tree : IsOfTree (program_of c)
   pub keys : AreTaken c taken
   pub limits : IsWithinLimits (program_of c)
   pub there : AreRecordsThere (program_of c)

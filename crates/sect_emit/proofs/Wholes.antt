@@ -13,6 +13,7 @@ use Rattle.sect_lemmas.specs.Lists.{Has}
 use Rattle.sect_types.specs.{Sections.{SectionView, sections_of}, First.{IsTyped}, Programs.{IsOfTree}}
 use Rattle.sect_lemmas.proofs.{Places.{at_of, one_at, pushed_at, Has-index}, Membership.{Has-slice_get}}
 use Rattle.sect_lemmas.proofs.Replaced.{slice_get-map}
+use Rattle.sect_types.proofs.shared.TypedPrograms.{program_sound, program_numbered, program_sited}
 use Rattle.sect_names.specs.{Printing.{AreNamed}, declared.lock.Lock.{Lock}, Locks.{IsLockOf}}
 use Rattle.sect_names.specs.{Needed.{end_of, Protects, IsLeast}, Order.{AreInOrder}, Schemes.{SchemeView, IsScheme}}
 use Rattle.sect_names.proofs.shared.Named.{named_lock}
@@ -147,8 +148,11 @@ module _ (s : SchemeView) (all : List LocksView) (parts : List (List Grip)) (sch
   pub compiled : IsTyped s.program.source → IsOfTree s.program
       → IsCompiled (record { scheme = s; sets = entries_of all; parts = parts })
   compiled typed of_tree = record {
-    typed = typed;
-    of_tree = of_tree;
+    typed = record {
+      sound = program_sound s.program typed of_tree;
+      sited = program_sited s.program typed of_tree;
+    };
+    numbered = program_numbered s.program typed of_tree;
     scheme = scheme;
     set_count = set_count;
     part_count = part_count;

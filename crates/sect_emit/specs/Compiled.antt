@@ -1,8 +1,9 @@
 -- What a compiled program is to the machine.
 use Rattle.std.specs.Prelude.{◌≡◌, ℕ, List, Some, length, slice_get}
 use Rattle.sect_lemmas.specs.Lists.{Has}
-use Rattle.sect_types.specs.{Sections.{SectionView, sections_of}, First.{IsTyped}, Programs.{ProgramView, IsOfTree}}
+use Rattle.sect_types.specs.{Sections.{SectionView, sections_of, AllNumbered}, Programs.{ProgramView}}
 use Rattle.sect_names.specs.{declared.lock.Lock.{Lock}, Locks.{IsLockOf}, Schemes.{SchemeView, IsScheme}}
+use Rattle.sect_names.specs.Records.{IsTypedProgram}
 use Rattle.sect_names.specs.{Needed.{end_of, Protects, IsLeast}, Order.{AreInOrder}, Sources.{IsAccepted}}
 use Rattle.sect_emit.specs.{declared.plan.Grip.{Grip}, Plan.{IsFixedPart}}
 
@@ -16,11 +17,11 @@ pub record CompiledView : Type 0 where
 abbrev pub program_of : CompiledView → ProgramView
 program_of c = c.scheme.program
 
--- the program is that of a typed tree; each set protects its section, with locks that sections of its thread may take;
--- each part is that of its set
+-- the statements fit the declarations, and sites and sections are numbered in text order; each set protects its
+-- section, with locks that sections of its thread may take; each part is that of its set
 pub record IsCompiled (c : CompiledView) : Type 0 where
-  pub typed : IsTyped c.scheme.program.source
-  pub of_tree : IsOfTree c.scheme.program
+  pub typed : IsTypedProgram c.scheme.program
+  pub numbered : AllNumbered 0 c.scheme.program.texts
   pub scheme : IsScheme c.scheme
   pub set_count : length c.sets ≡ length (sections_of c.scheme.program.texts)
   pub part_count : length c.parts ≡ length (sections_of c.scheme.program.texts)

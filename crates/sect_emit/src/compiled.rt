@@ -2,7 +2,7 @@
 
 ghost use Rattle.std.specs.Prelude.{◌≡◌, ◌<◌, IfOk, List, Some, length, map, slice_get};
 ghost use Rattle.sect_lemmas.specs.Lists.{Has};
-ghost use Rattle.sect_types.specs.Sections.{SectionView, sections_of};
+ghost use Rattle.sect_types.specs.{First.{IsTyped}, Programs.{IsOfTree}, Sections.{SectionView, sections_of}};
 ghost use Rattle.sect_graph.specs.declared.flow.Node.{Node};
 ghost use Rattle.sect_names.specs.{declared.link.Link.{Link}, declared.lock.Lock.{Lock}, Needed.{end_of}};
 ghost use Rattle.sect_chains.specs.Chains.{AreChains};
@@ -85,6 +85,9 @@ impl Compiled {
     pub fn facts(&self)
         ensures compiled { IsCompiled self.now }
         ensures least { AreSetsLeast self.now }
+        // Its program is that of a typed tree.
+        ensures typed { IsTyped self.now.scheme.program.source }
+        ensures of_tree { IsOfTree self.now.scheme.program }
     {
         let _facts = &self.locks;
         self.scheme.facts();

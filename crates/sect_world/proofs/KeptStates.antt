@@ -48,7 +48,6 @@ use Rattle.sect_world.proofs.LocalSteps.{local_looks, IsQuiet, local_quiet}
 use Rattle.sect_world.proofs.KeptStarts.{first_store_kept, first_work_kept}
 use Rattle.sect_types.proofs.shared.Data.{refers_injective, null_refers}
 use Rattle.sect_types.proofs.shared.Starts.{first_frame, first_frames-length, settled_text, settled_work}
-use Rattle.sect_types.proofs.shared.TypedPrograms.{program_sound, program_numbered}
 use Rattle.sect_names.proofs.shared.Sounding.{path_there}
 use Rattle.sect_points.proofs.shared.ClassLaws.{path_classes}
 use Rattle.sect_modes.proofs.shared.Keys.{same_key, key_itself}
@@ -695,8 +694,7 @@ module _ (c : CompiledView) (is : IsCompiled c) where
           work = subst (IsWorkKept c (first_store (program_of c)) t) (sym (settled_work g.0 w))
               (first_work_kept c fuel t g.1);
           text = subst (IsTextOf (program_of c) t false) (sym (settled_text g.0 w))
-              (text_of (program_of c) (program_sound (program_of c) is.typed is.of_tree)
-              (program_numbered (program_of c) is.typed is.of_tree) t g.0 g.2);
+              (text_of (program_of c) is.typed.sound is.numbered t g.0 g.2);
           held = no_grips (first_store (program_of c));
           apart = tt;
           wanted = no_grips (first_store (program_of c));

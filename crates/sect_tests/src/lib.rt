@@ -13,6 +13,8 @@ mod certifying;
 #[cfg(test)]
 mod classes;
 #[cfg(test)]
+mod conditions;
+#[cfg(test)]
 mod covering;
 #[cfg(test)]
 mod graphs;

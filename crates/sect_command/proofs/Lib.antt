@@ -1,2 +1,4 @@
 mod Names
+mod Rows
+mod Wanting
 mod Words

@@ -1,6 +1,9 @@
 pub mod Asking
+pub mod Commands
 pub mod Reporting
 pub mod Requests
 pub mod Saying
 pub mod Statuses
 pub mod Telling
+pub mod Wanting
+pub mod steps

@@ -2,19 +2,19 @@
 use Rattle.std.specs.Prelude.{◌≡◌, ◌≤◌, ◌⊎◌, ℕ, List, [], Option, None, Result, Ok, IfSome}
 use Rattle.std.specs.Io.KnownBytes.{Appends}
 use Rattle.sect_lsp.specs.Sessions.{IsSession}
-use Rattle.sect_command.specs.{Statuses.{wrong_words, failed}, Reporting.{IsReport}}
+use Rattle.sect_command.specs.{Statuses.{wrong_words, failed}, Reporting.{IsReport}, Wanting.{IsWanted}}
 use Rattle.sect_command.specs.{declared.failure.Failure.{Failure}, declared.report.Report.{Report}}
-use Rattle.sect_command.specs.declared.request.Asked.{Asked}
+use Rattle.sect_command.specs.declared.request.{Asked.{Asked}, Wanted.TheVariants.{Answers, Session}}
 
 -- no name leads to a text whose bytes are known
 abbrev pub no_texts : List ℕ → Option (List ℕ)
 no_texts name = None
 
 -- the words are wrong, or the report is of what they ask for
-abbrev pub IsRightForWords : (List ℕ → Option (List ℕ)) → Option (List ℕ) → Report → Type 0
-IsRightForWords bytes_of input report =
+abbrev pub IsRightForWords : List (List ℕ) → (List ℕ → Option (List ℕ)) → Option (List ℕ) → Report → Type 0
+IsRightForWords words bytes_of input report =
     ((report.status ≡ wrong_words) × (report.complaints.items ≡ []))
-    ⊎ ((asked : Asked) × IsReport bytes_of input asked report)
+    ⊎ ((asked : Asked) × IsWanted words (Answers asked) × IsReport bytes_of input asked report)
 
 -- the text of a report is written, its status is given, and these are its complaints
 pub record IsWritten (report : Report) (old new : Option (List ℕ)) (status : ℕ) (complaints : List ℕ) : Type 0 where
@@ -38,23 +38,23 @@ abbrev pub IsServed : Option (List ℕ) → Option (List ℕ) → Option (List �
 IsServed input old new status =
     (status ≤ 1) × ((sent : List ℕ) × Appends old new sent × IfSome input (λ bytes. IsSession bytes sent status))
 
--- the run has failed; or a report that is right for its words is written, with these complaints to be told; or it was a
--- session with an editor
-abbrev pub IsAnswered : (List ℕ → Option (List ℕ)) → Option (List ℕ) → Option (List ℕ) → Option (List ℕ) → ℕ → List ℕ
-    → Type 0
-IsAnswered bytes_of input old new status complaints =
+-- the run has failed; or a report that is right for its words is written, with these complaints to be told; or they ask
+-- for a session with an editor, and it was one
+abbrev pub IsAnswered : List (List ℕ) → (List ℕ → Option (List ℕ)) → Option (List ℕ) → Option (List ℕ)
+    → Option (List ℕ) → ℕ → List ℕ → Type 0
+IsAnswered words bytes_of input old new status complaints =
     HasFailed status complaints
-    ⊎ (((report : Report) × IsRightForWords bytes_of input report × IsWritten report old new status complaints)
-    ⊎ ((complaints ≡ []) × IsServed input old new status))
+    ⊎ (((report : Report) × IsRightForWords words bytes_of input report × IsWritten report old new status complaints)
+    ⊎ (IsWanted words Session × (complaints ≡ []) × IsServed input old new status))
 
 -- the same where there are no texts to be named, and no complaints are told
-abbrev pub IsTold : Option (List ℕ) → Option (List ℕ) → Option (List ℕ) → ℕ → Type 0
-IsTold input old new status = (complaints : List ℕ) × IsAnswered no_texts input old new status complaints
+abbrev pub IsTold : List (List ℕ) → Option (List ℕ) → Option (List ℕ) → Option (List ℕ) → ℕ → Type 0
+IsTold words input old new status = (complaints : List ℕ) × IsAnswered words no_texts input old new status complaints
 
 -- the same, where the complaints are written to standard error, unless that fails
-pub record IsAnsweredAloud (bytes_of : List ℕ → Option (List ℕ)) (input old new errors_old errors_new : Option (List ℕ))
-    (status : ℕ) : Type 0 where
+pub record IsAnsweredAloud (words : List (List ℕ)) (bytes_of : List ℕ → Option (List ℕ))
+    (input old new errors_old errors_new : Option (List ℕ)) (status : ℕ) : Type 0 where
   pub complaints : List ℕ
   pub before : ℕ
-  pub answered : IsAnswered bytes_of input old new before complaints
+  pub answered : IsAnswered words bytes_of input old new before complaints
   pub told : (status ≡ failed) ⊎ ((status ≡ before) × Appends errors_old errors_new complaints)

@@ -1,6 +1,7 @@
 //! One run of the program, over any reader and writers, and any texts.
 
-ghost use Rattle.std.specs.{Prelude.{◌≡◌, ◌⊎◌, [], true, false, IfOk, IfErr}, Io.KnownBytes.{Appends}};
+ghost use Rattle.std.specs.{Prelude.{◌≡◌, ◌⊎◌, [], true, false, IfOk, IfErr, map}, Io.KnownBytes.{Appends}};
+ghost use Rattle.std.specs.String.{string_bytes};
 ghost use Rattle.sect_command.specs.declared.failure.Failure.TheVariants.{Memory};
 ghost use Rattle.sect_command.specs.Statuses.{failed, wrong_words};
 ghost use Rattle.sect_command.specs.Telling.{IsAnswered, IsAnsweredAloud, IsTold, IsReportTold, no_texts};
@@ -46,7 +47,8 @@ pub fn command<R: Threads + Wait + Sync + Clock + CpuClock + AllocGlobal, I: Rea
     input: I,
     output: &mut O,
 ) -> u8
-    ensures { IsTold (I.remaining input) (O.contents output.old) (O.contents output.new) result }
+    ensures { IsTold (map string_bytes words.now) (I.remaining input) (O.contents output.old) (O.contents output.new)
+        result }
 {
     answered(rt, words, &NoTexts, input, output).status
 }
@@ -60,8 +62,9 @@ pub fn command_on_texts<
     O: Write,
     E: Write,
 >(rt: &R, words: &[String], texts: &T, input: I, writers: &mut Writers<O, E>) -> u8
-    ensures { IsAnsweredAloud (T.bytes_of texts.now) (I.remaining input) (O.contents writers.old.output)
-        (O.contents writers.new.output) (E.contents writers.old.errors) (E.contents writers.new.errors) result }
+    ensures { IsAnsweredAloud (map string_bytes words.now) (T.bytes_of texts.now) (I.remaining input)
+        (O.contents writers.old.output) (O.contents writers.new.output) (E.contents writers.old.errors)
+        (E.contents writers.new.errors) result }
 {
     let ended = answered(rt, words, texts, input, &mut writers.output);
     if !is_written(&mut writers.errors, ended.complaints.as_slice()) {
@@ -78,8 +81,8 @@ fn answered<R: Threads + Wait + Sync + Clock + CpuClock + AllocGlobal, T: Texts,
     input: I,
     output: &mut O,
 ) -> Ended
-    ensures { IsAnswered (T.bytes_of texts.now) (I.remaining input) (O.contents output.old) (O.contents output.new)
-        result.status result.complaints.items }
+    ensures { IsAnswered (map string_bytes words.now) (T.bytes_of texts.now) (I.remaining input)
+        (O.contents output.old) (O.contents output.new) result.status result.complaints.items }
 {
     match wanted_of(rt.alloc(), words) {
         Ok(Wanted::Session) => Ended {

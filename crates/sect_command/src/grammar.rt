@@ -1,11 +1,15 @@
 //! The commands of the command line, what each takes, and what the help says of them.
 
-ghost use Rattle.std.specs.Prelude.{◌≡◌, true, false, IfOk};
+ghost use Rattle.std.specs.{Prelude.{◌≡◌, false, [], IfOk, find, map}, Str.{bytes_eq}};
 ghost use Rattle.clap.specs.declared.builder.command.Command.TheViews.{out-Command as fields_of};
+ghost use Rattle.clap.specs.{Simple.{app_of}, Walk.{rule_of}};
+ghost use Rattle.sect_command.specs.Commands.{command_told, commands, name_of, sectc as command_line};
+ghost use Rattle.sect_command.specs.steps.Rows.{row_told, rule_told, shape_told};
 
 use crate::subcommand::Subcommand;
 use clap::{Arg, ArgAction, Command};
 use std::alloc::{AllocError, Global};
+use std::fmt::Write;
 
 /// The version of the program, and the series of kits by which it is proved.
 const VERSION: &str = "1.0.0 (rattle-kit-13)";
@@ -35,6 +39,8 @@ struct Row {
     subcommand: Subcommand,
     name: &'static str,
     about: &'static str,
+    /// An example, as the long help shows it.
+    example: &'static str,
     takes: &'static [Argument],
 }
 
@@ -140,54 +146,63 @@ const COMMANDS: &[Row] = &[
         subcommand: Subcommand::Locks,
         name: "locks",
         about: "prints the lock set of each section of the source text",
+        example: "Example: sectc locks < two_threads.sect",
         takes: &[K, FORMAT, FILES],
     },
     Row {
         subcommand: Subcommand::Compile,
         name: "compile",
         about: "prints the compiled program of the source text",
+        example: "Example: sectc compile --k 1 < two_threads.sect",
         takes: &[K, FORMAT, WORKERS, CERT, FILE],
     },
     Row {
         subcommand: Subcommand::C,
         name: "c",
         about: "prints the compiled program of the source text in C",
+        example: "Example: sectc c < two_threads.sect",
         takes: &[K, FILE],
     },
     Row {
         subcommand: Subcommand::Explain,
         name: "explain",
         about: "prints why each section of the source text takes each of its locks",
+        example: "Example: sectc explain < two_threads.sect",
         takes: &[K, FORMAT, FILE],
     },
     Row {
         subcommand: Subcommand::Conflicts,
         name: "conflicts",
         about: "prints which sections of the source text exclude each other, and where",
+        example: "Example: sectc conflicts < two_threads.sect",
         takes: &[K, FORMAT, FILES],
     },
     Row {
         subcommand: Subcommand::Inspect,
         name: "inspect",
         about: "prints all that is known of the source text, as one JSON document",
+        example: "Example: sectc inspect < two_threads.sect",
         takes: &[K, FILE],
     },
     Row {
         subcommand: Subcommand::Graph,
         name: "graph",
         about: "prints the control-flow graph of each section of the source text, for Graphviz",
+        example: "Example: sectc graph --section 0 < two_threads.sect",
         takes: &[K, SECTION, FILE],
     },
     Row {
         subcommand: Subcommand::Serial,
         name: "serial",
         about: "runs the program of the source text by whole sections in an order, and prints the outcome",
+        example: "Example: sectc serial 1 0 < two_threads.sect",
         takes: &[FUEL, FORMAT, NAMED_FILE, ORDER],
     },
     Row {
         subcommand: Subcommand::Outcomes,
         name: "outcomes",
         about: "prints every outcome that a run of the program of the source text can have",
+        example: "Example: sectc outcomes < two_threads.sect",
         takes: &[FUEL, MOST, FORMAT, FILE],
     },
     Row {
@@ -195,37 +210,50 @@ const COMMANDS: &[Row] = &[
         name: "schedule",
         about: "runs the compiled program of the source text turn by turn, and prints the events and the outcome so \
             far",
+        example: "Example: sectc schedule --chart 0 0 0 0 0 1 1 1 1 < two_threads.sect",
         takes: &[K, FORMAT, FUEL, CHART, NAMED_FILE, TURNS],
     },
     Row {
         subcommand: Subcommand::Run,
         name: "run",
         about: "runs the compiled program of the source text by threads, and prints the outcome",
+        example: "Example: sectc run < two_threads.sect",
         takes: &[K, FORMAT, FUEL, TIME, FILE],
     },
     Row {
         subcommand: Subcommand::Lint,
         name: "lint",
         about: "tells what is wrong with the source text, and where",
+        example: "Example: sectc lint < linked_list.sect",
         takes: &[K, LINT_FORMAT, FILES],
     },
     Row {
         subcommand: Subcommand::Lsp,
         name: "lsp",
         about: "serves an editor by the Language Server Protocol, on standard input and output",
+        example: "Example: sectc lsp",
         takes: &[],
     },
     Row {
         subcommand: Subcommand::Check,
         name: "check",
         about: "tests a certificate: the input is the certificate, and the source text behind its line `end`",
+        example: "Example: sectc compile --cert < two_threads.sect | cat - two_threads.sect | sectc check",
         takes: &[K, CHECKED_FILE],
     },
 ];
 
+/// The table.
+fn rows() -> &'static [Row]
+    ensures { map row_told result.now ≡ map command_told commands }
+{
+    COMMANDS
+}
+
 /// What `clap` is told of an argument.
 fn told_argument<'a>(alloc: Global, argument: &Argument) -> Arg<'a>
-    ensures { result.global ≡ false }
+    ensures local { result.global ≡ false }
+    ensures rule { rule_of result ≡ rule_told argument.now }
 {
     let told = Arg::new(alloc, argument.name).help(argument.help);
     match argument.given {
@@ -244,33 +272,53 @@ fn told_argument<'a>(alloc: Global, argument: &Argument) -> Arg<'a>
 
 /// What `clap` is told of a command.
 fn told_command<'a>(alloc: Global, row: &Row) -> Result<Command<'a>, AllocError>
-    ensures { IfOk result (λ c. (fields_of c).has_globals ≡ false) }
+    ensures local { IfOk result (λ c. (fields_of c).has_globals ≡ false) }
+    ensures shape { IfOk result (λ c. app_of c ≡ record { top = shape_told row.now; subs = [] }) }
 {
-    let mut told = Command::new(alloc, row.name).about(row.about);
+    let mut told = Command::new(alloc, row.name)
+        .about(row.about)
+        .after_long_help(row.example);
     for argument in row.takes {
         told = told.arg(told_argument(alloc, argument))?;
     }
     Ok(told)
 }
 
-/// The commands and what each takes.
-pub fn grammar<'a>(alloc: Global) -> Result<Command<'a>, AllocError>
-    ensures required { IfOk result (λ c. (fields_of c).subcommand_required ≡ true) }
+/// The examples of all commands, a line each.
+pub fn examples(alloc: Global) -> Result<String, AllocError> {
+    let mut text = String::from_str(alloc, "Examples:")?;
+    for row in rows() {
+        let line = row.example.strip_prefix("Example: ");
+        write!(text, "\n  {}", line.unwrap_or(row.example))?;
+    }
+    Ok(text)
+}
+
+/// The commands and what each takes, with these examples behind the long help.
+pub fn grammar<'a>(alloc: Global, examples: &'a str) -> Result<Command<'a>, AllocError>
     ensures local { IfOk result (λ c. (fields_of c).has_globals ≡ false) }
+    ensures told { IfOk result (λ c. app_of c ≡ command_line) }
 {
     let mut sectc = Command::new(alloc, "sectc")
         .about(
             "infers the locks of atomic sections; reads a source text from a file or on standard input",
         )
-        .version(VERSION);
-    for row in COMMANDS {
+        .version(VERSION)
+        .after_long_help(examples);
+    for row in rows() {
         sectc = sectc.subcommand(told_command(alloc, row)?)?;
     }
     Ok(sectc.subcommand_required(true))
 }
 
 /// The subcommand of this name.
-pub fn subcommand_named(name: &str) -> Option<Subcommand> {
-    let row = COMMANDS.iter().find(|row| row.name == name)?;
-    Some(row.subcommand)
+pub fn subcommand_named(name: &str) -> Option<Subcommand>
+    ensures { result ≡ find (λ s. bytes_eq (name_of s) name.now) commands }
+{
+    for row in rows() {
+        if row.name == name {
+            return Some(row.subcommand);
+        }
+    }
+    None
 }

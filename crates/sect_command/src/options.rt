@@ -4,10 +4,11 @@ ghost use Rattle.std.specs.Prelude.{◌≡◌, ℕ, List, IfOk, map};
 ghost use Rattle.std.specs.String.{string_bytes};
 ghost use Rattle.clap.specs.Matches.{found_of};
 ghost use Rattle.sect_command.specs.{Asking.{IsMade, IsRequested, files_in}, Saying.{SaysK, SaysForm}};
+ghost use Rattle.sect_command.specs.Wanting.{IsMadeBy, IsWanted, Makes};
 ghost use Rattle.sect_command.specs.declared.subcommand.Subcommand.TheVariants as subcommand;
 
 use crate::formats::{format_of, lint_format_of};
-use crate::grammar::{grammar, subcommand_named};
+use crate::grammar::{examples, grammar, subcommand_named};
 use crate::numbers::{DEFAULT_K, DEFAULT_WORKERS, FUEL, STATES, number_of, number_or};
 use crate::request::{Asked, Form, Request, Wanted};
 use crate::running::{threads_of, told_count};
@@ -18,14 +19,19 @@ use sect_answers::Format;
 use std::alloc::Global;
 
 /// What the words ask for, the program's name first.
-pub fn wanted_of(alloc: Global, words: &[String]) -> Result<Wanted, UsageFault> {
+pub fn wanted_of(alloc: Global, words: &[String]) -> Result<Wanted, UsageFault>
+    ensures { IfOk result (IsWanted (map string_bytes words.now)) }
+{
     let count = told_count(words);
     wanted_by(alloc, &words[..count], &words[count..])
 }
 
 /// What the words ask for of which `clap` is told, and those behind them.
-fn wanted_by(alloc: Global, told: &[String], untold: &[String]) -> Result<Wanted, UsageFault> {
-    let matches = grammar(alloc)?.try_get_matches_from(told)?;
+fn wanted_by(alloc: Global, told: &[String], untold: &[String]) -> Result<Wanted, UsageFault>
+    ensures { IfOk result (IsMadeBy (map string_bytes told.now) (map string_bytes untold.now)) }
+{
+    let examples = examples(alloc)?;
+    let matches = grammar(alloc, examples.as_str())?.try_get_matches_from(told)?;
     match matches.subcommand() {
         Some((name, options)) => match subcommand_named(name) {
             Some(subcommand) => wanted_from(alloc, subcommand, options, untold),
@@ -41,7 +47,9 @@ fn wanted_from(
     subcommand: Subcommand,
     options: &ArgMatches<'_>,
     untold: &[String],
-) -> Result<Wanted, UsageFault> {
+) -> Result<Wanted, UsageFault>
+    ensures { IfOk result (Makes subcommand (found_of options.now) (map string_bytes untold.now)) }
+{
     match request_of(alloc, subcommand, options, untold)? {
         None => Ok(Wanted::Session),
         Some(request) => {

@@ -1,8 +1,8 @@
 //! What the words of a command line say of a run: threads by number.
 
-ghost use Rattle.std.specs.{Prelude.{◌≤◌, ◌++◌, IfOk, codes, length, map}, String.{string_bytes}};
+ghost use Rattle.std.specs.{Prelude.{◌≡◌, ◌≤◌, ◌⊎◌, ◌++◌, true, IfOk, codes, length, map}, String.{string_bytes}};
 ghost use Rattle.clap.specs.Matches.{found_of};
-ghost use Rattle.sect_command.specs.Saying.{AreThreads, Spells, values_in};
+ghost use Rattle.sect_command.specs.{Saying.{AreThreads, Spells, values_in}, Wanting.{take_threads as take_threads_by}};
 
 use crate::numbers::{MOST, number};
 use crate::usage::UsageFault;
@@ -10,7 +10,9 @@ use clap::ArgMatches;
 use std::alloc::Global;
 
 /// Whether the words are those of a command that takes threads.
-fn take_threads(words: &[String]) -> bool {
+fn take_threads(words: &[String]) -> bool
+    ensures { result ≡ take_threads_by (map string_bytes words.now) }
+{
     match words.get(1) {
         Some(command) => matches!(command.as_str(), "serial" | "schedule"),
         None => false,
@@ -32,7 +34,8 @@ fn digits_start(words: &[String]) -> usize
 /// How many of the words `clap` is told. Of the numbers at the end of a command line that takes threads that is the
 /// first one alone, which may be an option's value: each behind it is a thread.
 pub fn told_count(words: &[String]) -> usize
-    ensures { result ≤ length words.now }
+    ensures count { result ≤ length words.now }
+    ensures threads { (result ≡ length words.now) ⊎ (take_threads_by (map string_bytes words.now) ≡ true) }
 {
     if take_threads(words) {
         words.len().min(digits_start(words).saturating_add(1))
@@ -40,6 +43,7 @@ pub fn told_count(words: &[String]) -> usize
         words.len()
     }
 }
+
 /// The thread that a word names.
 fn thread_of(alloc: Global, word: &str) -> Result<u16, UsageFault>
     ensures { IfOk result (Spells 0 65535 word.now) }

@@ -11,6 +11,7 @@ returns-in-Ok-Answers g c = elim c.report_told.ensures [
     told.0,
     inr (
       c.in-Ok-Answers.asked,
+      c.in-Ok-Answers.ensures,
       subst (λ (r : Result Report Failure). IfOk r (IsReport (g.T.Texts.bytes_of c.args.texts.now)
           (g.I.Read.remaining c.args.input) c.in-Ok-Answers.asked)) told.1 c.reported-report.ensures,
     ),

@@ -5,3 +5,4 @@ mod Outcoming
 mod Refusing
 mod Running
 mod Scheduled
+mod Wording

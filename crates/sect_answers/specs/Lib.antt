@@ -9,6 +9,7 @@ pub mod Formats
 pub mod Graphing
 pub mod InC
 pub mod Listing
+pub mod Naming
 pub mod Outcomes
 pub mod Placing
 pub mod Refusals

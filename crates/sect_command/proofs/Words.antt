@@ -4,8 +4,8 @@ use Rattle.std.proofs.{lemmas.List.{map-append, take_more, append_assoc}, lemmas
 use Rattle.std.specs.List.{AllZip}
 
 -- one word more
-pub words_more : {X : Type 0} (R : List ℕ → ℕ → Type 0) (f : X → List ℕ) (xs : List X) (i : ℕ) (d : X) (ts : List ℕ)
-    (t : ℕ) → i < length xs → AllZip R (map f (take i xs)) ts → R (f (get_or xs i d)) t
+pub words_more : {X Y : Type 0} (R : List ℕ → Y → Type 0) (f : X → List ℕ) (xs : List X) (i : ℕ) (d : X) (ts : List Y)
+    (t : Y) → i < length xs → AllZip R (map f (take i xs)) ts → R (f (get_or xs i d)) t
     → AllZip R (map f (take (i + 1) xs)) (ts ++ t ∷ [])
 words_more R f xs i d ts t within before here =
     let next : map f (take (i + 1) xs) ≡ map f (take i xs) ++ f (get_or xs i d) ∷ [] =
@@ -15,8 +15,8 @@ words_more R f xs i d ts t within before here =
     (all_zipped_more R (map f (take i xs)) ts (f (get_or xs i d)) t before here)
 
 -- one word more behind others
-pub words_more_behind : {X : Type 0} (R : List ℕ → ℕ → Type 0) (f : X → List ℕ) (first : List (List ℕ)) (xs : List X)
-    (i : ℕ) (d : X) (ts : List ℕ) (t : ℕ) → i < length xs → AllZip R (first ++ map f (take i xs)) ts
+pub words_more_behind : {X Y : Type 0} (R : List ℕ → Y → Type 0) (f : X → List ℕ) (first : List (List ℕ)) (xs : List X)
+    (i : ℕ) (d : X) (ts : List Y) (t : Y) → i < length xs → AllZip R (first ++ map f (take i xs)) ts
     → R (f (get_or xs i d)) t → AllZip R (first ++ map f (take (i + 1) xs)) (ts ++ t ∷ [])
 words_more_behind R f first xs i d ts t within before here =
     let next : first ++ map f (take (i + 1) xs) ≡ (first ++ map f (take i xs)) ++ f (get_or xs i d) ∷ [] =

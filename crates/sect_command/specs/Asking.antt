@@ -1,7 +1,7 @@
 -- Which request the options of a subcommand make. `command` cites it.
 use Rattle.std.specs.Prelude.{◌≡◌, ◌++◌, ℕ, true, false, List, Option, Some, None, codes}
 use Rattle.clap.specs.{Matches.{first_value}, declared.parser.matches.Found.{Found}}
-use Rattle.sect_answers.specs.declared.format.Format.{Format}
+use Rattle.sect_answers.specs.{declared.format.Format.{Format}, declared.naming.ThreadWord.{ThreadWord}}
 use Rattle.sect_answers.specs.declared.format.Format.TheVariants as format
 use Rattle.sect_command.specs.Saying.{AreThreads, MaySayNumber, SaysFlag, SaysForm, SaysFormat, SaysK, SaysLintFormat}
 use Rattle.sect_command.specs.Saying.{SaysNumber, flag_in, values_in}
@@ -37,7 +37,7 @@ abbrev pub IsFuel : Found → ℕ → Type 0
 IsFuel found n = SaysNumber 1 1000000 10000 (first_value found (codes "fuel")) n
 
 -- the threads of the operands, and then those of the words behind
-abbrev pub AreOperands : Found → List (List ℕ) → List ℕ → Type 0
+abbrev pub AreOperands : Found → List (List ℕ) → List ThreadWord → Type 0
 AreOperands found behind threads = AreThreads (values_in found (codes "threads") ++ behind) threads
 
 -- the request is what these options say, and the words behind them

@@ -1,27 +1,30 @@
 -- What a request is answered of a source text.
 use Rattle.std.specs.Prelude.{◌≡◌, ◌≢◌, ◌⊎◌, ◌+◌, ◌++◌, ℕ, Bool, true, false, not, if◌then◌else◌, List, [], codes, ⊤}
-use Rattle.std.specs.{Prelude.{Option, Some, None}, Str.{bytes_eq}}
+use Rattle.std.specs.{Prelude.{Option, Some, None, option_map}, Str.{bytes_eq}, String.{string_bytes}}
+use Rattle.std.specs.{declared.string.String.{String}, declared.alloc.Global.{Global}}
 use Rattle.sect_front.specs.Limits.{most_bytes}
 use Rattle.sect_infer.specs.Workers.{AreOffered}
 use Rattle.sect_answers.specs.{Answers.{IsAnswer, IsDue}, Charting.{IsCharted}, Checking.{IsValidInput, IsCheckDue}}
 use Rattle.sect_answers.specs.Compiling.{IsCertified, IsProgramListing, IsProgramDocument, IsCompileDue}
 use Rattle.sect_answers.specs.{Conflicting.{AreProgramConflicts}, Explaining.{IsProgramExplanation}}
-use Rattle.sect_answers.specs.InC.{IsProgramInC}
+use Rattle.sect_answers.specs.{InC.{IsProgramInC}, Naming.{AreMeant, IsNamingDue}}
+use Rattle.sect_answers.specs.declared.naming.ThreadWord.{ThreadWord}
 use Rattle.sect_answers.specs.{Graphing.{IsProgramGraph, IsGraphDue}, Findings.{IsUnblamed, IsInspection, IsLintDue}}
 use Rattle.sect_answers.specs.{Outcomes.{AreAllOutcomes, IsOutcomesDue}, Placing.{AddsPlace}, Refusals.{refusal_text}}
 use Rattle.sect_answers.specs.{Running.{IsOutcomeOfRun}, Scheduling.{IsScheduled, IsScheduleDue}}
 use Rattle.sect_answers.specs.{Serial.{IsOutcome, IsSerialDue}, declared.refusal.Refusal.{Refusal}}
 use Rattle.sect_lint.specs.declared.format.LintFormat.TheVariants.{Json}
-use Rattle.sect_command.specs.{Statuses.{done, refused}, declared.report.Answer.{Answer}}
+use Rattle.sect_command.specs.{Statuses.{done, refused, wrong_words}, declared.report.Answer.{Answer}}
 use Rattle.sect_command.specs.declared.request.Form.TheVariants.{Listing, Document, Certificate}
 use Rattle.sect_command.specs.declared.request.Request.{Request}
 use Rattle.sect_command.specs.declared.request.Request.TheVariants.{Locks, Compile, C, Explain, Conflicts, Graph}
 use Rattle.sect_command.specs.declared.request.Request.TheVariants.{Inspect, Check, Serial, Outcomes, Schedule, Chart}
 use Rattle.sect_command.specs.declared.request.Request.TheVariants.{Run, TimedRun, Lint}
+use Rattle.sect_answers.specs.declared.naming.ThreadFault.TheVariants as fault
 use Rattle.sect_answers.specs.declared.refusal.Refusal.TheVariants as refusal
 
--- the threads of an order or a schedule; of another request none
-abbrev pub threads_of : Request → List ℕ
+-- the threads of an order or a schedule, as the words name them; of another request none
+abbrev pub threads_of : Request → List ThreadWord
 threads_of (Serial fuel order format) = order.items
 threads_of (Schedule k fuel schedule format) = schedule.items
 threads_of (Chart k fuel schedule) = schedule.items
@@ -44,10 +47,13 @@ Answers name (Compile k workers Certificate) source bytes = AreOffered workers �
 Answers name (C k) source bytes = IsProgramInC source k bytes
 Answers name (Explain k format) source bytes = IsProgramExplanation source k format bytes
 Answers name (Conflicts k format) source bytes = AreProgramConflicts source k format bytes
-Answers name (Serial fuel order format) source bytes = IsOutcome source fuel order.items format bytes
+Answers name (Serial fuel order format) source bytes =
+    (threads : List ℕ) × AreMeant source order.items threads × IsOutcome source fuel threads format bytes
 Answers name (Outcomes fuel most format) source bytes = AreAllOutcomes source fuel most format bytes
-Answers name (Schedule k fuel schedule format) source bytes = IsScheduled source k fuel schedule.items format bytes
-Answers name (Chart k fuel schedule) source bytes = IsCharted source k fuel schedule.items bytes
+Answers name (Schedule k fuel schedule format) source bytes =
+    (threads : List ℕ) × AreMeant source schedule.items threads × IsScheduled source k fuel threads format bytes
+Answers name (Chart k fuel schedule) source bytes =
+    (threads : List ℕ) × AreMeant source schedule.items threads × IsCharted source k fuel threads bytes
 Answers name (Run k fuel format) source bytes = IsOutcomeOfRun source k fuel format bytes
 Answers name (TimedRun k fuel format) source bytes = IsOutcomeOfRun source k fuel format bytes
 Answers name (Graph k section) source bytes = IsProgramGraph source k section bytes
@@ -57,21 +63,24 @@ Answers name (Check k) source bytes = IsValidInput source k × (bytes ≡ codes 
 
 -- the refusal is due where this is requested of the source of this name
 abbrev pub IsRefusalDue : List ℕ → Request → List ℕ → Refusal → Type 0
-IsRefusalDue name (Locks k format) source = IsDue source k
-IsRefusalDue name (Compile k workers form) source = IsCompileDue source k workers
-IsRefusalDue name (C k) source = IsDue source k
-IsRefusalDue name (Explain k format) source = IsDue source k
-IsRefusalDue name (Conflicts k format) source = IsDue source k
-IsRefusalDue name (Serial fuel order format) source = IsSerialDue source fuel order.items
-IsRefusalDue name (Outcomes fuel most format) source = IsOutcomesDue source fuel most
-IsRefusalDue name (Schedule k fuel schedule format) source = IsScheduleDue source k schedule.items
-IsRefusalDue name (Chart k fuel schedule) source = IsScheduleDue source k schedule.items
-IsRefusalDue name (Run k fuel format) source = IsDue source k
-IsRefusalDue name (TimedRun k fuel format) source = IsDue source k
-IsRefusalDue name (Graph k section) source = IsGraphDue source k section
-IsRefusalDue name (Lint k format) source = IsLintDue (file_of name) source k format
-IsRefusalDue name (Inspect k) source = IsLintDue None source k Json
-IsRefusalDue name (Check k) source = IsCheckDue source k
+IsRefusalDue name (Locks k format) source why = IsDue source k why
+IsRefusalDue name (Compile k workers form) source why = IsCompileDue source k workers why
+IsRefusalDue name (C k) source why = IsDue source k why
+IsRefusalDue name (Explain k format) source why = IsDue source k why
+IsRefusalDue name (Conflicts k format) source why = IsDue source k why
+IsRefusalDue name (Serial fuel order format) source why =
+    (threads : List ℕ) × AreMeant source order.items threads × IsSerialDue source fuel threads why
+IsRefusalDue name (Outcomes fuel most format) source why = IsOutcomesDue source fuel most why
+IsRefusalDue name (Schedule k fuel schedule format) source why =
+    (threads : List ℕ) × AreMeant source schedule.items threads × IsScheduleDue source k threads why
+IsRefusalDue name (Chart k fuel schedule) source why =
+    (threads : List ℕ) × AreMeant source schedule.items threads × IsScheduleDue source k threads why
+IsRefusalDue name (Run k fuel format) source why = IsDue source k why
+IsRefusalDue name (TimedRun k fuel format) source why = IsDue source k why
+IsRefusalDue name (Graph k section) source why = IsGraphDue source k section why
+IsRefusalDue name (Lint k format) source why = IsLintDue (file_of name) source k format why
+IsRefusalDue name (Inspect k) source why = IsLintDue None source k Json why
+IsRefusalDue name (Check k) source why = IsCheckDue source k why
 
 -- what is written for a refusal
 abbrev pub line_of : Refusal → List ℕ
@@ -146,5 +155,33 @@ pub record IsRefused (name : List ℕ) (request : Request) (source : List ℕ) (
   pub line : IsLineFor name request source why answer.text.items
   pub remarks : answer.remarks.items ≡ []
 
+-- the name of a thread in place of one that is near it
+abbrev pub near_text : List ℕ → List ℕ
+near_text near = codes "did you mean `" ++ near ++ codes "`?"
+
+-- what is wanted in the place of the name of no thread
+abbrev pub wanted_text : Option (List ℕ) → List ℕ
+wanted_text (Some near) = near_text near
+wanted_text None = codes "a number from 0 to 65535 or a thread's name is wanted"
+
+-- no thread has this name
+abbrev pub unknown_text : List ℕ → Option (List ℕ) → List ℕ
+unknown_text name near = codes "error: unknown thread '" ++ name ++ codes "': " ++ wanted_text near ++ codes "\n"
+
+-- what is written where the words name a thread that the source doesn't have
+abbrev pub IsUnknownLine : Request → List ℕ → List ℕ → Type 0
+IsUnknownLine request source line =
+    (name : String Global) × (near : Option (String Global))
+    × IsNamingDue source (threads_of request) (fault.Unknown name near)
+    × (line ≡ unknown_text (string_bytes name) (option_map string_bytes near))
+
+-- the answer is that the words name a thread that the source doesn't have
+pub record NamesNoThread (request : Request) (source : List ℕ) (answer : Answer) : Type 0 where
+  pub status : answer.status ≡ wrong_words
+  pub line : IsUnknownLine request source answer.text.items
+  pub remarks : answer.remarks.items ≡ []
+
 abbrev pub IsRightFor : List ℕ → Request → List ℕ → Answer → Type 0
-IsRightFor name request source answer = IsDone name request source answer ⊎ IsRefused name request source answer
+IsRightFor name request source answer =
+    IsDone name request source answer
+    ⊎ (IsRefused name request source answer ⊎ NamesNoThread request source answer)

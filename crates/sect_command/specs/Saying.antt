@@ -1,11 +1,14 @@
 -- What the words of a command line say. The functions that read them cite it.
 use Rattle.std.specs.{Prelude.{◌≡◌, ◌≤◌, ℕ, Bool, true, false, List, [], Option, Some, None, codes}}
-use Rattle.std.specs.{Prelude.{option_map, unwrap_or}, List.{AllZip}}
+use Rattle.std.specs.{Prelude.{option_map, unwrap_or}, List.{AllZip}, String.{string_bytes}}
 use Rattle.std.specs.Str.Parse.{IsNumeral, digits_value}
 use Rattle.clap.specs.{Matches.{first_value, one_text, raw_values, matched_of}}
 use Rattle.clap.specs.declared.parser.matches.Found.{Found}
 use Rattle.sect_answers.specs.declared.format.Format.{Format}
 use Rattle.sect_answers.specs.declared.format.Format.TheVariants as format
+use Rattle.sect_answers.specs.declared.naming.ThreadWord.{ThreadWord}
+use Rattle.sect_answers.specs.declared.naming.ThreadWord.TheVariants as thread
+use Rattle.sect_front.specs.Words.{is_name}
 use Rattle.sect_lint.specs.declared.format.LintFormat.{LintFormat}
 use Rattle.sect_lint.specs.declared.format.LintFormat.TheVariants as lint_format
 use Rattle.sect_command.specs.declared.request.Form.{Form}
@@ -39,9 +42,14 @@ SaysLintFormat (Some word) lint_format.Text = word ≡ codes "text"
 SaysLintFormat (Some word) lint_format.Json = word ≡ codes "json"
 SaysLintFormat (Some word) lint_format.Sarif = word ≡ codes "sarif"
 
--- the words spell these numbers, one after another, each a thread's
-abbrev pub AreThreads : List (List ℕ) → List ℕ → Type 0
-AreThreads words threads = AllZip (Spells 0 65535) words threads
+-- the word spells the number of a thread, or it is its name; no name is a number
+abbrev pub SaysThread : List ℕ → ThreadWord → Type 0
+SaysThread text (thread.Number n) = Spells 0 65535 text n
+SaysThread text (thread.Name name) = (is_name text ≡ true) × (string_bytes name ≡ text)
+
+-- the words name threads so, one after another
+abbrev pub AreThreads : List (List ℕ) → List ThreadWord → Type 0
+AreThreads words threads = AllZip SaysThread words threads
 
 -- the values that were found for an option or an operand, in order
 abbrev pub values_in : Found → List ℕ → List (List ℕ)

@@ -2,22 +2,24 @@
 
 ghost use Rattle.std.specs.Prelude.{◌≡◌, ◌++◌, [], if◌then◌else◌, IfOk, IfErr, OnOk, option_map};
 ghost use Rattle.std.specs.String.{string_bytes};
+ghost use Rattle.sect_answers.specs.Naming.{AreMeant};
 ghost use Rattle.sect_command.specs.declared.failure.Failure.TheVariants.{Memory};
 ghost use Rattle.sect_command.specs.Requests.{AddsPlaceOf, Answers, IsDone, IsLineFor, IsRefusalDue, IsRightFor};
 ghost use Rattle.sect_command.specs.Requests.{file_of as file_by, is_marked as is_marked_for, threads_of};
+ghost use Rattle.sect_command.specs.Requests.{near_text, unknown_text, wanted_text};
 ghost use Rattle.sect_command.specs.Reporting.{AddsComplaint, AddsRight, AddsText, IsGiven, IsReport};
 ghost use Rattle.sect_command.specs.Reporting.{has_headings, heading};
 
 use crate::failure::Failure;
 use crate::report::{Answer, Report};
 use crate::request::{Asked, Form, Request};
-use crate::statuses::{DONE, FAILED, REFUSED};
+use crate::statuses::{DONE, FAILED, REFUSED, WRONG_WORDS};
 use crate::texts::{Texts, first_bytes};
 use sect_answers::{
-    Format, Refusal, all_outcomes, findings, inspection, locks, program_certificate,
+    Format, Refusal, ThreadFault, all_outcomes, findings, inspection, locks, program_certificate,
     program_conflicts, program_document, program_explanation, program_graph, program_in_c,
     program_listing, put_mistake_place, put_refusal, run_outcome, schedule_chart, schedule_outcome,
-    serial_outcome, timed_outcome, verdict,
+    serial_outcome, threads_named, timed_outcome, verdict,
 };
 use sect_lint::LintFormat;
 use sect_run::OpenGate;
@@ -86,11 +88,7 @@ pub fn reported<R: Threads + Wait + Sync + Clock + CpuClock, T: Texts, I: Read +
 }
 
 /// The text on standard input, if it is asked for.
-fn given_text<I: Read + Drop>(
-    alloc: Global,
-    asked: &Asked,
-    input: I,
-) -> Result<Vec<u8>, Failure>
+fn given_text<I: Read + Drop>(alloc: Global, asked: &Asked, input: I) -> Result<Vec<u8>, Failure>
     ensures { IfOk result (λ given. IsGiven (I.remaining input) asked.now given.items) }
 {
     if !asked.reads_input() {
@@ -194,7 +192,30 @@ fn worked<R: Threads + Wait + Sync + Clock + CpuClock>(
     ensures answers { IfOk result (IsRightFor text.entry.name.now request.now text.entry.source.now) }
     ensures fails { IfErr result (λ failure. failure ≡ Memory) }
 {
-    match done(rt, alloc, request, text) {
+    match threads_named(alloc, text.source, request.threads()) {
+        Ok(threads) => answered(rt, alloc, request, threads, text),
+        Err(ThreadFault::Memory) => Err(Failure::Memory),
+        Err(ThreadFault::Unknown { name, near }) => Ok(Answer {
+            status: WRONG_WORDS,
+            text: unknown_line(alloc, name.as_str(), &near)?.into_bytes(),
+            remarks: Vec::new(alloc),
+        }),
+    }
+}
+
+/// The same, where the words of the request mean these threads.
+fn answered<R: Threads + Wait + Sync + Clock + CpuClock>(
+    rt: &R,
+    alloc: Global,
+    request: &Request,
+    threads: Vec<u16>,
+    text: Text<'_>,
+) -> Result<Answer, Failure>
+    requires { AreMeant text.source.now (threads_of request.now) threads.items }
+    ensures answers { IfOk result (IsRightFor text.entry.name.now request.now text.entry.source.now) }
+    ensures fails { IfErr result (λ failure. failure ≡ Memory) }
+{
+    match done(rt, alloc, request, threads, text) {
         Ok(answer) => Ok(answer),
         Err(Refusal::Memory) => Err(Failure::Memory),
         Err(refusal) => Ok(Answer {
@@ -205,13 +226,15 @@ fn worked<R: Threads + Wait + Sync + Clock + CpuClock>(
     }
 }
 
-/// The answer to a request that is not refused.
+/// The answer to a request, whose words mean these threads, that is not refused.
 fn done<R: Threads + Wait + Sync + Clock + CpuClock>(
     rt: &R,
     alloc: Global,
     request: &Request,
+    threads: Vec<u16>,
     text: Text<'_>,
 ) -> Result<Answer, Refusal>
+    requires { AreMeant text.source.now (threads_of request.now) threads.items }
     ensures answers { IfOk result (IsDone text.entry.name.now request.now text.entry.source.now) }
     ensures refuses { IfErr result (IsRefusalDue text.entry.name.now request.now text.entry.source.now) }
 {
@@ -223,12 +246,46 @@ fn done<R: Threads + Wait + Sync + Clock + CpuClock>(
             remarks: timed.times.into_bytes(),
         });
     }
-    let threads = request.threads().to_vec(alloc)?;
     Ok(Answer {
         status: DONE,
         text: printed(rt, alloc, request, threads, text)?,
         remarks: Vec::new(alloc),
     })
+}
+
+/// Adds the name of a thread in place of one that is near it.
+fn put_near(text: &mut String, near: &str) -> Result<(), AllocError>
+    ensures { OnOk result (string_bytes text.new ≡ string_bytes text.old ++ near_text near.now) }
+{
+    text.push_str("did you mean `")?;
+    text.push_str(near)?;
+    text.push_str("`?")?;
+    Ok(())
+}
+
+/// Adds what is wanted in the place of the name of no thread.
+fn put_wanted(text: &mut String, near: &Option<String>) -> Result<(), AllocError>
+    ensures { OnOk result (string_bytes text.new
+        ≡ string_bytes text.old ++ wanted_text (option_map string_bytes near.now)) }
+{
+    match near {
+        Some(near) => put_near(text, near.as_str()),
+        None => text.push_str("a number from 0 to 65535 or a thread's name is wanted"),
+    }
+}
+
+/// That no thread has a name, and what is wanted in its place.
+fn unknown_line(alloc: Global, name: &str, near: &Option<String>) -> Result<String, AllocError>
+    ensures { IfOk result (λ line. string_bytes line
+        ≡ unknown_text name.now (option_map string_bytes near.now)) }
+{
+    let mut line = String::new(alloc);
+    line.push_str("error: unknown thread '")?;
+    line.push_str(name)?;
+    line.push_str("': ")?;
+    put_wanted(&mut line, near)?;
+    line.push_str("\n")?;
+    Ok(line)
 }
 
 /// The line of a refusal. Before it stands the name of the file whose text is refused, and where its mistake stands.
@@ -280,7 +337,7 @@ fn is_marked(name: &str, refusal: &Refusal) -> bool
     }
 }
 
-/// What is printed for a request, with a copy of its threads, that is not refused.
+/// What is printed for a request, whose words mean these threads, that is not refused.
 fn printed<R: Threads + Wait + Sync + Clock + CpuClock>(
     rt: &R,
     alloc: Global,
@@ -288,7 +345,7 @@ fn printed<R: Threads + Wait + Sync + Clock + CpuClock>(
     threads: Vec<u16>,
     text: Text<'_>,
 ) -> Result<Vec<u8>, Refusal>
-    requires { threads.items ≡ threads_of request.now }
+    requires { AreMeant text.source.now (threads_of request.now) threads.items }
     ensures answers { IfOk result (λ answer. Answers text.entry.name.now request.now text.entry.source.now
         answer.items) }
     ensures refuses { IfErr result (IsRefusalDue text.entry.name.now request.now text.entry.source.now) }

@@ -107,13 +107,13 @@ const TIME: Argument = Argument {
 const ORDER: Argument = Argument {
     name: "threads",
     given: Given::Unnamed("T"),
-    help: "the threads of the sections, in their order",
+    help: "the threads of the sections by number or name, in their order",
 };
 
 const TURNS: Argument = Argument {
     name: "threads",
     given: Given::Unnamed("T"),
-    help: "the threads whose turn it is, one turn after another",
+    help: "the threads whose turn it is by number or name, one turn after another",
 };
 
 const FILE: Argument = Argument {

@@ -8,7 +8,7 @@ ghost use Rattle.sect_command.specs.Reporting.{is_document as is_document_of};
 
 use crate::answering::INPUT;
 use crate::numbers::DEFAULT_K;
-use sect_answers::Format;
+use sect_answers::{Format, ThreadWord};
 use sect_lint::LintFormat;
 
 /// One byte more than a text may have.
@@ -59,7 +59,7 @@ pub enum Request {
     /// The outcome of a run by whole sections of these threads, each thread with this much fuel.
     Serial {
         fuel: u32,
-        order: Vec<u16>,
+        order: Vec<ThreadWord>,
         format: Format,
     },
     /// All outcomes of whole sections, each thread with this much fuel, where they lead to at most so many states.
@@ -73,14 +73,14 @@ pub enum Request {
     Schedule {
         k: u16,
         fuel: u32,
-        schedule: Vec<u16>,
+        schedule: Vec<ThreadWord>,
         format: Format,
     },
     /// The same run, as a chart.
     Chart {
         k: u16,
         fuel: u32,
-        schedule: Vec<u16>,
+        schedule: Vec<ThreadWord>,
     },
     /// A run by threads, each with this much fuel, of the program that is compiled with paths of at most k fields.
     Run {
@@ -152,8 +152,8 @@ impl Request {
         }
     }
 
-    /// The threads of an order or a schedule; of another request none.
-    pub fn threads(&self) -> &[u16]
+    /// The threads of an order or a schedule, as the words name them; of another request none.
+    pub fn threads(&self) -> &[ThreadWord]
         ensures { result.now ≡ threads_of self.now }
     {
         match self {

@@ -1,12 +1,15 @@
-//! What the words of a command line say of a run: threads by number.
+//! What the words of a command line say of a run: threads, by number or by name.
 
 ghost use Rattle.std.specs.{Prelude.{◌≡◌, ◌≤◌, ◌⊎◌, ◌++◌, true, IfOk, codes, length, map}, String.{string_bytes}};
 ghost use Rattle.clap.specs.Matches.{found_of};
-ghost use Rattle.sect_command.specs.{Saying.{AreThreads, Spells, values_in}, Wanting.{take_threads as take_threads_by}};
+ghost use Rattle.sect_command.specs.Saying.{AreThreads, SaysThread, values_in};
+ghost use Rattle.sect_command.specs.Wanting.{take_threads as take_threads_by};
 
 use crate::numbers::{MOST, number};
 use crate::usage::UsageFault;
 use clap::ArgMatches;
+use sect_answers::ThreadWord;
+use sect_front::is_name;
 use std::alloc::Global;
 
 /// Whether the words are those of a command that takes threads.
@@ -44,18 +47,19 @@ pub fn told_count(words: &[String]) -> usize
     }
 }
 
-/// The thread that a word names.
-fn thread_of(alloc: Global, word: &str) -> Result<u16, UsageFault>
-    ensures { IfOk result (Spells 0 65535 word.now) }
+/// How a word names a thread: by its number, or by a name.
+fn thread_of(alloc: Global, word: &str) -> Result<ThreadWord, UsageFault>
+    ensures { IfOk result (SaysThread word.now) }
 {
     match number(word, MOST) {
-        Some(thread) => Ok(thread as u16),
+        Some(thread) => Ok(ThreadWord::Number(thread as u16)),
+        None if is_name(word.as_bytes()) => Ok(ThreadWord::Name(String::from_str(alloc, word)?)),
         None => Err(UsageFault::Thread(String::from_str(alloc, word)?)),
     }
 }
 
 /// The threads that `clap` has found.
-fn found_threads(alloc: Global, matches: &ArgMatches<'_>) -> Result<Vec<u16>, UsageFault>
+fn found_threads(alloc: Global, matches: &ArgMatches<'_>) -> Result<Vec<ThreadWord>, UsageFault>
     ensures { IfOk result (λ threads. AreThreads (values_in (found_of matches.now) (codes "threads")) threads.items) }
 {
     let mut threads = Vec::new(alloc);
@@ -73,7 +77,7 @@ pub fn threads_of(
     alloc: Global,
     matches: &ArgMatches<'_>,
     untold: &[String],
-) -> Result<Vec<u16>, UsageFault>
+) -> Result<Vec<ThreadWord>, UsageFault>
     ensures { IfOk result (λ threads. AreThreads
         (values_in (found_of matches.now) (codes "threads") ++ map string_bytes untold.now) threads.items) }
 {

@@ -21,7 +21,7 @@ impl Texts for OneText<'_> {
 
     ghost bytes_of = { λ _ _. None };
 
-    fn text_of(&self, alloc: Global, _name: &str) -> io::Result<Vec<u8>> {
+    fn text_of(&self, alloc: Global, _name: &str, _most: u64) -> io::Result<Vec<u8>> {
         Ok(self.text.to_vec(alloc)?)
     }
 }

@@ -9,8 +9,9 @@ use Rattle.sect_lemmas.proofs.Options.{some_injective, none_or_some}
 use Rattle.sect_free.specs.Freely.{LacksNone, FuelOnlyHelps, FreeEndsAreOne, FoundAreFree, FreeAreFound}
 use Rattle.sect_types.proofs.shared.Endings.{whole_comes_to_one}
 use Rattle.sect_lemmas.proofs.Membership.{Has-unmap}
-use Rattle.sect_free.proofs.MoreSteps.{more_frame, FrameLacks, FrameHelped, ahead_helped, ahead_lacks}
-use Rattle.sect_free.proofs.MoreSections.{more_run, RunHelped, order_helped, begun_more}
+use Rattle.sect_free.specs.States.{FrameLacks}
+use Rattle.sect_free.proofs.MoreSteps.{more_frame, FrameHelped, ahead_helped, ahead_lacks}
+use Rattle.sect_free.proofs.MoreSections.{more_frames, more_run, RunHelped, order_helped, begun_more}
 use Rattle.sect_types.specs.declared.meaning.store.Fault.TheVariants as fault
 
 -- how each thread has ended once its local code is run
@@ -40,29 +41,30 @@ lack_shows p k (suc t) (g ∷ fs) (x ∷ ends) f e at lacks =
     inr (lack_shows p (k + 1) t fs ends f tails at lacks)
 
 -- with more fuel the threads end so too
-ends_helped : (p : ProgramView) (d k : ℕ) (fs : List FrameView) (ends : List End)
-    → endings p k fs ≡ map Some ends → LacksNone ends → endings p k (map (more_frame d) fs) ≡ map Some ends
-ends_helped p d k [] ends e none = e
-ends_helped p d k (f ∷ fs) [] e none = absurd (cc)
-ends_helped p d k (f ∷ fs) (x ∷ ends) e none =
+ends_helped : (p : ProgramView) (ds : ℕ → ℕ) (k : ℕ) (fs : List FrameView) (ends : List End)
+    → endings p k fs ≡ map Some ends → LacksNone ends → endings p k (more_frames ds fs) ≡ map Some ends
+ends_helped p ds k [] ends e none = e
+ends_helped p ds k (f ∷ fs) [] e none = absurd (cc)
+ends_helped p ds k (f ∷ fs) (x ∷ ends) e none =
     let both = split (ahead p k f).ended (Some x) (endings p (k + 1) fs) (map Some ends) e in
-    joined _ _ _ _ (own both.0 (ahead_helped p k d f)) (ends_helped p d (k + 1) fs ends both.1 (λ h. none (inr h)))
+    joined _ _ _ _ (own both.0 (ahead_helped p k (ds 0) f))
+    (ends_helped p (λ k. ds (suc k)) (k + 1) fs ends both.1 (λ h. none (inr h)))
   where
-    own : (ahead p k f).ended ≡ Some x → FrameHelped d (ahead p k f) (ahead p k (more_frame d f))
-        → (ahead p k (more_frame d f)).ended ≡ Some x
+    own : (ahead p k f).ended ≡ Some x → FrameHelped (ds 0) (ahead p k f) (ahead p k (more_frame (ds 0) f))
+        → (ahead p k (more_frame (ds 0) f)).ended ≡ Some x
     own e (inl lacks) = absurd (none (inl (some_injective x (Failed fault.Fuel) (sym e ∙ lacks))))
     own e (inr same) = ap (λ (g : FrameView). g.ended) same ∙ e
 
 -- the run with d units more
 helped_by : (p : ProgramView) (n d : ℕ) (order : List ℕ) (e : SerialEndView) → RunsWhole p n order e
     → LacksNone e.ends → RunsWhole p (d + n) order e
-helped_by p n d order e (s, ran, end) none = by (order_helped p d order (begun p n) s ran) where
-  by : RunHelped d s (in_order p order (more_run d (begun p n))) → RunsWhole p (d + n) order e
+helped_by p n d order e (s, ran, end) none = by (order_helped p (λ k. d) order (begun p n) s ran) where
+  by : RunHelped (λ k. d) s (in_order p order (more_run (λ k. d) (begun p n))) → RunsWhole p (d + n) order e
   by (inl (t, f, at, lacks)) = absurd (none (lack_shows p 0 t s.frames e.ends f end.ends at lacks))
   by (inr same) = (
-    more_run d s,
+    more_run (λ k. d) s,
     ap (in_order p order) (sym (begun_more p d n)) ∙ same,
-    record { store = end.store; output = end.output; ends = ends_helped p d 0 s.frames e.ends end.ends none },
+    record { store = end.store; output = end.output; ends = ends_helped p (λ k. d) 0 s.frames e.ends end.ends none },
   )
 
 pub fuel_only_helps : FuelOnlyHelps

@@ -1,3 +1,5 @@
 mod MoreSteps
 mod MoreSections
 mod Freely
+mod States
+mod Rounds

@@ -4,13 +4,13 @@ use Rattle.std.proofs.Common.{refl, sym, ap, subst, ◌∙◌, arith, if◌then�
 use Rattle.sect_types.specs.{declared.expansion.action.Condition.{Condition}, declared.expansion.action.Action.{Action}}
 use Rattle.sect_types.specs.{Statements.{TextView, Stop, Do, Choose, Loop, Section, joined}, Programs.{ProgramView}}
 use Rattle.sect_types.specs.declared.meaning.store.ObjectName.{ObjectName}
-use Rattle.sect_types.specs.declared.meaning.store.End.TheVariants.{Failed}
 use Rattle.sect_types.specs.{declared.meaning.store.Datum.TheVariants.{Number}, Store.{ObjectView, StoreView}}
 use Rattle.sect_types.specs.Meaning.{WorkView, Came, Went, Fell, Unchanged, assigned, name_in, base_datum}
 use Rattle.sect_types.specs.Meaning.{value_datum, integer_of, result_of, fits, computed, stored, done, paid, one}
 use Rattle.sect_types.specs.Meaning.{looked, found_at, going, taken, next, is_true}
 use Rattle.sect_types.specs.Whole.{Left, Through, Broken, and_then, left_by, tested, turns, body_of, FrameView, settled}
 use Rattle.sect_types.specs.Whole.{frame_after, local_step, begins_section, has_ended, is_standing, up_to, ahead}
+use Rattle.sect_free.specs.States.{FrameLacks}
 use Rattle.sect_types.proofs.shared.RunningAhead.{StandsOrSpent, step_spends, up_to_standing}
 use Rattle.sect_types.specs.declared.expansion.action.Action.TheVariants as action
 use Rattle.sect_types.specs.declared.meaning.store.Fault.TheVariants as fault
@@ -137,10 +137,6 @@ body_helped p t d (Section i b r) w s = body_helped p t d r w s
 -- the same frame with so much more fuel
 abbrev pub more_frame : ℕ → FrameView → FrameView
 more_frame d f = record f { work = more d f.work }
-
--- the frame has ended for want of fuel
-abbrev pub FrameLacks : FrameView → Type 0
-FrameLacks f = f.ended ≡ Some (Failed fault.Fuel)
 
 -- with more fuel the frame is the same, and has all that is more, unless it wanted for some
 abbrev pub FrameHelped : ℕ → FrameView → FrameView → Type 0

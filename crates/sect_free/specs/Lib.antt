@@ -1,1 +1,3 @@
 pub mod Freely
+pub mod Rounds
+pub mod States

@@ -3,4 +3,7 @@
 
 mod laws;
 
-pub use crate::laws::{free_ends_are_one, free_ends_are_outcomes, fuel_only_helps};
+pub use crate::laws::{
+    free_ends_are_one, free_ends_are_outcomes, fuel_only_helps, futures_are_of_states,
+    rounds_never_end,
+};

@@ -25,6 +25,9 @@ const OVER_INSIDE: &str = "record A { int f; } global A a;
 
 const REST_FAILS: &str = "thread t { int i; atomic { print 0; } i = 9223372036854775807 * 2; }";
 
+const SPINNING: &str = "record F { int up; } global F f;
+ thread get { int u; while (u == 0) { atomic { u = f.up; } } }";
+
 /// Programs, with fuel and the order of threads, and what is shown.
 const ORDERS: &[(&str, u32, &[u16], &str)] = &[
     (
@@ -119,6 +122,19 @@ fn more_fuel_changes_no_outcome(rt: HostRuntime) -> Result<(), Fail> {
         }
     }
     shows_with_more(&rt, ENDLESS, &[], "thread 0 fuel\norder none\n")
+}
+
+#[test]
+fn a_round_goes_on(rt: HostRuntime) -> Result<(), Fail> {
+    sect_free::rounds_never_end();
+    for order in [[].as_slice(), &[0], &[0, 0, 0, 0, 0, 0, 0]] {
+        shows(&rt, (SPINNING, 100, order), "81 SectionsLeft thread 0")?;
+    }
+    shows(
+        &rt,
+        (SPINNING, 2, &[0]),
+        "thread 0 fuel\norder 0\nobject f up=0\n",
+    )
 }
 
 /// The end of the run in which one thread has pushed a node that the other then found.

@@ -1,3 +1,4 @@
+mod Ending
 mod Names
 mod Rows
 mod Wanting

@@ -1,7 +1,10 @@
 -- What a run answers to its words and its input, and to which stream. `command` cites it.
-use Rattle.std.specs.Prelude.{◌≡◌, ◌≤◌, ◌⊎◌, ℕ, List, [], Option, None, Result, Ok, IfSome}
+use Rattle.std.specs.Prelude.{◌≡◌, ◌≢◌, ◌≤◌, ◌⊎◌, ℕ, List, [], Option, None, Result, Ok, IfSome}
 use Rattle.std.specs.Io.KnownBytes.{Appends}
-use Rattle.sect_lsp.specs.Sessions.{IsSession}
+use Rattle.sect_lsp.specs.{Framing.{front_of}, Sessions.{IsSession}}
+use Rattle.sect_lsp.specs.declared.{framing.Front.{Front}, server.Phase.{Phase}}
+use Rattle.sect_lsp.specs.declared.framing.Front.TheVariants as front
+use Rattle.sect_lsp.specs.declared.server.Phase.TheVariants as phase
 use Rattle.sect_command.specs.{Statuses.{wrong_words, failed}, Reporting.{IsReport}, Wanting.{IsWanted}}
 use Rattle.sect_command.specs.{declared.failure.Failure.{Failure}, declared.report.Report.{Report}}
 use Rattle.sect_command.specs.declared.request.{Asked.{Asked}, Wanted.TheVariants.{Answers, Session}}
@@ -32,11 +35,22 @@ IsReportTold told old new status complaints =
     HasFailed status complaints
     ⊎ ((report : Report) × (told ≡ Ok report) × IsWritten report old new status complaints)
 
+-- what ends a session with the status 1: the editor's `exit` came before it was shut down, or what is left of the bytes
+-- begins no message, or they end before it was shut down
+abbrev pub IsBrokenOff : Phase → Front → Type 0
+IsBrokenOff p f =
+    (p ≡ phase.Abandoned) ⊎ ((f ≡ front.Malformed) ⊎ ((f ≡ front.Part) × (p ≢ phase.ShutDown)))
+
+-- the bytes are those of a session for which this is written, and which has this status
+pub record IsConversation (bytes sent : List ℕ) (status : ℕ) : Type 0 where
+  pub session : IsSession bytes sent status
+  pub broken_off : status ≡ 1 → IsBrokenOff session.end.phase (front_of session.rest)
+
 -- this is written for an editor, and the status is 0 or 1; where the bytes of the input are known, they are those of a
 -- session for which it is written, and which has this status
 abbrev pub IsServed : Option (List ℕ) → Option (List ℕ) → Option (List ℕ) → ℕ → Type 0
 IsServed input old new status =
-    (status ≤ 1) × ((sent : List ℕ) × Appends old new sent × IfSome input (λ bytes. IsSession bytes sent status))
+    (status ≤ 1) × ((sent : List ℕ) × Appends old new sent × IfSome input (λ bytes. IsConversation bytes sent status))
 
 -- the run has failed; or a report that is right for its words is written, with these complaints to be told; or they ask
 -- for a session with an editor, and it was one

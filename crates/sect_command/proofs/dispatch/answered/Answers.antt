@@ -1,7 +1,8 @@
 -- A report that is written is right for the words.
-use Rattle.std.proofs.Common.{◌≡◌, [], IfOk, Result, inl, inr, subst}
+use Rattle.std.proofs.Common.{◌≡◌, [], IfOk, Result, inl, inr, map, subst}
+use Rattle.std.specs.String.{string_bytes}
 use Rattle.sect_command.specs.{declared.failure.Failure.{Failure}, declared.report.Report.{Report}}
-use Rattle.sect_command.specs.{Statuses.{wrong_words}, Reporting.{IsReport}}
+use Rattle.sect_command.specs.{Statuses.{wrong_words}, Reporting.{IsReport}, Wanting.{IsWanted}}
 use Rattle.sect_command.proofs.dispatch.answered.Goals as goal
 
 pub returns-in-Ok-Answers : goal.returns-in-Ok-Answers
@@ -11,7 +12,7 @@ returns-in-Ok-Answers g c = elim c.report_told.ensures [
     told.0,
     inr (
       c.in-Ok-Answers.asked,
-      c.in-Ok-Answers.ensures,
+      subst (IsWanted (map string_bytes c.args.words.now)) c.in-Ok-Answers.field-0-is c.in-Ok-Answers.ensures,
       subst (λ (r : Result Report Failure). IfOk r (IsReport (g.T.Texts.bytes_of c.args.texts.now)
           (g.I.Read.remaining c.args.input) c.in-Ok-Answers.asked)) told.1 c.reported-report.ensures,
     ),

@@ -25,7 +25,7 @@ loop-row-preserved c =
     ap app_with (take_more rows i _ (omega arith)) ∙ fold-append _ _ (take i rows) (get_or rows i _ ∷ []) in (
       search rules,
       added ∙ ap (λ (a : App). with_subcommand a shape) before.1
-      ∙ ap (with_subcommand (app_with (take i rows))) shaped ∙ sym more,
+          ∙ ap (with_subcommand (app_with (take i rows))) shaped ∙ sym more,
     )
 
 pub returns-clause-told : goal.returns-clause-told

@@ -74,13 +74,12 @@ pub fn command_on_texts<
 }
 
 /// Judges the words and answers what they ask for.
-fn answered<R: Threads + Wait + Sync + Clock + CpuClock + AllocGlobal, T: Texts, I: Read + Drop, O: Write>(
-    rt: &R,
-    words: &[String],
-    texts: &T,
-    input: I,
-    output: &mut O,
-) -> Ended
+fn answered<
+    R: Threads + Wait + Sync + Clock + CpuClock + AllocGlobal,
+    T: Texts,
+    I: Read + Drop,
+    O: Write,
+>(rt: &R, words: &[String], texts: &T, input: I, output: &mut O) -> Ended
     ensures { IsAnswered (map string_bytes words.now) (T.bytes_of texts.now) (I.remaining input)
         (O.contents output.old) (O.contents output.new) result.status result.complaints.items }
 {

@@ -29,9 +29,7 @@ impl<R: Files> Texts for SystemFiles<'_, R> {
 
     fn text_of(&self, alloc: Global, name: &str, most: u64) -> io::Result<Vec<u8>> {
         let mut text = Vec::new(alloc);
-        fs::open(self.rt, name)?
-            .take(most)
-            .read_to_end(&mut text)?;
+        fs::open(self.rt, name)?.take(most).read_to_end(&mut text)?;
         Ok(text)
     }
 }

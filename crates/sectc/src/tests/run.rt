@@ -13,8 +13,7 @@ use std::sync::atomic::{AtomicBool, Ordering};
 use std::test::Fail;
 use std::thread;
 use std::thread::Threads;
-use std::time::{Clock, CpuClock};
-use std::time::Duration;
+use std::time::{Clock, CpuClock, Duration};
 
 const APART: &str = "record Acct { int bal; }
 global Acct a; global Acct b;
@@ -158,7 +157,9 @@ fn two_workers_were_seen(rt: HostRuntime) -> Result<(), Fail> {
 }
 
 /// A run of two threads that add to one object loses neither addition.
-fn expect_two(rt: &(impl Threads + Wait + Sync + Clock + CpuClock + AllocGlobal + Abort)) -> Result<(), Fail> {
+fn expect_two(
+    rt: &(impl Threads + Wait + Sync + Clock + CpuClock + AllocGlobal + Abort),
+) -> Result<(), Fail> {
     let (status, shown) = answer_of(rt, "run", TWO_ADD.as_bytes())?;
     assert_eq!(rt; status, 0, "{shown}");
     let begins = shown.starts_with("thread 0 done\nthread 1 done\norder ");

@@ -10,6 +10,6 @@ returns c =
       c.in_ok-placed.placed.items,
       c.in_ok-placed.ensures.placed,
       h
-      ∙ ap (printed c.args.format (option_map (λ name. name.now) c.args.file.entry) c.args.source.now)
-      c.as_slice.ensures.value,
+          ∙ ap (printed c.args.format (option_map (λ name. name.now) c.args.file) c.args.source.now)
+          c.as_slice.ensures.value,
     )) c.printed.ensures

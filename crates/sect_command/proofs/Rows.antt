@@ -1,6 +1,6 @@
 -- The rows of the table and the commands.
 use Rattle.std.proofs.Common.{◌≡◌, ◌∙◌, ◌<◌, ◌+◌, ℕ, Bool, true, false, cond, List, [], ◌∷◌, length, drop, map, get_or}
-use Rattle.std.proofs.Common.{arith, refl, ap, sym, subst, fold}
+use Rattle.std.proofs.Common.{refl, ap, sym, fold}
 use Rattle.std.proofs.lemmas.List.{drop_more}
 use Rattle.std.specs.{Prelude.{Option, Some, None, find}, Str.{bytes_eq}}
 use Rattle.clap.specs.{Simple.{App, Shape, with_subcommand}, Walk.{Text}}

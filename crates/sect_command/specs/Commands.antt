@@ -1,5 +1,5 @@
 -- The commands, their names and what each takes: what `clap` is told. `command` cites it.
-use Rattle.std.specs.Prelude.{true, false, ◌∷◌, [], List, Some, None, codes, map}
+use Rattle.std.specs.Prelude.{true, false, ◌∷◌, [], List, Some, codes, map}
 use Rattle.clap.specs.Lexer.{usize_max}
 use Rattle.clap.specs.Walk.{Rule, Text}
 use Rattle.clap.specs.Simple.{App, Shape, new_rule, new_shape}

@@ -1,10 +1,9 @@
 -- One command more.
-use Rattle.std.proofs.Common.{◌+◌, ◌≡◌, ◌∙◌, ◌∷◌, List, [], arith, ap, sym, rules, take, get_or, codes, true}
+use Rattle.std.proofs.Common.{◌+◌, ◌≡◌, ◌∙◌, ◌∷◌, [], arith, ap, sym, rules, take, get_or, codes, true}
 use Rattle.std.proofs.lemmas.{List.{take_more, take_all}, List.Sums.{fold-append}}
-use Rattle.clap.specs.Simple.{App, Shape, app_of, app_of_fields, new_shape, shape_of, with_subcommand}
+use Rattle.clap.specs.Simple.{App, app_of, app_of_fields, new_shape, shape_of, with_subcommand}
 use Rattle.sect_command.specs.Commands.{commands}
 use Rattle.sect_command.specs.steps.Rows.{app_with, shape_told}
-use Rattle.sect_command.specs.declared.grammar.Row.{Row}
 use Rattle.sect_command.proofs.Rows.{told_alike}
 use Rattle.sect_command.proofs.grammar.grammar.Goals as goal
 

@@ -1,4 +1,4 @@
-use Rattle.std.proofs.Common.{◌≡◌, false, take, map}
+use Rattle.std.proofs.Common.{◌≡◌, false, take}
 use Rattle.clap.specs.Simple.{app_of}
 use Rattle.clap.specs.declared.builder.command.Command.TheViews.{out-Command as fields_of}
 use Rattle.sect_command.specs.steps.Rows.{app_with}

@@ -1,5 +1,5 @@
 -- The row of a name is that of its command.
-use Rattle.std.proofs.Common.{◌+◌, ◌≡◌, ◌∙◌, ◌∷◌, List, [], arith, ap, sym, rules, drop, get_or}
+use Rattle.std.proofs.Common.{◌∙◌, arith, ap, sym}
 use Rattle.std.proofs.lemmas.List.{drop_all}
 use Rattle.sect_command.specs.Commands.{commands}
 use Rattle.sect_command.proofs.Rows.{named_alike, named_here, named_behind, row_named, subcommand_in}

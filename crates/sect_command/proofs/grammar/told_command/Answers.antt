@@ -1,7 +1,7 @@
 -- One argument more.
-use Rattle.std.proofs.Common.{◌+◌, ◌≡◌, ◌∙◌, ◌∷◌, ◌++◌, List, [], arith, ap, ap₂, sym, subst, rules, take, map, get_or}
+use Rattle.std.proofs.Common.{◌+◌, ◌≡◌, ◌∙◌, ◌∷◌, ◌++◌, [], arith, ap, sym, rules, take, map, get_or}
 use Rattle.std.proofs.lemmas.List.{map_more}
-use Rattle.clap.specs.{Simple.{App, app_of, with_rule}, Walk.{Rule, rule_of}}
+use Rattle.clap.specs.{Simple.{App, with_rule}, Walk.{rule_of}}
 use Rattle.sect_command.specs.steps.Rows.{rule_told, shape_with}
 use Rattle.sect_command.proofs.grammar.told_command.Goals as goal
 

@@ -4,7 +4,7 @@ use Rattle.std.proofs.lemmas.Result.{IfOk-weaker}
 use Rattle.std.specs.String.{string_bytes}
 use Rattle.clap.specs.{Faults.{fault_of, is_simple_and_free}, Matches.{found_of}, Simple.{App, app_of, is_simple}}
 use Rattle.clap.specs.{Simple.{subcommand_of as subcommand_met, subcommand_rows_of}, Walk.{rows_of}}
-use Rattle.sect_command.specs.Commands.{commands, name_of, sectc}
+use Rattle.sect_command.specs.Commands.{commands, sectc}
 use Rattle.sect_command.proofs.Wanting.{found_named, met_is, simple, simple_and_free}
 use Rattle.sect_command.proofs.options.wanted_by.Goals as goal
 

@@ -144,7 +144,8 @@ fn explain_request(alloc: Global, options: &ArgMatches<'_>) -> Result<Request, U
 
 /// What `conflicts` asks for by its options.
 fn conflicts_request(alloc: Global, options: &ArgMatches<'_>) -> Result<Request, UsageFault>
-    ensures { IfOk result (λ r. (behind : List (List ℕ)) → IsMade subcommand.Conflicts (found_of options.now) behind r) }
+    ensures { IfOk result (λ r. (behind : List (List ℕ))
+        → IsMade subcommand.Conflicts (found_of options.now) behind r) }
 {
     let k = k_of(alloc, options)?;
     let format = format_of(alloc, options)?;

@@ -141,8 +141,8 @@ impl Request {
         }
     }
 
-    /// How many bytes of a text are looked at: one more than an accepted text may have, by which a longer one is seen to
-    /// be too large. A certificate with the source behind it may have any number.
+    /// How many bytes of a text are looked at: one more than an accepted text may have, by which a longer one is seen
+    /// to be too large. A certificate with the source behind it may have any number.
     pub fn most_kept(&self) -> u64
         ensures { result ≡ most_kept_of self.now }
     {

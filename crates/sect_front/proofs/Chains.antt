@@ -7,7 +7,8 @@ use Rattle.sect_front.specs.{declared.token.Token.{Token}, declared.expected.Exp
 use Rattle.sect_front.specs.{Grammar.{operand_token}, declared.tree.Operand.{Operand}, Braces.{brace}}
 use Rattle.sect_front.specs.{declared.cursor.Stop.{Stop}, Syntax.{BlockView}}
 use Rattle.sect_front.specs.steps.Places.{follows, takes, after}
-use Rattle.sect_front.specs.steps.Passing.{CursorView, Stands, Passes, ArePassed, IsAbsent, IsRefused, Stops}
+use Rattle.sect_front.specs.steps.Passing.{CursorView, Stands, StandsBefore, Passes, ArePassed, IsAbsent, IsRefused}
+use Rattle.sect_front.specs.steps.Passing.{Stops}
 use Rattle.sect_front.specs.steps.Passing.{IsReached, StopsAtBrace, StopsIn, HasAdded}
 use Rattle.sect_front.specs.steps.Declaring.{Halts}
 use Rattle.sect_front.proofs.Stopping.{stops_after, stops_here, stops_more, stops_at_brace}
@@ -50,10 +51,12 @@ operand {ps = ps} {mid = mid} v passes led =
     rule (operand_token v ∷ []) (mid, passes, refl) (operand_after v ps []) led
 
 -- a token other than a brace that stands here is passed
-pub passed : (here : CursorView) {there : CursorView} {rest : List ℕ} {t u : Token} → Stands here.here u rest
-    → u ≡ t → ((k : ℕ) → brace k t ≡ k) → there ≡ record { here = rest; braces = here.braces } → Passes here t there
-passed here {there = there} {rest = rest} {t = t} stands is calm same =
-    passed_calm t here there calm (rw same (subst (λ x. Stands here.here x rest) is stands)) (ap (λ x. x.braces) same)
+pub passed : (here : CursorView) {there : CursorView} {rest : List ℕ} {left : ℕ} {t u : Token}
+    → StandsBefore here.here u rest left → u ≡ t → ((k : ℕ) → brace k t ≡ k)
+    → there ≡ record { here = rest; braces = here.braces; last = left; end = here.last } → Passes here t there
+passed here {there = there} {rest = rest} {left = left} {t = t} stands is calm same =
+    passed_calm t here there calm (rw same (subst (λ x. StandsBefore here.here x rest left) is stands))
+    (ap (λ x. x.braces) same) (ap (λ x. x.end) same)
 
 -- 2. Where it stops.
 

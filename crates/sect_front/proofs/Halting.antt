@@ -133,9 +133,10 @@ tree_text bytes there tree are none =
 
 -- the cursor of a text begins behind its first gap
 abbrev pub begun : List ℕ → CursorView
-begun here = record { here = here; braces = 0 }
+begun here = record { here = here; braces = 0; last = 0; end = 0 }
 
 pub text_rest : (s : Stop) (bytes rest : List ℕ) (there : CursorView) → StopsText s (text_start bytes) there
-    → rest ≡ there.here → StopsText s (text_start bytes) (record { here = rest; braces = there.braces })
-text_rest s bytes rest there h e =
-    subst (λ x. StopsText s (text_start bytes) (record { here = x; braces = there.braces })) (sym e) h
+    → rest ≡ there.here → StopsText s (text_start bytes)
+    (record { here = rest; braces = there.braces; last = there.last; end = there.end })
+text_rest s bytes rest there h e = subst (λ x. StopsText s (text_start bytes)
+    (record { here = x; braces = there.braces; last = there.last; end = there.end })) (sym e) h

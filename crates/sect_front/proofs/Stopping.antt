@@ -14,7 +14,8 @@ use Rattle.sect_front.specs.declared.cursor.Keyword.{Keyword}
 use Rattle.sect_front.specs.steps.{Recognition.{single_sign, double_sign}, Lexeme.{lexeme_of, longest}}
 use Rattle.sect_front.specs.steps.Places.{follows, takes, after}
 use Rattle.sect_front.specs.steps.Signs.{IsSign, sign_token, sign_byte, keyword_token}
-use Rattle.sect_front.specs.steps.Passing.{CursorView, Stands, Passes, ArePassed, IsBare, IsAbsent, IsRefused, IsAlike}
+use Rattle.sect_front.specs.steps.Passing.{CursorView, Stands, StandsBefore, Passes, ArePassed, IsBare, IsAbsent}
+use Rattle.sect_front.specs.steps.Passing.{IsRefused, IsAlike}
 use Rattle.sect_front.specs.steps.Passing.{Stops, IsReached, IsDeep, StopsAtBrace, StopsIn, HasAdded}
 use Rattle.sect_front.proofs.{Lexemes.{lexeme_first}, Texts.{shorter}, Leading.{after_then, after_more}}
 use Rattle.sect_lemmas.proofs.Options.{some_injective, none_or_some}
@@ -96,28 +97,16 @@ calm_keyword keyword.All k = refl
 calm_keyword keyword.ProtectedBy k = refl
 
 -- no brace
-pub passed_calm : (t : Token) (here there : CursorView) → ((k : ℕ) → brace k t ≡ k) → Stands here.here t there.here
-    → there.braces ≡ here.braces → Passes here t there
-passed_calm t here there calm s same = record {
-  stands = s;
+pub passed_calm : (t : Token) (here there : CursorView) → ((k : ℕ) → brace k t ≡ k)
+    → StandsBefore here.here t there.here there.last → there.braces ≡ here.braces → there.end ≡ here.last
+    → Passes here t there
+passed_calm t here there calm s same end = record {
+  stands = s.stands;
+  last = s.behind;
+  end = end;
   braces = same ∙ sym (calm here.braces);
   low = λ h. subst (λ k. k ≤ most_depth) (sym same) h;
 }
-
-pub passed_operand : (v : Operand) (t : Token) (here there : CursorView) → t ≡ operand_token v
-    → Stands here.here t there.here → there.braces ≡ here.braces → Passes here (operand_token v) there
-passed_operand v t here there e s same =
-    passed_calm (operand_token v) here there (calm_operand v) (subst (λ x. Stands here.here x there.here) e s) same
-
-pub passed_kind : (v : Kind) (t : Token) (here there : CursorView) → t ≡ kind_token v
-    → Stands here.here t there.here → there.braces ≡ here.braces → Passes here (kind_token v) there
-passed_kind v t here there e s same =
-    passed_calm (kind_token v) here there (calm_kind v) (subst (λ x. Stands here.here x there.here) e s) same
-
-pub passed_keyword : (w : Keyword) (t : Token) (here there : CursorView) → t ≡ keyword_token w
-    → Stands here.here t there.here → there.braces ≡ here.braces → Passes here (keyword_token w) there
-passed_keyword w t here there e s same =
-    passed_calm (keyword_token w) here there (calm_keyword w) (subst (λ x. Stands here.here x there.here) e s) same
 
 -- 3. Which places take no token.
 
@@ -402,7 +391,8 @@ field_follows (kind.Record n) = refl
 -- 7. What a rule adds.
 
 -- one more token stands before those that are passed
-pub added_behind : (e : Expected) (front : List Token) (t : Token) (here mid there : CursorView) (old new : BlockView)
+unfoldable pub added_behind : (e : Expected) (front : List Token) (t : Token) (here mid there : CursorView)
+    (old new : BlockView)
     → Passes here t mid → HasAdded e (front ++ t ∷ []) mid there old new → HasAdded e front here there old new
 added_behind e front t here mid there old new p h = record {
   statement = h.statement;

@@ -15,6 +15,7 @@ pub mod NameTokens
 pub mod Layout
 pub mod TokenAt
 pub mod Lexing
+pub mod ItemSpans
 pub mod Braces
 pub mod Faults
 pub mod Samples

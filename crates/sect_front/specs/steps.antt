@@ -10,3 +10,4 @@ pub mod Kinds
 pub mod Signs
 pub mod Passing
 pub mod Declaring
+pub mod Spanning

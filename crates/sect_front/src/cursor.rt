@@ -10,10 +10,11 @@ ghost use Rattle.sect_front.specs.declared.token.Token.{Token as AToken};
 ghost use Rattle.sect_front.specs.declared.tree.Operator.{Operator as AnOperator};
 ghost use Rattle.sect_front.specs.steps.{Recognition.{single_sign, double_sign}, Signs.{IsSign, sign_byte, sign_token}};
 ghost use Rattle.sect_front.specs.steps.Signs.{keyword_token};
-ghost use Rattle.sect_front.specs.steps.{Places.{takes}, Passing.{Stands, Passes, IsAbsent, IsBare}};
+ghost use Rattle.sect_front.specs.steps.{Places.{takes}, Passing.{StandsBefore, Passes, IsAbsent, IsBare}};
 ghost use Rattle.sect_front.specs.steps.Passing.{IsRefused, Stops, StopsAtBrace};
 
 mod declarations;
+mod spans;
 mod statements;
 
 use crate::expected::Expected;
@@ -23,6 +24,7 @@ use crate::name::Name;
 use crate::token::Token;
 use crate::tree::{Comparison, Kind, Operand, Operator};
 pub use declarations::Source;
+pub use spans::Spans;
 use std::alloc::{AllocError, AllocFailed};
 use std::marker::Model;
 
@@ -105,11 +107,22 @@ fn kind(token: &Token) -> Option<Kind>
     }
 }
 
+/// What is left of a text behind a token: with the gap how many bytes, and what follows the gap.
+#[derive(Clone, Copy)]
+pub struct Behind<'a> {
+    left: usize,
+    rest: &'a [u8],
+}
+
 /// What is left of a text, behind the gap before it, and how many braces are open there.
 #[derive(Drop)]
 pub struct Cursor<'a> {
     here: &'a [u8],
     braces: usize,
+    /// How many bytes are left behind the last token that was passed.
+    last: usize,
+    /// How many are left behind the token before that one.
+    end: usize,
 }
 
 impl<'a> Model for Cursor<'a> {
@@ -117,15 +130,20 @@ impl<'a> Model for Cursor<'a> {
 
     ghost Value = { CursorView };
 
-    ghost view = { λ c. record { here = c.here.now; braces = c.braces } };
+    ghost view = { λ c. record { here = c.here.now; braces = c.braces; last = c.last; end = c.end } };
 }
 
 impl<'a> Cursor<'a> {
     /// The start of a text, of which this follows the first gap.
     pub fn new(here: &'a [u8]) -> Cursor<'a>
-        ensures { result ≡ record { here = here.now; braces = 0 } }
+        ensures { result ≡ record { here = here.now; braces = 0; last = 0; end = 0 } }
     {
-        Cursor { here, braces: 0 }
+        Cursor {
+            here,
+            braces: 0,
+            last: 0,
+            end: 0,
+        }
     }
 
     /// What is left.
@@ -135,43 +153,56 @@ impl<'a> Cursor<'a> {
         self.here
     }
 
-    /// Puts the token that stands here, and gives what follows it and the gap behind it, if one does.
+    /// Puts the token that stands here, and gives what follows it, if one does.
     #[inline(always)]
-    fn token(&self, token: &mut Token) -> Option<&'a [u8]>
-        ensures some { IfSome result (λ rest. Stands self.now.here token.new rest.now) }
+    fn token(&self, token: &mut Token) -> Option<Behind<'a>>
+        ensures some { IfSome result (λ b. StandsBefore self.now.here token.new b.rest.now b.left) }
         ensures none { IfNone result (IsBare self.now.here) }
     {
         let length = put_lexeme(self.here, token);
         if length == 0 {
             return None;
         }
-        Some(behind(self.here, length))
+        Some(Behind {
+            left: self.here.len() - length,
+            rest: behind(self.here, length),
+        })
     }
 
-    /// What follows a sign of one byte, with which no longer one begins, and the gap behind it, if it stands here.
+    /// What follows a sign of one byte, with which no longer one begins, if it stands here.
     #[inline(always)]
-    fn behind_sign(&self, sign: u8) -> Option<&'a [u8]>
+    fn behind_sign(&self, sign: u8) -> Option<Behind<'a>>
         requires word { is_name_byte sign ≡ false }
         requires alone { double_sign sign ≡ None }
         ensures some { (token : AToken) → single_sign sign ≡ Some token
-            → IfSome result (λ rest. Stands self.now.here token rest.now) }
+            → IfSome result (λ b. StandsBefore self.now.here token b.rest.now b.left) }
         ensures none { (token : AToken) → spelling_of token ≡ sign ∷ [] → IfNone result (IsAbsent token self.now) }
     {
-        let Some((first, _)) = self.here.split_first() else {
+        let Some((first, others)) = self.here.split_first() else {
             return None;
         };
         if *first != sign {
             return None;
         }
-        Some(behind(self.here, 1))
+        Some(Behind {
+            left: others.len(),
+            rest: behind(self.here, 1),
+        })
     }
 
     /// Passes a token that is no brace. What follows it is this.
     #[inline(always)]
-    fn pass(&mut self, rest: &'a [u8])
-        ensures { self.new ≡ record { here = rest.now; braces = self.old.braces } }
+    fn pass(&mut self, rest: Behind<'a>)
+        ensures { self.new ≡ record {
+          here = rest.entry.rest.now;
+          braces = self.old.braces;
+          last = rest.entry.left;
+          end = self.old.last;
+        } }
     {
-        self.here = rest;
+        self.here = rest.rest;
+        self.end = self.last;
+        self.last = rest.left;
     }
 
     /// Passes a sign, if it stands here.
@@ -221,7 +252,11 @@ impl<'a> Cursor<'a> {
         if begins_with(others, b'=') {
             return false;
         }
-        self.here = behind(self.here, 1);
+        let rest = Behind {
+            left: others.len(),
+            rest: behind(self.here, 1),
+        };
+        self.pass(rest);
         true
     }
 
@@ -271,7 +306,9 @@ impl<'a> Cursor<'a> {
         let Some(rest) = self.behind_sign(b'}') else {
             return false;
         };
-        self.here = rest;
+        self.here = rest.rest;
+        self.end = self.last;
+        self.last = rest.left;
         self.braces = self.braces.saturating_sub(1);
         true
     }
@@ -287,7 +324,9 @@ impl<'a> Cursor<'a> {
         if self.braces >= MOST_DEPTH {
             return Err(Stop::TooDeep);
         }
-        self.here = rest;
+        self.here = rest.rest;
+        self.end = self.last;
+        self.last = rest.left;
         self.braces += 1;
         Ok(())
     }

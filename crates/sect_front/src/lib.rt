@@ -30,7 +30,7 @@ pub use limits::{MOST_BYTES, MOST_DEPTH, MOST_NAME_BYTES, limits_of_texts};
 pub use listing::tokens_of;
 pub use literal::Literal;
 pub use name::Name;
-pub use parsing::{FrontFault, PlacedFault, parse, parse_gapped, parse_placed};
+pub use parsing::{FrontFault, PlacedFault, parse, parse_gapped, parse_placed, parse_spanned};
 pub use printing::print;
 pub use room::make_room;
 pub use same::is_same;

@@ -8,6 +8,7 @@ ghost use Rattle.std.specs.Prelude.{◌≡◌, ◌≢◌, ◌≤◌, [], IfOk, I
 ghost use Rattle.sect_front.specs.Front.{IsSpelled, IsFault, Judges, Gives, Refuses, line_of as line};
 ghost use Rattle.sect_front.specs.{FaultPlaces.{IsFaultSpan, IsWithin, AreKindsFor, word_span}, Lexing.{IsBadAt}};
 ghost use Rattle.sect_front.specs.{TreeView.{TreeView}, Limits.{most_bytes}, LongGaps.{AreGaps}};
+ghost use Rattle.sect_front.specs.ItemSpans.{AreSpansOf};
 
 use crate::gaps::put_gaps;
 use crate::limits::MOST_BYTES;
@@ -136,11 +137,13 @@ pub fn parse(alloc: Global, bytes: &[u8]) -> Result<Tree, FrontFault>
     }
 }
 
-/// The tree that a text spells, or its first fault and the bytes at which that stands. That a tree is the only one and
-/// a fault the only fault is `parse`'s.
-pub fn parse_placed(alloc: Global, bytes: &[u8]) -> Result<Tree, PlacedFault>
+/// The tree that a text spells and the spans of its items, in the order in which they begin, or its first fault and the
+/// bytes at which that stands. That a tree is the only one and a fault the only fault is `parse`'s.
+pub fn parse_spanned(alloc: Global, bytes: &[u8]) -> Result<(Tree, Vec<Span>), PlacedFault>
     // A tree that is given is spelled so.
-    ensures tree { IfOk result (λ tree. IsSpelled bytes.now tree) }
+    ensures tree { IfOk result (λ r. IsSpelled bytes.now r.0) }
+    // The spans are those of its items: the tokens of each stand exactly there.
+    ensures spans { IfOk result (λ r. AreSpansOf bytes.now r.0 r.1.items) }
     // A fault is the first one, on its line.
     ensures fault { IfErr result (λ placed. IsFault bytes.now placed.fault) }
     // It stands at these bytes, which are the text's.
@@ -155,7 +158,7 @@ pub fn parse_placed(alloc: Global, bytes: &[u8]) -> Result<Tree, PlacedFault>
         return Err(placed(alloc, FrontFault::TooLarge, span));
     }
     match read(alloc, bytes) {
-        Ok(tree) => Ok(tree),
+        Ok(read) => Ok(read),
         Err(ReadFault::Memory) => {
             let span = Span { start: 0, end: 0 };
             Err(placed(alloc, FrontFault::Memory, span))
@@ -182,6 +185,26 @@ pub fn parse_placed(alloc: Global, bytes: &[u8]) -> Result<Tree, PlacedFault>
             };
             Err(placed(alloc, FrontFault::UnexpectedEnd { line }, span))
         }
+    }
+}
+
+/// The tree that a text spells, or its first fault and the bytes at which that stands. That a tree is the only one and
+/// a fault the only fault is `parse`'s.
+pub fn parse_placed(alloc: Global, bytes: &[u8]) -> Result<Tree, PlacedFault>
+    // A tree that is given is spelled so.
+    ensures tree { IfOk result (λ tree. IsSpelled bytes.now tree) }
+    // A fault is the first one, on its line.
+    ensures fault { IfErr result (λ placed. IsFault bytes.now placed.fault) }
+    // It stands at these bytes, which are the text's.
+    ensures span { IfErr result (λ placed. IsFaultSpan bytes.now placed.fault placed.span) }
+    ensures within { IfErr result (λ placed. (placed.fault ≢ FrontFault.Memory)
+        → IsWithin (length bytes.now) placed.span) }
+    // In place of a token that can't stand where it does, one of these kinds may.
+    ensures expected { IfErr result (λ placed. AreKindsFor bytes.now placed.fault placed.span placed.expected.items) }
+{
+    match parse_spanned(alloc, bytes) {
+        Ok((tree, _)) => Ok(tree),
+        Err(placed) => Err(placed),
     }
 }
 

@@ -1,11 +1,11 @@
 //! The tree that a text spells.
 
-ghost use Rattle.std.specs.Prelude.{◌≡◌, ◌≤◌, ◌++◌, length, List, ℕ, IfOk, MatchOption};
-ghost use Rattle.sect_front.specs.{TokenAt.{TokenAt}, Lexing.{Spells, IsBadAt}};
-ghost use Rattle.sect_front.specs.steps.Verdicts.{Reached, JudgesText, IsAnswerOf, IsReadFault};
+ghost use Rattle.std.specs.Prelude.{◌≡◌, ◌≤◌, ◌++◌, length, List, ℕ, IfOk, IfErr, MatchOption};
+ghost use Rattle.sect_front.specs.{TokenAt.{TokenAt}, Lexing.{Spells, IsBadAt}, ItemSpans.{AreSpansOf}};
+ghost use Rattle.sect_front.specs.{Faults.{IsTree}, steps.Verdicts.{Reached, Spelling, IsAnswerOf, IsReadFault}};
 ghost use Rattle.sect_front.specs.steps.{Passing.{text_start}, Declaring.{StopsText}};
 
-use crate::cursor::{Cursor, Source, Stop};
+use crate::cursor::{Cursor, Source, Spans, Stop};
 use crate::expected::Expected;
 use crate::lexer::{after_gap, behind, lexeme};
 use crate::span::Span;
@@ -75,8 +75,8 @@ fn unexpected(
     expected: Expected,
 ) -> Result<ReadFault, AllocError>
     requires { length here.now ≤ length bytes.now }
-    ensures { IfOk result (λ fault. (k : ℕ) → StopsText (Stop.At expected) (text_start bytes.now)
-        (record { here = here.now; braces = k }) → IsReadFault bytes.now fault) }
+    ensures { IfOk result (λ fault. (k l e : ℕ) → StopsText (Stop.At expected) (text_start bytes.now)
+        (record { here = here.now; braces = k; last = l; end = e }) → IsReadFault bytes.now fault) }
 {
     if here.is_empty() {
         return Ok(ReadFault::Unfinished);
@@ -97,8 +97,8 @@ fn unexpected(
 /// The fault of a text of which this is left where a block opens that is too deep.
 fn too_deep(bytes: &[u8], here: &[u8]) -> ReadFault
     requires { length here.now ≤ length bytes.now }
-    ensures { (k : ℕ) → StopsText Stop.TooDeep (text_start bytes.now)
-        (record { here = here.now; braces = k }) → IsReadFault bytes.now result }
+    ensures { (k l e : ℕ) → StopsText Stop.TooDeep (text_start bytes.now)
+        (record { here = here.now; braces = k; last = l; end = e }) → IsReadFault bytes.now result }
 {
     let start = bytes.len() - here.len();
     let Some((_, length)) = lexeme(here) else {
@@ -111,12 +111,16 @@ fn too_deep(bytes: &[u8], here: &[u8]) -> ReadFault
     unless_bad(bytes, behind(here, length), ReadFault::TooDeep(span))
 }
 
-/// The tree of a text, or the first place at which there is none: a bad lexeme comes before all other faults.
-pub fn read(alloc: Global, bytes: &[u8]) -> Result<Tree, ReadFault>
-    ensures { JudgesText bytes.now result }
+/// The tree of a text and the spans of its items, or the first place at which there is none: a bad lexeme comes before
+/// all other faults.
+pub fn read(alloc: Global, bytes: &[u8]) -> Result<(Tree, Vec<Span>), ReadFault>
+    ensures tree { IfOk result (λ r. Spelling bytes.now (λ list. IsTree list r.0)) }
+    ensures spans { IfOk result (λ r. AreSpansOf bytes.now r.0 r.1.items) }
+    ensures fault { IfErr result (IsReadFault bytes.now) }
 {
     let mut cursor = Cursor::new(after_gap(bytes));
-    match cursor.program(alloc) {
+    let mut spans = Spans::new(alloc, bytes.len());
+    match cursor.program(&mut spans) {
         Ok(source) => {
             let Source {
                 records,
@@ -124,7 +128,8 @@ pub fn read(alloc: Global, bytes: &[u8]) -> Result<Tree, ReadFault>
                 procedures,
                 threads,
             } = source;
-            Ok(Tree::new(records, globals, procedures, threads))
+            let tree = Tree::new(records, globals, procedures, threads);
+            Ok((tree, spans.into_items()))
         }
         Err(Stop::Memory) => Err(ReadFault::Memory),
         Err(Stop::At(expected)) => Err(unexpected(alloc, bytes, cursor.rest(), expected)?),

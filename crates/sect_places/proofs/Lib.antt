@@ -18,11 +18,13 @@ mod Coming
 mod ComingSections
 mod KnownCalls
 mod ProgramOrigins
+mod Lengths
 mod Past
 mod SectionItems
 mod Owned
 mod Within
 mod Whole
+mod Tabled
 mod Standing
 mod NamesRead
 mod WantedNames

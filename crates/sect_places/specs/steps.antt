@@ -1,6 +1,5 @@
 -- What the contracts of private functions speak of.
 pub mod Adding
-pub mod Placing
 pub mod Passing
 pub mod Ending
 pub mod Calls

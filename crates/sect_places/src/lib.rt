@@ -2,6 +2,7 @@
 //! nodes of a program come from.
 #![tactic(auto)]
 
+mod counts;
 mod declarations;
 mod faults;
 mod inside;
@@ -20,9 +21,7 @@ mod positions;
 mod range;
 mod sections;
 mod seek;
-mod spans;
 mod uses;
-mod walk;
 mod wish;
 mod words;
 
@@ -30,7 +29,7 @@ pub use declarations::{
     base_in, field_of, global_of, procedure_of, record_of, type_in, variable_of,
 };
 pub use faults::fault_span;
-pub use items::{item_ranges, item_spans, tree_spans};
+pub use items::{item_spans, tree_spans};
 pub use line_index::LineIndex;
 pub use lines::{NodeLine, node_lines};
 pub use name_use::{NameSpan, NameUse, Role, Thing};
@@ -44,7 +43,6 @@ pub use positions::positions_of;
 pub use range::{TokenRange, range_span};
 pub use sections::section_items;
 pub use seek::item_range;
-pub use spans::token_spans;
 pub use uses::item_uses;
 pub use wish::Wish;
 pub use words::range_words;

@@ -10,8 +10,8 @@ ghost use Rattle.sect_places.specs.Ranges.{record_ranges, procedure_ranges, thre
 ghost use Rattle.sect_places.specs.Ranges.{globals_ranges, procedures_ranges, threads_ranges};
 ghost use Rattle.sect_places.specs.steps.Seeking.{IsFound, IsBehind, parts_count, parts_ranges};
 
+use crate::counts::{locking_count, operands_count, parameters_count, primitive_count};
 use crate::range::TokenRange;
-use crate::walk::{locking_count, operands_count, parameters_count, primitive_count};
 use sect_front::{Block, Declaration, GlobalObject, Procedure, Record, Statement, Thread, Tree};
 
 /// Where the item that is sought stands: behind so many others, of which the first begins with this token or behind it.

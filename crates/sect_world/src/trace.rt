@@ -3,7 +3,8 @@
 ghost use Rattle.std.specs.Prelude.{◌≡◌, ◌≤◌, ◌<◌, ◌+◌, ◌++◌, ◌∷◌, [], length, drop, vec_len, vec_capacity, IfOk, OnOk};
 ghost use Rattle.std.specs.Prelude.{replicate, count_by};
 ghost use Rattle.sect_world.specs.steps.Tracing.{noted_of, taken_by, count_of, count_in, deed_of, events_of};
-ghost use Rattle.sect_world.specs.{steps.Tracing.{notes_again}, Traces.{agains_in}, declared.trace.Note.{Note as ANote}};
+ghost use Rattle.sect_world.specs.{steps.Tracing.{notes_again}, Traces.{agains_in}};
+ghost use Rattle.sect_world.specs.declared.trace.Note.{Note as ANote};
 
 use crate::event::{Deed, Event};
 use sect_modes::{Key, Mode};

@@ -1,5 +1,5 @@
 -- What a rule of the grammar reads, and where it stops.
-use Rattle.std.specs.Prelude.{◌≡◌, ℕ, ◌≤◌, true, false, List, [], ◌∷◌, ◌++◌, Some, ⊤, drop}
+use Rattle.std.specs.Prelude.{◌≡◌, ℕ, ◌-◌, ◌≤◌, true, false, List, [], ◌∷◌, ◌++◌, Some, ⊤, drop, length}
 use Rattle.sect_front.specs.{Syntax.{BlockView, StatementView, If}, Trees.{append}, Tokens.{statement_tokens}}
 use Rattle.sect_front.specs.{Gaps.{after_gap}, Braces.{brace}, Limits.{most_depth}, declared.token.Token.{Token}}
 use Rattle.sect_front.specs.{declared.expected.Expected.{Expected}, declared.cursor.Stop.{Stop}}
@@ -8,14 +8,17 @@ use Rattle.sect_front.specs.declared.token.Token.TheVariants as token
 use Rattle.sect_front.specs.declared.expected.Expected.TheVariants as expected
 use Rattle.sect_front.specs.declared.cursor.Stop.TheVariants as stop
 
--- what is left of a text behind the gap before it, and how many braces are open there
+-- what is left of a text behind the gap before it, how many braces are open there, and how many bytes are left behind
+-- the last token that was passed and behind the one before that
 pub record CursorView : Type 0 where
   pub here : List ℕ
   pub braces : ℕ
+  pub last : ℕ
+  pub end : ℕ
 
 -- where a text begins
 abbrev pub text_start : List ℕ → CursorView
-text_start bytes = record { here = after_gap bytes; braces = 0 }
+text_start bytes = record { here = after_gap bytes; braces = 0; last = 0; end = 0 }
 
 -- the token stands at the front, and what follows it and the gap behind it is this
 pub record Stands (here : List ℕ) (t : Token) (there : List ℕ) : Type 0 where
@@ -23,9 +26,16 @@ pub record Stands (here : List ℕ) (t : Token) (there : List ℕ) : Type 0 wher
   pub lexed : lexeme_of here ≡ Some (t, count)
   pub behind : there ≡ after_gap (drop count here)
 
+-- the same, and behind the token so many bytes are left
+pub record StandsBefore (here : List ℕ) (t : Token) (there : List ℕ) (left : ℕ) : Type 0 where
+  pub stands : Stands here t there
+  pub behind : left ≡ length here - stands.count
+
 -- the token is passed, and with it no brace too many is opened
 pub record Passes (here : CursorView) (t : Token) (there : CursorView) : Type 0 where
   pub stands : Stands here.here t there.here
+  pub last : there.last ≡ length here.here - stands.count
+  pub end : there.end ≡ here.last
   pub braces : there.braces ≡ brace here.braces t
   pub low : here.braces ≤ most_depth → there.braces ≤ most_depth
 

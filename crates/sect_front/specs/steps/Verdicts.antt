@@ -1,8 +1,8 @@
 -- What a reading of a text answers.
-use Rattle.std.specs.Prelude.{◌≡◌, ℕ, ◌≤◌, List, ◌++◌, Some, Result, Ok, Err, ⊤, length, slice_get}
-use Rattle.sect_front.specs.{TreeView.{TreeView}, TokenAt.{TokenAt}, Gaps.{after_gap}}
+use Rattle.std.specs.Prelude.{◌≡◌, ℕ, ◌≤◌, List, ◌++◌, Some, ⊤, length, slice_get}
+use Rattle.sect_front.specs.{TokenAt.{TokenAt}, Gaps.{after_gap}}
 use Rattle.sect_front.specs.{Lexing.{Reaches, Spells, IsBadAt}, Expected.{AreExpectedAt}, FaultPlaces.{token_span}}
-use Rattle.sect_front.specs.Faults.{tokens_in, IsTree, IsUnexpectedAt, IsTooDeepAt, IsUnfinished}
+use Rattle.sect_front.specs.Faults.{tokens_in, IsUnexpectedAt, IsTooDeepAt, IsUnfinished}
 use Rattle.sect_front.specs.{declared.span.Span.{Span}, declared.token.Token.{Token}}
 use Rattle.sect_front.specs.declared.reading.ReadFault.{ReadFault}
 use Rattle.sect_front.specs.declared.reading.ReadFault.TheVariants as fault
@@ -39,11 +39,6 @@ IsReadFault bytes (fault.Unexpected span kinds) =
 IsReadFault bytes (fault.TooDeep span) = SpellingAt bytes span IsTooDeepAt
 IsReadFault bytes fault.Unfinished = Spelling bytes IsUnfinished
 IsReadFault bytes fault.Memory = ⊤
-
--- of a text, its tree or its first fault
-abbrev pub JudgesText : List ℕ → Result TreeView ReadFault → Type 0
-JudgesText bytes (Ok tree) = Spelling bytes (λ list. IsTree list tree)
-JudgesText bytes (Err e) = IsReadFault bytes e
 
 -- the answer is the text's first fault, if the given one is wherever more tokens follow these up to the text's end
 abbrev pub IsAnswerOf : List ℕ → List TokenAt → ReadFault → ReadFault → Type 0

@@ -1,12 +1,13 @@
 //! Statements, by one function for each rule of the grammar.
 
-ghost use Rattle.std.specs.Prelude.{◌∷◌, [], IfOk, IfErr};
+ghost use Rattle.std.specs.Prelude.{◌≡◌, ◌∷◌, [], length, IfOk, IfErr};
 ghost use Rattle.sect_front.specs.{Grammar.{operand_token}, Tokens.{test_tokens, operands_tokens, block_tokens}};
 ghost use Rattle.sect_front.specs.declared.token.Token.{Token as AToken};
 ghost use Rattle.sect_front.specs.steps.Places.{test_places, store_places};
 ghost use Rattle.sect_front.specs.steps.Passing.{ArePassed, IsAbsent, IsAlike, StopsIn, HasAdded};
+ghost use Rattle.sect_front.specs.{ItemSpans.{past, block_spans}, steps.Spanning.{with_spans, HasItems}};
 
-use crate::cursor::{Cursor, Keyword, Stop};
+use crate::cursor::{Cursor, Keyword, Spans, Stop};
 use crate::expected::Expected;
 use crate::items::Items;
 use crate::name::Name;
@@ -215,28 +216,37 @@ impl<'a> Cursor<'a> {
 
     /// "{" {stmt} "}", where this may stand
     #[cycle(statements)]
-    fn block(&mut self, alloc: Global, expected: Expected) -> Result<Block, Stop>
+    fn block(&mut self, expected: Expected, spans: &mut Spans) -> Result<Block, Stop>
         requires alike { IsAlike expected Expected.OpenBrace self.old }
         ensures ok { IfOk result (λ b. ArePassed self.old
             (AToken.OpenBrace ∷ block_tokens b (AToken.CloseBrace ∷ [])) self.new) }
+        ensures spans { IfOk result (λ b. spans.new ≡ with_spans spans.old
+            (block_spans spans.old.total (past self.old.here (AToken.OpenBrace ∷ [])) b)) }
         ensures err { IfErr result (λ stop. StopsIn stop (expected ∷ []) self.old self.new) }
     {
         self.open_brace(expected)?;
-        self.statements(alloc)
+        self.statements(spans)
     }
 
-    /// Reads the `if` behind its word. Gives the place behind it.
+    /// Reads the `if` behind its word, before whose first byte so many are left. Gives the place behind it.
     #[cycle(statements)]
-    fn branch(&mut self, alloc: Global, block: &mut Block) -> Result<Expected, Stop>
-        ensures ok { IfOk result (λ e. HasAdded e (AToken.If ∷ []) self.old self.new block.old block.new) }
+    fn branch(
+        &mut self,
+        start: usize,
+        spans: &mut Spans,
+        block: &mut Block,
+    ) -> Result<Expected, Stop>
+        ensures ok { IfOk result (λ e. HasItems e (AToken.If ∷ []) self.old self.new block.old block.new
+            start spans.old spans.new) }
         ensures alike { IfOk result (λ e. IsAlike e Expected.Start self.new) }
         ensures err { IfErr result (λ stop. StopsIn stop
             (test_places (Expected.OpenBrace ∷ Expected.StartOrElse ∷ [])) self.old self.new) }
     {
         let test = self.test()?;
-        let then = self.block(alloc, Expected::OpenBrace)?;
+        spans.add(start, self.last)?;
+        let then = self.block(Expected::OpenBrace, spans)?;
         if self.takes_keyword(Keyword::Else) {
-            let other = self.block(alloc, Expected::OpenBrace)?;
+            let other = self.block(Expected::OpenBrace, spans)?;
             block.push(Statement::IfElse(test, then, other))?;
             return Ok(Expected::Start);
         }
@@ -244,32 +254,35 @@ impl<'a> Cursor<'a> {
         Ok(Expected::StartOrElse)
     }
 
-    /// Reads the `while` behind its word.
+    /// Reads the `while` behind its word, before whose first byte so many are left.
     #[cycle(statements)]
-    fn repeated(&mut self, alloc: Global, block: &mut Block) -> Result<(), Stop>
-        ensures ok { IfOk result (λ _. HasAdded Expected.Start (AToken.While ∷ [])
-            self.old self.new block.old block.new) }
+    fn repeated(&mut self, start: usize, spans: &mut Spans, block: &mut Block) -> Result<(), Stop>
+        ensures ok { IfOk result (λ _. HasItems Expected.Start (AToken.While ∷ [])
+            self.old self.new block.old block.new start spans.old spans.new) }
         ensures err { IfErr result (λ stop. StopsIn stop (test_places (Expected.OpenBrace ∷ [])) self.old self.new) }
     {
         let test = self.test()?;
-        let body = self.block(alloc, Expected::OpenBrace)?;
+        spans.add(start, self.last)?;
+        let body = self.block(Expected::OpenBrace, spans)?;
         block.push(Statement::While(test, body))?;
         Ok(())
     }
 
-    /// Reads the `atomic` behind its word.
+    /// Reads the `atomic` behind its word, before whose first byte so many are left.
     #[cycle(statements)]
-    fn atomic(&mut self, alloc: Global, block: &mut Block) -> Result<(), Stop>
-        ensures ok { IfOk result (λ _. HasAdded Expected.Start (AToken.Atomic ∷ [])
-            self.old self.new block.old block.new) }
+    fn atomic(&mut self, start: usize, spans: &mut Spans, block: &mut Block) -> Result<(), Stop>
+        ensures ok { IfOk result (λ _. HasItems Expected.Start (AToken.Atomic ∷ [])
+            self.old self.new block.old block.new start spans.old spans.new) }
         ensures err { IfErr result (λ stop. StopsIn stop (Expected.AllOrBrace ∷ []) self.old self.new) }
     {
         if self.takes_keyword(Keyword::All) {
-            let body = self.block(alloc, Expected::OpenBrace)?;
+            spans.add(start, self.last)?;
+            let body = self.block(Expected::OpenBrace, spans)?;
             block.push(Statement::Atomic(Locking::All, body))?;
             return Ok(());
         }
-        let body = self.block(alloc, Expected::AllOrBrace)?;
+        spans.add(start, self.last)?;
+        let body = self.block(Expected::AllOrBrace, spans)?;
         block.push(Statement::Atomic(Locking::Inferred, body))?;
         Ok(())
     }
@@ -278,13 +291,14 @@ impl<'a> Cursor<'a> {
     #[cycle(statements)]
     pub fn statement(
         &mut self,
-        alloc: Global,
         expected: Expected,
+        spans: &mut Spans,
         block: &mut Block,
     ) -> Result<Expected, Stop>
         requires alike { IsAlike expected Expected.Start self.old }
         requires brace { IsAbsent AToken.CloseBrace self.old }
-        ensures ok { IfOk result (λ e. HasAdded e [] self.old self.new block.old block.new) }
+        ensures ok { IfOk result (λ e. HasItems e [] self.old self.new block.old block.new
+            (length self.old.here) spans.old spans.new) }
         ensures alike { IfOk result (λ e. IsAlike e Expected.Start self.new) }
         ensures err { IfErr result (λ stop. StopsIn stop (expected ∷ []) self.old self.new) }
     {
@@ -292,30 +306,34 @@ impl<'a> Cursor<'a> {
         let Some(rest) = self.token(&mut token) else {
             return Err(Stop::At(expected));
         };
+        let start = self.here.len();
         match &token {
             Token::Name(x) => {
                 self.pass(rest);
                 self.named(x, block)?;
+                spans.add(start, self.end)?;
             }
             Token::If => {
                 self.pass(rest);
-                return self.branch(alloc, block);
+                return self.branch(start, spans, block);
             }
             Token::While => {
                 self.pass(rest);
-                self.repeated(alloc, block)?;
+                self.repeated(start, spans, block)?;
             }
             Token::Print => {
                 self.pass(rest);
                 self.printed(block)?;
+                spans.add(start, self.end)?;
             }
             Token::Atomic => {
                 self.pass(rest);
-                self.atomic(alloc, block)?;
+                self.atomic(start, spans, block)?;
             }
             Token::Call => {
                 self.pass(rest);
-                self.called(alloc, block)?;
+                self.called(spans.alloc(), block)?;
+                spans.add(start, self.end)?;
             }
             _ => return Err(Stop::At(expected)),
         }
@@ -324,14 +342,16 @@ impl<'a> Cursor<'a> {
 
     /// {stmt} "}"
     #[cycle(statements)]
-    fn statements(&mut self, alloc: Global) -> Result<Block, Stop>
+    fn statements(&mut self, spans: &mut Spans) -> Result<Block, Stop>
         ensures ok { IfOk result (λ b. ArePassed self.old (block_tokens b (AToken.CloseBrace ∷ [])) self.new) }
+        ensures spans { IfOk result (λ b. spans.new ≡ with_spans spans.old
+            (block_spans spans.old.total self.old.here b)) }
         ensures err { IfErr result (λ stop. StopsIn stop (Expected.Start ∷ []) self.old self.new) }
     {
-        let mut block = Block::new(alloc);
+        let mut block = Block::new(spans.alloc());
         let mut expected = Expected::Start;
         'read: while !self.takes_close() {
-            expected = self.statement(alloc, expected, &mut block)?;
+            expected = self.statement(expected, spans, &mut block)?;
         }
         block.fit();
         Ok(block)

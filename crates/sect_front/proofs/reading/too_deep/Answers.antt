@@ -9,8 +9,8 @@ pub overflow_sub-start : goal.overflow_sub-start
 overflow_sub-start c = c.requires
 
 pub returns-in_default : goal.returns-in_default
-returns-in_default c = λ k h.
-    let deep = stopped_deep c.args.bytes.now (record { here = c.args.here.now; braces = k }) h in
+returns-in_default c = λ k l e h.
+    let deep = stopped_deep c.args.bytes.now (record { here = c.args.here.now; braces = k; last = l; end = e }) h in
     absurd (none_or_some _ (sym (sym c.lexeme.ensures ∙ c.in_default.is) ∙ deep.2.brace.lexed))
 
 pub overflow_add-span : goal.overflow_add-span
@@ -30,9 +30,9 @@ unless_bad-requires c = omega (
 )
 
 pub returns : goal.returns
-returns c = λ k h.
+returns c = λ k l e h.
     let bytes = c.args.bytes.now in
-    let there : CursorView = record { here = c.args.here.now; braces = k } in
+    let there : CursorView = record { here = c.args.here.now; braces = k; last = l; end = e } in
     let lexed = sym c.lexeme.ensures ∙ c.in-Some.is in
     let deep = stopped_deep bytes there h in
     c.unless_bad.ensures (deep.1.read.places ++ token_here bytes c.args.here.now _ ∷ [])

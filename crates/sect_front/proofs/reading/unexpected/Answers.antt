@@ -6,21 +6,27 @@ use Rattle.sect_front.proofs.Halting.{stopped_at, unfinished_text, bad_text, rea
 use Rattle.sect_front.proofs.reading.unexpected.Goals as goal
 
 pub returns-then-is_empty : goal.returns-then-is_empty
-returns-then-is_empty c = λ k h.
+returns-then-is_empty c = λ k l e h.
     let left : length c.args.here.now ≡ 0 = grind (arith, nat_tests) in
-    unfinished_text c.args.bytes.now c.args.expected (record { here = c.args.here.now; braces = k }) h
+    unfinished_text c.args.bytes.now c.args.expected (record {
+      here = c.args.here.now;
+      braces = k;
+      last = l;
+      end =
+          e;
+    }) h
     (nil_from_length _ left)
 
 pub overflow_sub-start : goal.overflow_sub-start
 overflow_sub-start c = c.requires
 
 pub returns-in_default : goal.returns-in_default
-returns-in_default c = λ k h.
+returns-in_default c = λ k l e h.
     let some : 0 < length c.args.here.now = grind (arith, nat_tests) in
-    let there : CursorView = record { here = c.args.here.now; braces = k } in
+    let there : CursorView = record { here = c.args.here.now; braces = k; last = l; end = e } in
     bad_text c.args.bytes.now c.args.expected there (length c.args.bytes.now - length c.args.here.now)
     (stopped_at c.args.bytes.now c.args.expected there h).0
-    (λ e. absurd (omega (arith, ap length e, some))) (sym c.lexeme.ensures ∙ c.in_default.is)
+    (λ n. absurd (omega (arith, ap length n, some))) (sym c.lexeme.ensures ∙ c.in_default.is)
     (omega (arith, c.requires))
 
 pub overflow_add-span : goal.overflow_add-span
@@ -40,9 +46,9 @@ unless_bad-requires c = omega (
 )
 
 pub returns : goal.returns
-returns c = λ k h.
+returns c = λ k l e h.
     let bytes = c.args.bytes.now in
-    let there : CursorView = record { here = c.args.here.now; braces = k } in
+    let there : CursorView = record { here = c.args.here.now; braces = k; last = l; end = e } in
     let lexed = sym c.lexeme.ensures ∙ c.in-Some.is in
     let stopped = stopped_at bytes c.args.expected there h in
     c.unless_bad.ensures (stopped.0.read.places ++ token_here bytes c.args.here.now _ ∷ [])

@@ -1,4 +1,5 @@
-use Rattle.std.proofs.Common.{◌≡◌, [], ◌∷◌, Some, length, true, false, refl, sym, ◌∙◌, ap, subst, arith}
+use Rattle.std.proofs.Common.{◌≡◌, [], ◌∷◌, Some, IfOk, length, true, false, refl, sym, ◌∙◌, ap, subst, arith}
+use Rattle.std.proofs.Common.{append-nil}
 use Rattle.std.proofs.lemmas.Result.{IfOk-weaker}
 use Rattle.sect_lemmas.proofs.Results.{given}
 use Rattle.sect_front.specs.{Syntax.{If, IfElse, While, Atomic}, Tokens.{test_tokens, block_tokens}}
@@ -7,13 +8,14 @@ use Rattle.sect_front.specs.steps.Passing.{ArePassed, IsAbsent, IsAlike, StopsIn
 use Rattle.sect_front.proofs.{Places.{body_tokens}, Leading.{test_after, body_after}}
 use Rattle.sect_front.proofs.{Growing.{block_behind}, Adding.{added_are, added_leads, added_shorter}}
 use Rattle.sect_front.proofs.Stopping.{passed_append}
-use Rattle.sect_front.proofs.Stopping.{passed_shorter, no_longer, added_behind, refused_alike, refused_by}
+use Rattle.sect_front.proofs.Stopping.{passed_shorter, no_longer, refused_alike, refused_by}
 use Rattle.sect_front.proofs.Stopping.{refused_bare, refused_brace, alike_takes, alike_else, alike_all, not_start}
 use Rattle.sect_front.specs.declared.token.Token.TheVariants as token
 use Rattle.sect_front.specs.declared.tree.Locking.TheVariants as locking
 use Rattle.sect_front.specs.declared.expected.Expected.TheVariants as expected
 use Rattle.sect_front.proofs.Chains.{none, rule, one, passed, stops, fails_in, fails_part, fails_at_brace, stops_so}
-use Rattle.sect_front.proofs.Chains.{adds_so}
+use Rattle.sect_front.specs.{ItemSpans.{block_spans}, steps.Spanning.{with_spans}}
+use Rattle.sect_front.proofs.Spans.{passed_here, one_block, two_blocks, one_statement, item_added, items_behind}
 use Rattle.sect_front.proofs.cursor.Cursor.+statements.Goals as goal
 
 pub block-returns-in_err-open_brace-clause-err : goal.block-returns-in_err-open_brace-clause-err
@@ -33,6 +35,14 @@ block-returns-clause-ok t c =
     IfOk-weaker c.statements.result _
     (λ b. ArePassed c.args.self.now (token.OpenBrace ∷ body_tokens b []) c.statements.new.self)
     (λ b h. (c.open_brace.new.self, c.in_ok-open_brace.ensures.ok, h)) c.statements.ensures.ok
+
+pub block-returns-clause-spans : goal.block-returns-clause-spans
+block-returns-clause-spans t c =
+    let was = c.args.spans.now in
+    let same = passed_here c.args.self.now token.OpenBrace c.open_brace.new.self c.in_ok-open_brace.ensures.ok in
+    subst (λ x. IfOk c.statements.result (λ b. c.statements.new.spans ≡ with_spans was (block_spans was.total x b)))
+    same
+    c.statements.ensures.spans
 
 pub block-returns-clause-err : goal.block-returns-clause-err
 block-returns-clause-err t c =
@@ -91,15 +101,27 @@ branch-returns-then-takes_keyword-clause-ok t c =
     let b = c.in_ok-other.other in
     let rest = token.Else ∷ token.OpenBrace ∷ body_tokens b [] in
     record {
-      statement = IfElse q a b;
-      tokens = test_tokens q (token.OpenBrace ∷ body_tokens a rest);
-      are = subst (λ x. ArePassed c.args.self.now (test_tokens q (token.OpenBrace ∷ x))
-          c.block-then-takes_keyword.new.self) (block_behind a (token.CloseBrace ∷ []) rest)
-          (passed_append c.args.self.now begun rest c.block.new.self c.block-then-takes_keyword.new.self then
-          (c.takes_keyword.new.self, c.takes_keyword.ensures.taken c.if-takes_keyword.true, c.in_ok-other.ensures.ok));
-      spelled = refl;
-      added = c.in_ok-push.ensures.ok;
-      behind = refl;
+      added = record {
+        statement = IfElse q a b;
+        tokens = test_tokens q (token.OpenBrace ∷ body_tokens a rest);
+        are = subst (λ x. ArePassed c.args.self.now (test_tokens q (token.OpenBrace ∷ x))
+            c.block-then-takes_keyword.new.self) (block_behind a (token.CloseBrace ∷ []) rest)
+            (passed_append c.args.self.now begun rest c.block.new.self c.block-then-takes_keyword.new.self then (
+              c.takes_keyword.new.self,
+              c.takes_keyword.ensures.taken c.if-takes_keyword.true,
+              c.in_ok-other.ensures.ok,
+            ));
+        spelled = refl;
+        added = c.in_ok-push.ensures.ok;
+        behind = refl;
+      };
+      spans = λ from are same. two_blocks c.args.spans.now from c.test.new.self c.block.new.self
+          c.takes_keyword.new.self token.If
+          (test_tokens q []) c.args.start c.self.inside.last a b
+          (passed_append from (token.If ∷ []) (test_tokens q []) c.args.self.now c.test.new.self are
+          c.in_ok-test.ensures.ok) same (grind arith) c.in_ok-add.ensures c.in_ok-then.ensures.spans
+          c.in_ok-then.ensures.ok
+          (c.takes_keyword.ensures.taken c.if-takes_keyword.true) c.in_ok-other.ensures.spans;
     }
 
 pub branch-returns-then-takes_keyword-clause-alike : goal.branch-returns-then-takes_keyword-clause-alike
@@ -113,12 +135,19 @@ branch-returns-clause-ok t c =
     let then = passed_append c.args.self.now (test_tokens q []) (token.OpenBrace ∷ body_tokens a []) c.test.new.self
     c.block.new.self c.in_ok-test.ensures.ok c.in_ok-then.ensures.ok in
     record {
-      statement = If q a;
-      tokens = begun;
-      are = subst (ArePassed c.args.self.now begun) (sym (c.takes_keyword.ensures.stays c.if-takes_keyword.false)) then;
-      spelled = refl;
-      added = c.in_ok-push-2.ensures.ok;
-      behind = refl;
+      added = record {
+        statement = If q a;
+        tokens = begun;
+        are = subst (ArePassed c.args.self.now begun) (sym (c.takes_keyword.ensures.stays c.if-takes_keyword.false))
+            then;
+        spelled = refl;
+        added = c.in_ok-push-2.ensures.ok;
+        behind = refl;
+      };
+      spans = λ from are same. one_block c.args.spans.now from c.test.new.self token.If (test_tokens q [])
+          c.args.start c.self.inside.last a
+          (passed_append from (token.If ∷ []) (test_tokens q []) c.args.self.now c.test.new.self are
+          c.in_ok-test.ensures.ok) same (grind arith) c.in_ok-add.ensures c.in_ok-then.ensures.spans;
     }
 
 pub branch-returns-clause-alike : goal.branch-returns-clause-alike
@@ -148,13 +177,19 @@ repeated-returns-clause-ok t c =
     let q = c.in_ok-test.test in
     let b = c.in_ok-body.body in
     record {
-      statement = While q b;
-      tokens = test_tokens q (token.OpenBrace ∷ body_tokens b []);
-      are = passed_append c.args.self.now (test_tokens q []) (token.OpenBrace ∷ body_tokens b []) c.test.new.self
-          c.block.new.self c.in_ok-test.ensures.ok c.in_ok-body.ensures.ok;
-      spelled = refl;
-      added = c.in_ok-push.ensures.ok;
-      behind = refl;
+      added = record {
+        statement = While q b;
+        tokens = test_tokens q (token.OpenBrace ∷ body_tokens b []);
+        are = passed_append c.args.self.now (test_tokens q []) (token.OpenBrace ∷ body_tokens b []) c.test.new.self
+            c.block.new.self c.in_ok-test.ensures.ok c.in_ok-body.ensures.ok;
+        spelled = refl;
+        added = c.in_ok-push.ensures.ok;
+        behind = refl;
+      };
+      spans = λ from are same. one_block c.args.spans.now from c.test.new.self token.While (test_tokens q [])
+          c.args.start c.self.inside.last b
+          (passed_append from (token.While ∷ []) (test_tokens q []) c.args.self.now c.test.new.self are
+          c.in_ok-test.ensures.ok) same (grind arith) c.in_ok-add.ensures c.in_ok-body.ensures.spans;
     }
 
 pub atomic-block-requires : goal.atomic-block-requires
@@ -170,16 +205,25 @@ atomic-block-requires t c = (
 pub atomic-returns-in_err-body-clause-err : goal.atomic-returns-in_err-body-clause-err
 atomic-returns-in_err-body-clause-err t c =
     fails_in _ _ _ (one (c.takes_keyword.ensures.taken c.if-takes_keyword.true) refl none)
-    c.in_err-body.ensures.err c.from_residual.ensures.1
+    c.in_err-body.ensures.err c.from_residual-in_err-body.ensures.1
 
 pub atomic-returns-then-takes_keyword-clause-ok : goal.atomic-returns-then-takes_keyword-clause-ok
 atomic-returns-then-takes_keyword-clause-ok t c = record {
-  statement = Atomic locking.All c.in_ok-body.body;
-  tokens = token.All ∷ token.OpenBrace ∷ body_tokens c.in_ok-body.body [];
-  are = (c.takes_keyword.new.self, c.takes_keyword.ensures.taken c.if-takes_keyword.true, c.in_ok-body.ensures.ok);
-  spelled = refl;
-  added = c.in_ok-push.ensures.ok;
-  behind = refl;
+  added = record {
+    statement = Atomic locking.All c.in_ok-body.body;
+    tokens = token.All ∷ token.OpenBrace ∷ body_tokens c.in_ok-body.body [];
+    are = (c.takes_keyword.new.self, c.takes_keyword.ensures.taken c.if-takes_keyword.true, c.in_ok-body.ensures.ok);
+    spelled = refl;
+    added = c.in_ok-push.ensures.ok;
+    behind = refl;
+  };
+  spans = λ from are same. one_block c.args.spans.now from c.takes_keyword.new.self token.Atomic (token.All ∷ [])
+      c.args.start c.self.inside.last
+      c.in_ok-body.body (passed_append from (token.Atomic ∷ []) (token.All ∷ []) c.args.self.now
+      c.takes_keyword.new.self are
+      (c.takes_keyword.new.self, c.takes_keyword.ensures.taken c.if-takes_keyword.true, refl)) same (grind arith)
+      c.in_ok-add.ensures
+      c.in_ok-body.ensures.spans;
 }
 
 pub atomic-block-requires-2 : goal.atomic-block-requires-2
@@ -203,13 +247,21 @@ atomic-returns-clause-ok t c =
     let b = c.in_ok-body-2.body in
     let tokens = token.OpenBrace ∷ body_tokens b [] in
     record {
-      statement = Atomic locking.Inferred b;
-      tokens = tokens;
-      are = subst (λ x. ArePassed x tokens c.block-2.new.self) (c.takes_keyword.ensures.stays c.if-takes_keyword.false)
-          c.in_ok-body-2.ensures.ok;
-      spelled = refl;
-      added = c.in_ok-push-2.ensures.ok;
-      behind = refl;
+      added = record {
+        statement = Atomic locking.Inferred b;
+        tokens = tokens;
+        are = subst (λ x. ArePassed x tokens c.block-2.new.self)
+            (c.takes_keyword.ensures.stays c.if-takes_keyword.false)
+            c.in_ok-body-2.ensures.ok;
+        spelled = refl;
+        added = c.in_ok-push-2.ensures.ok;
+        behind = refl;
+      };
+      spans = λ from are same. one_block c.args.spans.now from c.takes_keyword.new.self token.Atomic [] c.args.start
+          c.self-2.inside.last b
+          (subst (ArePassed from (token.Atomic ∷ [])) (sym (c.takes_keyword.ensures.stays c.if-takes_keyword.false))
+          are)
+          same (grind arith) c.in_ok-add-2.ensures c.in_ok-body-2.ensures.spans;
     }
 
 pub statement-returns-in_default-clause-err : goal.statement-returns-in_default-clause-err
@@ -218,14 +270,14 @@ statement-returns-in_default-clause-err t c =
 
 pub statement-returns-in_default-token : goal.statement-returns-in_default-token
 statement-returns-in_default-token t c =
-    let stands = c.in-Some.ensures.some in
+    let stands = c.in-Some.ensures.some.stands in
     record {
       ok = tt;
       alike = tt;
-      err = stops none refl (refused_by c.args.expected c.args.self.now c.in-Some.rest.now c.token.new.token stands
+      err = stops none refl (refused_by c.args.expected c.args.self.now _ c.token.new.token stands
           (alike_takes c.args.expected expected.Start c.token.new.token
-          (c.requires.alike c.token.new.token c.in-Some.rest.now stands)
-          ∙ not_start c.token.new.token c.args.self.now c.in-Some.rest.now stands c.requires.brace
+          (c.requires.alike c.token.new.token _ stands)
+          ∙ not_start c.token.new.token c.args.self.now _ stands c.requires.brace
           c.in_default-token.not-Name c.in_default-token.not-If c.in_default-token.not-While
           c.in_default-token.not-Print c.in_default-token.not-Atomic c.in_default-token.not-Call));
     }
@@ -236,14 +288,15 @@ statement-returns-in_err-named-in-Name-clause-err t c =
     fails_part _ _ _ (expected.AfterName ∷ []) (expected.Start ∷ []) (one p (c.requires.alike _ _ p.stands) none)
     c.in_err-named-in-Name.ensures.err c.from_residual.ensures.1
 
-pub statement-returns-in_ok-named-in-Name-clause-ok : goal.statement-returns-in_ok-named-in-Name-clause-ok
-statement-returns-in_ok-named-in-Name-clause-ok t c =
+pub statement-returns-in_ok-add-in-Name-clause-ok : goal.statement-returns-in_ok-add-in-Name-clause-ok
+statement-returns-in_ok-add-in-Name-clause-ok t c =
     let p = passed c.args.self.now c.in-Some.ensures.some c.in-Name.is (λ k. refl) c.pass.ensures in
-    added_behind expected.Start [] (token.Name c.in-Name.x) c.args.self.now _ c.named.new.self c.args.block.now
-    c.named.new.block p c.in_ok-named-in-Name.ensures.ok
+    item_added (token.Name c.in-Name.x) c.args.self.now _ c.named.new.self c.args.block.now c.named.new.block
+    (length c.self.inside.here.now) c.self-in-Name.inside.end refl p
+    c.in_ok-named-in-Name.ensures.ok (grind arith) (grind arith) c.in_ok-add-in-Name.ensures
 
-pub statement-returns-in_ok-named-in-Name-clause-alike : goal.statement-returns-in_ok-named-in-Name-clause-alike
-statement-returns-in_ok-named-in-Name-clause-alike t c = λ t rest s. refl
+pub statement-returns-in_ok-add-in-Name-clause-alike : goal.statement-returns-in_ok-add-in-Name-clause-alike
+statement-returns-in_ok-add-in-Name-clause-alike t c = λ t rest s. refl
 
 pub statement-repeated-requires : goal.statement-repeated-requires
 statement-repeated-requires t c =
@@ -260,8 +313,9 @@ statement-returns-in_err-repeated-in-While-clause-err t c =
 pub statement-returns-in_ok-repeated-in-While-clause-ok : goal.statement-returns-in_ok-repeated-in-While-clause-ok
 statement-returns-in_ok-repeated-in-While-clause-ok t c =
     let p = passed c.args.self.now c.in-Some.ensures.some c.in-While.is (λ k. refl) c.pass-in-While.ensures in
-    added_behind expected.Start [] token.While c.args.self.now _ c.repeated.new.self c.args.block.now
-    c.repeated.new.block p c.in_ok-repeated-in-While.ensures.ok
+    items_behind expected.Start token.While c.args.self.now _ c.repeated.new.self c.args.block.now c.repeated.new.block
+    (length c.self.inside.here.now) p (grind arith)
+    c.in_ok-repeated-in-While.ensures.ok
 
 pub statement-returns-in_ok-repeated-in-While-clause-alike : goal.statement-returns-in_ok-repeated-in-While-clause-alike
 statement-returns-in_ok-repeated-in-While-clause-alike t c = λ t rest s. refl
@@ -273,14 +327,15 @@ statement-returns-in_err-printed-in-Print-clause-err t c =
     (one p (c.requires.alike _ _ p.stands) none)
     c.in_err-printed-in-Print.ensures.err c.from_residual-in_err-printed-in-Print.ensures.1
 
-pub statement-returns-in_ok-printed-in-Print-clause-ok : goal.statement-returns-in_ok-printed-in-Print-clause-ok
-statement-returns-in_ok-printed-in-Print-clause-ok t c =
+pub statement-returns-in_ok-add-in-Print-clause-ok : goal.statement-returns-in_ok-add-in-Print-clause-ok
+statement-returns-in_ok-add-in-Print-clause-ok t c =
     let p = passed c.args.self.now c.in-Some.ensures.some c.in-Print.is (λ k. refl) c.pass-in-Print.ensures in
-    added_behind expected.Start [] token.Print c.args.self.now _ c.printed.new.self c.args.block.now
-    c.printed.new.block p c.in_ok-printed-in-Print.ensures.ok
+    item_added token.Print c.args.self.now _ c.printed.new.self c.args.block.now c.printed.new.block
+    (length c.self.inside.here.now) c.self-in-Print.inside.end refl p
+    c.in_ok-printed-in-Print.ensures.ok (grind arith) (grind arith) c.in_ok-add-in-Print.ensures
 
-pub statement-returns-in_ok-printed-in-Print-clause-alike : goal.statement-returns-in_ok-printed-in-Print-clause-alike
-statement-returns-in_ok-printed-in-Print-clause-alike t c = λ t rest s. refl
+pub statement-returns-in_ok-add-in-Print-clause-alike : goal.statement-returns-in_ok-add-in-Print-clause-alike
+statement-returns-in_ok-add-in-Print-clause-alike t c = λ t rest s. refl
 
 pub statement-atomic-requires : goal.statement-atomic-requires
 statement-atomic-requires t c =
@@ -296,8 +351,9 @@ statement-returns-in_err-atomic-in-Atomic-clause-err t c =
 pub statement-returns-in_ok-atomic-in-Atomic-clause-ok : goal.statement-returns-in_ok-atomic-in-Atomic-clause-ok
 statement-returns-in_ok-atomic-in-Atomic-clause-ok t c =
     let p = passed c.args.self.now c.in-Some.ensures.some c.in-Atomic.is (λ k. refl) c.pass-in-Atomic.ensures in
-    added_behind expected.Start [] token.Atomic c.args.self.now _ c.atomic.new.self c.args.block.now
-    c.atomic.new.block p c.in_ok-atomic-in-Atomic.ensures.ok
+    items_behind expected.Start token.Atomic c.args.self.now _ c.atomic.new.self c.args.block.now c.atomic.new.block
+    (length c.self.inside.here.now) p (grind arith)
+    c.in_ok-atomic-in-Atomic.ensures.ok
 
 pub statement-returns-in_ok-atomic-in-Atomic-clause-alike : goal.statement-returns-in_ok-atomic-in-Atomic-clause-alike
 statement-returns-in_ok-atomic-in-Atomic-clause-alike t c = λ t rest s. refl
@@ -309,14 +365,15 @@ statement-returns-in_err-called-in-Call-clause-err t c =
     (expected.Start ∷ []) (one p (c.requires.alike _ _ p.stands) none)
     c.in_err-called-in-Call.ensures.err c.from_residual-in_err-called-in-Call.ensures.1
 
-pub statement-returns-in_ok-called-in-Call-clause-ok : goal.statement-returns-in_ok-called-in-Call-clause-ok
-statement-returns-in_ok-called-in-Call-clause-ok t c =
+pub statement-returns-in_ok-add-in-Call-clause-ok : goal.statement-returns-in_ok-add-in-Call-clause-ok
+statement-returns-in_ok-add-in-Call-clause-ok t c =
     let p = passed c.args.self.now c.in-Some.ensures.some c.in-Call.is (λ k. refl) c.pass-in-Call.ensures in
-    added_behind expected.Start [] token.Call c.args.self.now _ c.called.new.self c.args.block.now
-    c.called.new.block p c.in_ok-called-in-Call.ensures.ok
+    item_added token.Call c.args.self.now _ c.called.new.self c.args.block.now c.called.new.block
+    (length c.self.inside.here.now) c.self-in-Call.inside.end refl p
+    c.in_ok-called-in-Call.ensures.ok (grind arith) (grind arith) c.in_ok-add-in-Call.ensures
 
-pub statement-returns-in_ok-called-in-Call-clause-alike : goal.statement-returns-in_ok-called-in-Call-clause-alike
-statement-returns-in_ok-called-in-Call-clause-alike t c = λ t rest s. refl
+pub statement-returns-in_ok-add-in-Call-clause-alike : goal.statement-returns-in_ok-add-in-Call-clause-alike
+statement-returns-in_ok-add-in-Call-clause-alike t c = λ t rest s. refl
 
 pub statement-branch-self-requires : goal.statement-branch-self-requires
 statement-branch-self-requires t c =
@@ -326,7 +383,8 @@ statement-branch-self-requires t c =
 pub statement-returns-in-If-clause-ok : goal.statement-returns-in-If-clause-ok
 statement-returns-in-If-clause-ok t c =
     let p = passed c.args.self.now c.in-Some.ensures.some c.in-If.is (λ k. refl) c.pass-in-If.ensures in
-    adds_so _ (λ e. e) _ _ _ _ p c.branch-self.ensures.ok
+    IfOk-weaker c.branch-self.result _ _ (λ e h. items_behind e token.If c.args.self.now _ c.branch-self.new.self
+    c.args.block.now c.branch-self.new.block (length c.self.inside.here.now) p (grind arith) h) c.branch-self.ensures.ok
 
 pub statement-returns-in-If-clause-alike : goal.statement-returns-in-If-clause-alike
 statement-returns-in-If-clause-alike t c = c.branch-self.ensures.alike
@@ -342,6 +400,8 @@ statements-read-init t c = record {
   next = subst (λ b. after (expected.Start ∷ []) (block_tokens b []) ≡ Some (expected.Start ∷ []))
       (sym c.new-block.ensures) refl;
   alike = λ t rest s. refl;
+  spans = rw c.new-block.ensures (ap (λ x. record { total = c.args.spans.now.total; items = x })
+      (sym (append-nil c.args.spans.now.items)));
 }
 
 pub statements-statement-requires : goal.statements-statement-requires
@@ -374,7 +434,7 @@ statements-read-smaller t c =
       arith,
       ap (λ x. length x.here) (c.takes_close.ensures.stays going),
       added_shorter c.in_ok-expected.expected c.takes_close.new.self c.statement.new.self c.read.block
-          c.statement.new.block c.in_ok-expected.ensures.ok,
+          c.statement.new.block c.in_ok-expected.ensures.ok.added,
     )
 
 pub statements-read-preserved : goal.statements-read-preserved
@@ -382,16 +442,22 @@ statements-read-preserved t c =
     let going : c.takes_close.result ≡ false = grind arith in
     let stays = c.takes_close.ensures.stays going in
     let e = c.in_ok-expected.expected in
+    let h = c.in_ok-expected.ensures.ok in
     record {
       are = added_are [] c.args.self.now c.takes_close.new.self c.statement.new.self c.read.block c.statement.new.block
           e
           (subst (ArePassed c.args.self.now (block_tokens c.read.block [])) (sym stays) c.read.invariant.are)
-          c.in_ok-expected.ensures.ok;
+          c.in_ok-expected.ensures.ok.added;
       next = added_leads (expected.Start ∷ []) [] c.takes_close.new.self c.statement.new.self c.read.block
           c.statement.new.block c.read.expected e c.read.invariant.next
           (subst (IsAlike c.read.expected expected.Start) (sym stays) c.read.invariant.alike)
-          c.in_ok-expected.ensures.ok;
+          c.in_ok-expected.ensures.ok.added;
       alike = c.in_ok-expected.ensures.alike;
+      spans = subst (λ b. c.statement.new.spans ≡ with_spans c.args.spans.now
+          (block_spans c.args.spans.now.total c.args.self.now.here b)) (sym h.added.added)
+          (one_statement c.args.spans.now c.args.self.now c.takes_close.new.self c.read.block h.added.statement
+          (subst (ArePassed c.args.self.now (block_tokens c.read.block [])) (sym stays) c.read.invariant.are)
+          c.read.invariant.spans (h.spans c.takes_close.new.self refl refl));
     }
 
 pub statements-returns-clause-ok : goal.statements-returns-clause-ok
@@ -403,3 +469,8 @@ statements-returns-clause-ok t c =
     (passed_append c.args.self.now (block_tokens c.read.block []) (token.CloseBrace ∷ []) c.read.self
     c.takes_close.new.self c.read.invariant.are
     (c.takes_close.new.self, c.takes_close.ensures.taken done, refl)))
+
+pub statements-returns-clause-spans : goal.statements-returns-clause-spans
+statements-returns-clause-spans t c =
+    subst (λ b. c.read.spans ≡ with_spans c.args.spans.now
+    (block_spans c.args.spans.now.total c.args.self.now.here b)) (sym c.fit.ensures) c.read.invariant.spans

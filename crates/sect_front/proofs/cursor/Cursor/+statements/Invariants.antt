@@ -1,5 +1,6 @@
 use Rattle.std.proofs.Common.{◌≡◌, ◌+◌, ◌*◌, [], ◌∷◌, Some, length}
 use Rattle.sect_front.specs.{Tokens.{block_tokens}, steps.Places.{after}, steps.Passing.{ArePassed, IsAlike}}
+use Rattle.sect_front.specs.{ItemSpans.{block_spans}, steps.Spanning.{with_spans}}
 use Rattle.sect_front.specs.declared.expected.Expected.TheVariants as expected
 use Rattle.sect_front.proofs.cursor.Cursor.+statements.Given as goal
 
@@ -26,6 +27,7 @@ invariant-statements-read l = record {
   are : ArePassed l.initial.self (block_tokens l.block []) l.self;
   next : after (expected.Start ∷ []) (block_tokens l.block []) ≡ Some (l.expected ∷ []);
   alike : IsAlike l.expected expected.Start l.self;
+  spans : l.spans ≡ with_spans l.initial.spans (block_spans l.initial.spans.total l.initial.self.here l.block);
 }
 
 abbrev pub decreases-statements-read : goal.decreases-statements-read

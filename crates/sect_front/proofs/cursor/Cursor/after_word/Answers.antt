@@ -2,7 +2,7 @@ use Rattle.std.proofs.Common.{[], ◌∷◌, refl, ◌∙◌, ap, subst}
 use Rattle.sect_front.specs.Tokens.{declarations_tokens}
 use Rattle.sect_front.specs.steps.{Places.{store_places}, Passing.{Passes, IsAbsent, IsRefused}}
 use Rattle.sect_front.proofs.{Growing.{declarations_grow}, Begun.{named_begun}}
-use Rattle.sect_front.proofs.Stopping.{refused_word}
+use Rattle.sect_front.proofs.{Stopping.{refused_word}, Spans.{word_item, local_item}}
 use Rattle.sect_front.specs.declared.token.Token.TheVariants as token
 use Rattle.sect_front.specs.declared.tree.Kind.TheVariants as kind
 use Rattle.sect_front.specs.declared.expected.Expected.TheVariants as expected
@@ -77,3 +77,29 @@ returns-clause-ok c =
 
 pub returns-clause-alike : goal.returns-clause-alike
 returns-clause-alike c = λ ne. absurd (ne refl)
+
+pub returns-then-takes_equal-clause-item : goal.returns-then-takes_equal-clause-item
+returns-then-takes_equal-clause-item c =
+    word_item c.args.x.now token.Equal c.args.self.now c.takes_equal.new.self c.value.new.self c.args.locals.now
+    c.args.block.now c.value.new.block c.requires (c.takes_equal.ensures.taken c.if-takes_equal.true)
+    c.in_ok-value.ensures.ok
+
+pub returns-then-takes-clause-item : goal.returns-then-takes-clause-item
+returns-then-takes-clause-item c =
+    word_item c.args.x.now token.Dot c.args.self.now c.takes.new.self c.store.new.self c.args.locals.now
+    c.args.block.now c.store.new.block c.requires (subst (λ x. Passes x token.Dot c.takes.new.self)
+    (c.takes_equal.ensures.stays c.if-takes_equal.false)
+    (c.takes.ensures.taken token.Dot refl (λ k. refl) c.if-takes.true)) c.in_ok-store.ensures.ok
+
+pub returns-clause-item : goal.returns-clause-item
+returns-clause-item c =
+    let two = c.takes.ensures.stays c.if-takes.false ∙ c.takes_equal.ensures.stays c.if-takes_equal.false in
+    let t = token.Name c.in-Some.name in
+    local_item (kind.Record c.args.x.now) c.in-Some.name (token.Name c.args.x.now ∷ []) (t ∷ token.Semicolon ∷ [])
+    c.args.self.now c.sign.new.self c.args.locals.now c.push.new.self c.args.block.now c.in_ok-push.ensures.ok
+    c.requires
+    refl (
+      c.takes_name.new.self,
+      subst (λ x. Passes x t c.takes_name.new.self) two c.in-Some.ensures.some,
+      (c.sign.new.self, c.in_ok-sign.ensures.ok, refl),
+    )

@@ -1,7 +1,9 @@
-use Rattle.std.proofs.Common.{◌≡◌, [], ◌∷◌, true, false, length, refl, sym, ap, subst, arith}
+use Rattle.std.proofs.Common.{◌≡◌, [], ◌∷◌, true, false, length, refl, sym, ap, subst, arith, append-nil}
 use Rattle.sect_front.specs.{Tokens.{block_tokens, declarations_tokens}}
 use Rattle.sect_front.specs.steps.Places.{after}
 use Rattle.sect_front.specs.steps.Passing.{ArePassed, IsAbsent, IsAlike}
+use Rattle.sect_front.specs.{ItemSpans.{body_spans}, steps.Spanning.{with_spans}}
+use Rattle.sect_front.proofs.Spans.{begun_spans}
 use Rattle.sect_front.proofs.Begun.{begun_are, begun_leads, begun_shorter, body_ends}
 use Rattle.sect_front.specs.declared.token.Token.TheVariants as token
 use Rattle.sect_front.specs.declared.expected.Expected.TheVariants as expected
@@ -17,6 +19,8 @@ read-init c =
       next = ap (after (expected.StartOrLocal ∷ [])) none;
       none = λ e. c.new-block.ensures;
       alike = λ ne. absurd (ne refl);
+      spans = rw (c.new-locals.ensures, c.new-block.ensures) (ap
+          (λ x. record { total = c.args.spans.now.total; items = x }) (sym (append-nil c.args.spans.now.items)));
     }
 
 pub next-requires : goal.next-requires
@@ -44,13 +48,13 @@ read-smaller c =
       arith,
       ap (λ x. length x.here) (c.takes_close.ensures.stays going),
       begun_shorter c.takes_close.new.self c.next.new.self c.read.expected c.in_ok-expected.expected c.read.locals
-          c.next.new.locals c.read.block c.next.new.block c.in_ok-expected.ensures.ok,
+          c.next.new.locals c.read.block c.next.new.block c.in_ok-expected.ensures.ok.begun,
     )
 
 pub read-preserved : goal.read-preserved
 read-preserved c =
     let going : c.takes_close.result ≡ false = grind arith in
-    let h = c.in_ok-expected.ensures.ok in
+    let h = c.in_ok-expected.ensures.ok.begun in
     let tokens = declarations_tokens c.read.locals (block_tokens c.read.block []) in
     record {
       are = begun_are c.args.self.now c.takes_close.new.self c.next.new.self c.read.expected c.in_ok-expected.expected
@@ -61,6 +65,10 @@ read-preserved c =
           c.read.invariant.next h;
       none = h.none;
       alike = c.in_ok-expected.ensures.alike;
+      spans = begun_spans c.args.spans.now c.read.expected c.in_ok-expected.expected c.args.self.now
+          c.takes_close.new.self c.next.new.self c.read.locals c.next.new.locals c.read.block c.next.new.block
+          (subst (ArePassed c.args.self.now tokens) (sym (c.takes_close.ensures.stays going)) c.read.invariant.are)
+          c.read.invariant.spans c.in_ok-expected.ensures.ok;
     }
 
 pub returns-clause-ok : goal.returns-clause-ok
@@ -70,3 +78,8 @@ returns-clause-ok c =
     c.takes_close.new.self) (sym c.fit.ensures)
     (body_ends c.args.self.now c.read.self c.takes_close.new.self c.read.locals c.read.block c.read.invariant.are
     (c.takes_close.ensures.taken done))
+
+pub returns-clause-spans : goal.returns-clause-spans
+returns-clause-spans c =
+    subst (λ b. c.read.spans ≡ with_spans c.args.spans.now
+    (body_spans c.args.spans.now.total c.args.self.now.here c.read.locals b)) (sym c.fit.ensures) c.read.invariant.spans

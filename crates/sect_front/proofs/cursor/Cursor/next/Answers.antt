@@ -1,8 +1,8 @@
-use Rattle.std.proofs.Common.{◌≢◌, []}
+use Rattle.std.proofs.Common.{◌≢◌}
 use Rattle.std.proofs.lemmas.Result.{IfOk-weaker}
 use Rattle.sect_front.specs.steps.Passing.{IsAlike}
-use Rattle.sect_front.specs.steps.Declaring.{HasBegun}
-use Rattle.sect_front.proofs.Begun.{statement_begun}
+use Rattle.sect_front.specs.steps.Spanning.{HasBegunItems}
+use Rattle.sect_front.proofs.Spans.{begun_statement}
 use Rattle.sect_front.specs.declared.expected.Expected.TheVariants as expected
 use Rattle.sect_front.proofs.cursor.Cursor.next.Goals as goal
 
@@ -25,9 +25,9 @@ statement-requires c =
 pub returns-in_default-clause-ok : goal.returns-in_default-clause-ok
 returns-in_default-clause-ok c =
     IfOk-weaker c.statement.result _
-    (λ e. HasBegun c.args.expected e [] c.args.self.now c.statement.new.self c.args.locals.now
-    c.args.locals.now c.args.block.now c.statement.new.block)
-    (λ e h. statement_begun c.args.expected e c.args.self.now c.statement.new.self c.args.locals.now
+    (λ e. HasBegunItems c.args.expected e c.args.self.now c.statement.new.self c.args.locals.now
+    c.args.locals.now c.args.block.now c.statement.new.block c.args.spans.now c.statement.new.spans)
+    (λ e h. begun_statement c.args.expected e c.args.self.now c.statement.new.self c.args.locals.now
     c.args.block.now c.statement.new.block (c.requires.alike c.in_default.not-StartOrLocal) h) c.statement.ensures.ok
 
 pub returns-in_default-clause-alike : goal.returns-in_default-clause-alike

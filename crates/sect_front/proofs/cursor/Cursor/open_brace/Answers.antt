@@ -7,7 +7,9 @@ returns-in_default-clause-err c = (refl, refl, rw c.in_default.is at c.behind_si
 
 pub returns-clause-ok : goal.returns-clause-ok
 returns-clause-ok c = record {
-  stands = rw c.in-Some.is at c.behind_sign.ensures.some token.OpenBrace refl;
+  stands = (rw c.in-Some.is at c.behind_sign.ensures.some token.OpenBrace refl).stands;
+  last = (rw c.in-Some.is at c.behind_sign.ensures.some token.OpenBrace refl).behind;
+  end = grind arith;
   braces = grind arith;
   low = λ h. grind arith;
 }
@@ -15,7 +17,7 @@ returns-clause-ok c = record {
 pub returns-then-self-ge-MOST_DEPTH-clause-err : goal.returns-then-self-ge-MOST_DEPTH-clause-err
 returns-then-self-ge-MOST_DEPTH-clause-err c = (
   refl,
-  c.in-Some.rest.now,
-  rw c.in-Some.is at c.behind_sign.ensures.some token.OpenBrace refl,
+  _,
+  (rw c.in-Some.is at c.behind_sign.ensures.some token.OpenBrace refl).stands,
   grind arith,
 )

@@ -1,8 +1,10 @@
-use Rattle.std.proofs.Common.{◌≡◌, [], ◌∷◌, ◌++◌, true, false, refl, sym, ◌∙◌, ap, subst, arith}
+use Rattle.std.proofs.Common.{◌≡◌, [], ◌∷◌, ◌++◌, true, false, length, refl, sym, ◌∙◌, ap, subst, arith}
+use Rattle.std.proofs.Common.{append-nil}
 use Rattle.sect_front.specs.Grammar.{kind_token}
 use Rattle.sect_front.specs.Tokens.{parameters_tokens}
 use Rattle.sect_front.specs.steps.Passing.{Passes, ArePassed, IsAbsent, IsRefused}
-use Rattle.sect_front.proofs.Growing.{some_grown, list_after}
+use Rattle.sect_front.specs.{ItemSpans.{parameters_spans}, steps.Spanning.{with_spans}}
+use Rattle.sect_front.proofs.{Growing.{some_grown, list_after}, Spans.{head_span, one_parameter}}
 use Rattle.sect_front.proofs.Growing.{parameters_behind, parameters_grow}
 use Rattle.sect_front.proofs.Stopping.{passed_append, passed_shorter}
 use Rattle.sect_front.proofs.Stopping.{refused_parameter}
@@ -41,10 +43,19 @@ more-init c =
     c.in-Some.ensures.some in
     let is : c.push.new.self ≡ record { kind = k; name = n } ∷ [] =
     c.in_ok-push.ensures.ok ∙ ap (λ ds. ds ++ record { kind = k; name = n } ∷ []) c.new-parameters.ensures in
+    let was = c.args.spans.now in
+    let begins : c.self.inside.here.now ≡ c.takes.new.self.here = grind arith in
     record {
       are = subst (λ ds. ArePassed c.args.self.now (parameters_tokens ds []) c.name.new.self) (sym is)
           (c.takes_kind.new.self, p, (c.name.new.self, c.in_ok-first_name.ensures.ok, refl));
       some = λ e. some_grown [] (record { kind = k; name = n }) (sym is ∙ e);
+      spans = subst (λ ds. c.add.new.self ≡ with_spans was (parameters_spans was.total c.args.self.now.here ds))
+          (sym is)
+          (head_span was c.args.self.now c.name.new.self (kind_token k) (token.Name n ∷ [])
+          (length c.self.inside.here.now) c.self-2.inside.last
+          (c.takes_kind.new.self, p, (c.name.new.self, c.in_ok-first_name.ensures.ok, refl))
+          (ap length begins ∙ ap (λ x. length x.here) (c.takes.ensures.stays c.if-takes.false)) (grind arith)
+          c.in_ok-add.ensures);
     }
 
 pub returns-then-not-takes-clause-err : goal.returns-then-not-takes-clause-err
@@ -100,6 +111,7 @@ more-preserved c =
     let k = c.in-Some-takes_kind.kind in
     let n = c.in_ok-name.name in
     let more = token.Comma ∷ kind_token k ∷ token.Name n ∷ [] in
+    let was = c.args.spans.now in
     record {
       are = subst (λ x. ArePassed c.args.self.now (parameters_tokens x []) c.name-in-more.new.self)
           (sym c.in_ok-push-2.ensures.ok) (subst (λ ts. ArePassed c.args.self.now ts c.name-in-more.new.self)
@@ -115,6 +127,15 @@ more-preserved c =
             ),
           )));
       some = λ e. some_grown ds (record { kind = k; name = n }) (sym c.in_ok-push-2.ensures.ok ∙ e);
+      spans = subst (λ x. c.add-in-more.new.self ≡ with_spans was
+          (parameters_spans was.total c.args.self.now.here x)) (sym c.in_ok-push-2.ensures.ok)
+          (one_parameter was c.args.self.now c.more.self c.takes-in-more-2.new.self c.name-in-more.new.self ds k n
+          (length c.self-in-more.inside.here.now) c.self-in-more-2.inside.last c.more.invariant.some
+          c.more.invariant.are comma (
+            c.takes_kind-in-more.new.self,
+            c.in-Some-takes_kind.ensures.some,
+            (c.name-in-more.new.self, c.in_ok-name.ensures.ok, refl),
+          ) (grind arith) (grind arith) c.more.invariant.spans c.in_ok-add-2.ensures);
     }
 
 pub returns-clause-ok : goal.returns-clause-ok
@@ -125,3 +146,10 @@ returns-clause-ok c =
     (passed_append c.args.self.now (parameters_tokens c.more.parameters []) (token.CloseParen ∷ []) c.more.self
     c.takes-in-more.new.self c.more.invariant.are
     (c.takes-in-more.new.self, c.takes-in-more.ensures.taken token.CloseParen refl (λ k. refl) done, refl))
+
+pub returns-then-takes-clause-spans : goal.returns-then-takes-clause-spans
+returns-then-takes-clause-spans c = rw c.new-parameters.ensures
+    (ap (λ x. record { total = c.args.spans.now.total; items = x }) (sym (append-nil c.args.spans.now.items)))
+
+pub returns-clause-spans : goal.returns-clause-spans
+returns-clause-spans c = c.more.invariant.spans

@@ -1,7 +1,8 @@
-use Rattle.std.proofs.Common.{[], ◌∷◌, refl, subst}
+use Rattle.std.proofs.Common.{[], ◌∷◌, ◌++◌, refl, ◌∙◌, ap, subst, arith}
 use Rattle.sect_front.specs.{Tokens.{block_tokens, declarations_tokens, parameters_tokens}}
 use Rattle.sect_front.specs.steps.Passing.{ArePassed}
-use Rattle.sect_front.proofs.{Leading.{parameters_after}}
+use Rattle.sect_front.specs.{ItemSpans.{past, span_of, parameters_spans, body_spans}, steps.Spanning.{with_spans}}
+use Rattle.sect_front.proofs.{Leading.{parameters_after}, Spans.{are_past, named_spans, spans_then}}
 use Rattle.sect_front.proofs.Growing.{parameters_behind}
 use Rattle.sect_front.proofs.Stopping.{passed_append}
 use Rattle.sect_front.proofs.Stopping.{refused_body}
@@ -58,3 +59,31 @@ returns-clause-ok c =
             (c.open_brace.new.self, c.in_ok-open_brace.ensures.ok, c.in_ok-body.ensures.ok)),
       ),
     )
+
+pub returns-clause-spans : goal.returns-clause-spans
+returns-clause-spans c = λ from p same.
+    let was = c.args.spans.now in
+    let ps = c.in_ok-parameters.parameters in
+    let r = c.in_ok-body.body in
+    let n = c.in_ok-name.name in
+    let end = token.OpenBrace ∷ [] in
+    let own = token.Proc ∷ token.Name n ∷ token.OpenParen ∷ [] in
+    let are = subst (λ ts. ArePassed c.sign.new.self ts c.open_brace.new.self)
+    (parameters_behind ps (token.CloseParen ∷ []) end)
+    (passed_append c.sign.new.self (parameters_tokens ps (token.CloseParen ∷ [])) end c.parameters.new.self
+    c.open_brace.new.self c.in_ok-parameters.ensures.ok
+    (c.open_brace.new.self, c.in_ok-open_brace.ensures.ok, refl)) in
+    let head = span_of was.total from.here (token.Proc ∷ token.Name n ∷ [])
+    ∷ parameters_spans was.total (past from.here own) ps in
+    spans_then was head (λ m. body_spans m c.open_brace.new.self.here r.0 r.1)
+    (named_spans was from c.args.self.now c.name.new.self c.sign.new.self token.Proc n (token.OpenParen ∷ [])
+    c.args.start c.self.inside.last (λ m x. parameters_spans m x ps) p c.in_ok-name.ensures.ok
+    (c.sign.new.self, c.in_ok-sign.ensures.ok, refl) same (grind arith) c.in_ok-add.ensures
+    c.in_ok-parameters.ensures.spans) c.in_ok-body.ensures.spans
+    ∙ ap (λ x. with_spans was (head ++ body_spans was.total x r.0 r.1))
+    (are_past from (token.Proc ∷ token.Name n ∷ token.OpenParen
+    ∷ parameters_tokens ps (token.CloseParen ∷ token.OpenBrace ∷ [])) c.open_brace.new.self (
+      c.args.self.now,
+      p,
+      (c.name.new.self, c.in_ok-name.ensures.ok, (c.sign.new.self, c.in_ok-sign.ensures.ok, are)),
+    ))

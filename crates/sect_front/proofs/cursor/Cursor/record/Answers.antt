@@ -1,7 +1,8 @@
-use Rattle.std.proofs.Common.{[], ◌∷◌, refl, subst}
+use Rattle.std.proofs.Common.{[], ◌∷◌, refl, subst, arith}
 use Rattle.sect_front.specs.{Tokens.{declarations_tokens, hints_tokens}}
 use Rattle.sect_front.specs.steps.Passing.{ArePassed}
-use Rattle.sect_front.proofs.Leading.{hints_after}
+use Rattle.sect_front.specs.ItemSpans.{declarations_spans}
+use Rattle.sect_front.proofs.{Leading.{hints_after}, Spans.{named_spans}}
 use Rattle.sect_front.proofs.Growing.{hints_behind}
 use Rattle.sect_front.proofs.Stopping.{passed_append}
 use Rattle.sect_front.proofs.Stopping.{refused_hint}
@@ -44,3 +45,15 @@ returns-clause-ok c =
           (passed_append c.name.new.self (hints_tokens hs []) rest c.hints.new.self c.fields.new.self
           c.in_ok-hints.ensures.ok (c.open_brace.new.self, c.in_ok-open_brace.ensures.ok, c.in_ok-fields.ensures.ok)),
     )
+
+pub returns-clause-spans : goal.returns-clause-spans
+returns-clause-spans c = λ from p same.
+    let hs = c.in_ok-hints.hints in
+    let rest = hints_tokens hs (token.OpenBrace ∷ []) in
+    let are = subst (λ ts. ArePassed c.name.new.self ts c.open_brace.new.self)
+    (hints_behind hs [] (token.OpenBrace ∷ []))
+    (passed_append c.name.new.self (hints_tokens hs []) (token.OpenBrace ∷ []) c.hints.new.self
+    c.open_brace.new.self c.in_ok-hints.ensures.ok (c.open_brace.new.self, c.in_ok-open_brace.ensures.ok, refl)) in
+    named_spans c.args.spans.now from c.args.self.now c.name.new.self c.open_brace.new.self token.Record
+    c.in_ok-name.name rest c.args.start c.self.inside.last (λ m x. declarations_spans m x c.in_ok-fields.fields) p
+    c.in_ok-name.ensures.ok are same (grind arith) c.in_ok-add.ensures c.in_ok-fields.ensures.spans

@@ -7,7 +7,9 @@ returns-in_default-clause-none c = λ h. rw c.in_default.is at c.behind_sign.ens
 
 pub returns-clause-taken : goal.returns-clause-taken
 returns-clause-taken c = λ h. record {
-  stands = rw c.in-Some.is at c.behind_sign.ensures.some token.CloseBrace refl;
+  stands = (rw c.in-Some.is at c.behind_sign.ensures.some token.CloseBrace refl).stands;
+  last = (rw c.in-Some.is at c.behind_sign.ensures.some token.CloseBrace refl).behind;
+  end = grind arith;
   braces = grind arith;
   low = λ h. grind arith;
 }

@@ -1,7 +1,8 @@
 use Rattle.std.proofs.lemmas.List.{nil_from_length}
 use Rattle.std.proofs.Common.{◌≡◌, ◌∷◌, length, refl, sym, ◌∙◌, ap, subst, arith}
 use Rattle.sect_front.specs.steps.Passing.{Stands}
-use Rattle.sect_front.proofs.Stopping.{nothing_stands, other_stands, two_equal, passed_calm, equal_alone}
+use Rattle.sect_front.proofs.Stopping.{nothing_stands, other_stands, two_equal, equal_alone}
+use Rattle.sect_front.proofs.Chains.{passed}
 use Rattle.sect_front.specs.declared.token.Token.TheVariants as token
 use Rattle.sect_front.proofs.cursor.Cursor.takes_equal.Goals as goal
 
@@ -30,9 +31,11 @@ returns-clause-taken c = λ h.
     let others = c.in-Some.others.now in
     let here : c.args.self.now.here ≡ 61 ∷ others =
     sym same ∙ (c.in-Some.ensures.cases.0 ∙ ap (λ b. b ∷ others) c.if-first-ne61.false) in
-    passed_calm token.Equal c.args.self.now _ (λ k. refl)
-    (record {
-      count = 1;
-      lexed = rw here (equal_alone others (sym c.begins_with.ensures ∙ c.if-begins_with.false));
-      behind = c.behind-self-inside.ensures ∙ rw same refl;
-    }) (grind arith)
+    passed c.args.self.now (record {
+      stands = record {
+        count = 1;
+        lexed = rw here (equal_alone others (sym c.begins_with.ensures ∙ c.if-begins_with.false));
+        behind = c.behind.ensures ∙ rw same refl;
+      };
+      behind = rw here (omega arith);
+    }) refl (λ k. refl) c.pass.ensures

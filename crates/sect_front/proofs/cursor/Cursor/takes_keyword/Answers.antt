@@ -13,8 +13,8 @@ returns-in_default-clause-none c = λ h. (rw c.in_default.is at c.token.ensures.
 pub returns-then-not-is-clause-none : goal.returns-then-not-is-clause-none
 returns-then-not-is-clause-none c = λ h rest s.
     c.is.ensures.other c.if-not-is.true
-    (same_token c.args.self.now.here c.in-Some.rest.now rest c.token.new.token (keyword_token c.args.keyword)
-    c.in-Some.ensures.some s)
+    (same_token c.args.self.now.here _ rest c.token.new.token (keyword_token c.args.keyword)
+    c.in-Some.ensures.some.stands s)
 
 pub returns-clause-taken : goal.returns-clause-taken
 returns-clause-taken c = λ h.

@@ -13,7 +13,7 @@ returns-in_default-clause-none c =
 
 pub returns-in_default-kind-clause-none : goal.returns-in_default-kind-clause-none
 returns-in_default-kind-clause-none c =
-    refused_by expected.Kind c.args.self.now c.in-Some.rest.now c.token.new.token c.in-Some.ensures.some
+    refused_by expected.Kind c.args.self.now _ c.token.new.token c.in-Some.ensures.some.stands
     (rw c.in_default-kind.is at c.kind.ensures.none)
 
 pub returns-clause-some : goal.returns-clause-some

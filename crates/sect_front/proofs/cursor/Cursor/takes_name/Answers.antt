@@ -1,6 +1,5 @@
 use Rattle.std.proofs.Common.{refl}
 use Rattle.sect_front.proofs.Stopping.{refused_bare}
-use Rattle.sect_front.specs.declared.token.Token.TheVariants as token
 use Rattle.sect_front.specs.declared.expected.Expected.TheVariants as expected
 use Rattle.sect_front.proofs.Chains.{passed}
 use Rattle.sect_front.proofs.cursor.Cursor.takes_name.Goals as goal

@@ -13,7 +13,7 @@ returns-in_default-clause-none c =
 
 pub returns-in_default-operand-clause-none : goal.returns-in_default-operand-clause-none
 returns-in_default-operand-clause-none c =
-    refused_by expected.Operand c.args.self.now c.in-Some.rest.now c.token.new.token c.in-Some.ensures.some
+    refused_by expected.Operand c.args.self.now _ c.token.new.token c.in-Some.ensures.some.stands
     (rw c.in_default-operand.is at c.operand.ensures.none)
 
 pub returns-clause-some : goal.returns-clause-some

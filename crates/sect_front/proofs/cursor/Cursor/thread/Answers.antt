@@ -1,5 +1,7 @@
-use Rattle.std.proofs.Common.{refl}
-use Rattle.sect_front.proofs.Stopping.{refused_body}
+use Rattle.std.proofs.Common.{[], ◌∷◌, refl, arith}
+use Rattle.sect_front.specs.ItemSpans.{body_spans}
+use Rattle.sect_front.proofs.{Stopping.{refused_body}, Spans.{named_spans}}
+use Rattle.sect_front.specs.declared.token.Token.TheVariants as token
 use Rattle.sect_front.proofs.Chains.{none, one, fails_in, fails, fails_at_brace}
 use Rattle.sect_front.proofs.cursor.Cursor.thread.Goals as goal
 
@@ -25,3 +27,11 @@ returns-clause-ok c = (
   c.in_ok-name.ensures.ok,
   (c.open_brace.new.self, c.in_ok-open_brace.ensures.ok, c.in_ok-body.ensures.ok),
 )
+
+pub returns-clause-spans : goal.returns-clause-spans
+returns-clause-spans c = λ from p same.
+    named_spans c.args.spans.now from c.args.self.now c.name.new.self c.open_brace.new.self token.Thread
+    c.in_ok-name.name (token.OpenBrace ∷ []) c.args.start c.self.inside.last
+    (λ m x. body_spans m x c.in_ok-body.body.0 c.in_ok-body.body.1) p c.in_ok-name.ensures.ok
+    (c.open_brace.new.self, c.in_ok-open_brace.ensures.ok, refl) same (grind arith) c.in_ok-add.ensures
+    c.in_ok-body.ensures.spans

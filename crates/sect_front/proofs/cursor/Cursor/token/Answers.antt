@@ -1,5 +1,5 @@
-use Rattle.std.proofs.Common.{◌≡◌, None, subst, arith}
-use Rattle.sect_front.specs.steps.Lexeme.{lexeme_of}
+use Rattle.std.proofs.Common.{◌≡◌, ◌-◌, None, length, refl, subst, arith}
+use Rattle.sect_front.specs.steps.{Lexeme.{lexeme_of}, Passing.{StandsBefore}}
 use Rattle.std.proofs.lemmas.Bool.Decides.{nat_tests}
 use Rattle.sect_front.proofs.{Lexemes.{lexeme_first}, Stopping.{bare}}
 use Rattle.sect_front.proofs.cursor.Cursor.token.Goals as goal
@@ -13,3 +13,20 @@ returns-then-length-eq0-clause-none c =
 pub behind-requires : goal.behind-requires
 behind-requires c = (lexeme_first c.self.inside.here.now _ c.put_lexeme-length.result
     (c.put_lexeme-length.ensures.some (grind (arith, nat_tests)))).within
+
+pub overflow_sub-result : goal.overflow_sub-result
+overflow_sub-result c = (lexeme_first c.self.inside.here.now _ c.put_lexeme-length.result
+    (c.put_lexeme-length.ensures.some (grind (arith, nat_tests)))).within
+
+pub returns-clause-some : goal.returns-clause-some
+returns-clause-some c =
+    let same : c.self.inside.here.now ≡ c.args.self.now.here = grind arith in
+    subst (λ x. StandsBefore x c.put_lexeme-length.new.token c.behind.result.now (length c.self.inside.here.now
+    - c.put_lexeme-length.result)) same (record {
+      stands = record {
+        count = c.put_lexeme-length.result;
+        lexed = c.put_lexeme-length.ensures.some (grind (arith, nat_tests));
+        behind = c.behind.ensures;
+      };
+      behind = refl;
+    })

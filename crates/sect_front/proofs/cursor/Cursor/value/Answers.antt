@@ -1,7 +1,6 @@
 use Rattle.std.proofs.Common.{refl}
 use Rattle.sect_front.proofs.Stopping.{refused_bare, refused_by}
 use Rattle.sect_front.proofs.Stopping.{no_value}
-use Rattle.sect_front.specs.declared.token.Token.TheVariants as token
 use Rattle.sect_front.specs.declared.expected.Expected.TheVariants as expected
 use Rattle.sect_front.proofs.Chains.{none, one, passed, stops, stops_so, adds_so}
 use Rattle.sect_front.proofs.cursor.Cursor.value.Goals as goal
@@ -60,7 +59,7 @@ returns-in-Null-clause-err c =
 pub returns-in_default-token : goal.returns-in_default-token
 returns-in_default-token c = record {
   ok = tt;
-  err = stops none refl (refused_by expected.Value c.args.self.now c.in-Some.rest.now c.token.new.token
-      c.in-Some.ensures.some (no_value c.token.new.token c.in_default-token.not-Name c.in_default-token.not-New
+  err = stops none refl (refused_by expected.Value c.args.self.now _ c.token.new.token
+      c.in-Some.ensures.some.stands (no_value c.token.new.token c.in_default-token.not-Name c.in_default-token.not-New
       c.in_default-token.not-Number c.in_default-token.not-Null));
 }

@@ -9,7 +9,7 @@ use Rattle.std.specs.{Prelude.{if◌then◌else◌, take_while, not, nat_lt, cod
 use Rattle.sect_front.specs.Gaps.{line_feed}
 use Rattle.sect_places.{specs.Positions.{next_column, column_of}, proofs.shared.Bounds.{column_least, column_most}}
 use Rattle.sect_lint.specs.Excerpts.{in_line, line_text, most_shown, left_out, shown_line, marked_line, excerpt_of}
-use Rattle.sect_lint.specs.Excerpts.{dots, blanks_under, shown, under, carets}
+use Rattle.sect_lint.specs.Excerpts.{dots, blanks_under, shown_part, under, carets}
 
 -- no line feed among these bytes: a line goes on behind them
 abbrev GoesOn : List ℕ → Type 0
@@ -147,10 +147,9 @@ module _ (line : List ℕ) (place : ℕ) (long : place + most_shown + 1 ≤ leng
 
   line_alike : shown_line cut from ≡ shown_line line from
   line_alike =
-      ap (λ l. dots (nat_lt 0 from) (codes "...") ++ flat_map shown l
-      ++ dots (nat_lt (from + most_shown) (length cut)) (codes "...")) (shown_alike most_shown (omega arith))
-      ∙ ap (λ b. dots (nat_lt 0 from) (codes "...") ++ flat_map shown (take most_shown (drop from line))
-      ++ dots b (codes "...")) goes_on
+      ap (λ l. dots (nat_lt 0 from) (codes "...") ++ shown_part (nat_lt (from + most_shown) (length cut)) l)
+      (shown_alike most_shown (omega arith))
+      ∙ ap (λ b. dots (nat_lt 0 from) (codes "...") ++ shown_part b (take most_shown (drop from line))) goes_on
 
   marks_alike : (count : ℕ) → marked_line cut from place count ≡ marked_line line from place count
   marks_alike count =

@@ -5,7 +5,7 @@ use Rattle.sect_front.specs.{Front.{line_of}, FaultPlaces.{span_from}, declared.
 use Rattle.sect_places.specs.Positions.{column_of}
 use Rattle.sect_lint.specs.{declared.diagnostic.Detail.{Detail}, declared.diagnostic.Diagnostic.{Diagnostic}}
 use Rattle.sect_lint.specs.{Limits.{words_of}, Kinds.{kinds_text}, Labels.{quoted, typed_text, counts_text}}
-use Rattle.sect_lint.specs.Mistakes.{number_of, title_of, note_of}
+use Rattle.sect_lint.specs.{Mistakes.{number_of, title_of}, Advised.{wanted}}
 use Rattle.sect_lint.specs.declared.diagnostic.Detail.TheVariants as detail
 
 abbrev pub count : ℕ → Data
@@ -55,6 +55,6 @@ abbrev pub diagnostic_json : List ℕ → Diagnostic → Data
 diagnostic_json source d =
     object (member (codes "code") (count (number_of d.mistake)) (member (codes "labels") (labels_json source d)
     (member (codes "message") (string (title_of d.mistake))
-    (member (codes "notes") (list (string (note_of d.mistake) ∷ []))
+    (member (codes "notes") (list (string (wanted source d) ∷ []))
     (member (codes "severity") (string (codes "error")) (member (codes "span") (span_json source d.span)
     no_members))))))

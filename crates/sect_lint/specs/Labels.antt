@@ -1,8 +1,10 @@
 -- What is said of types and numbers, with the text's own words.
-use Rattle.std.specs.Prelude.{ℕ, ◌-◌, ◌==◌, ◌||◌, Bool, if◌then◌else◌, List, [], ◌∷◌, ◌++◌, take, drop, codes, ⊤}
+use Rattle.std.specs.Prelude.{ℕ, ◌-◌, ◌==◌, ◌||◌, Bool, if◌then◌else◌, List, [], ◌∷◌, ◌++◌, take, drop, codes}
+use Rattle.std.specs.Prelude.{length, nat_lt, ⊤}
 use Rattle.std.specs.{List.{flat_map}, Fmt.{decimal}}
 use Rattle.sect_front.specs.{FaultPlaces.{IsWithin}, declared.span.Span.{Span}}
-use Rattle.sect_lint.specs.{Excerpts.{shown}, declared.diagnostic.Shape.{Shape}, declared.diagnostic.Typed.{Typed}}
+use Rattle.sect_lint.specs.{Excerpts.{shown, dots, quotable}, declared.diagnostic.Shape.{Shape}}
+use Rattle.sect_lint.specs.declared.diagnostic.Typed.{Typed}
 use Rattle.sect_lint.specs.declared.diagnostic.Counts.{Counts}
 use Rattle.sect_lint.specs.declared.diagnostic.Shape.TheVariants as shape
 
@@ -18,8 +20,14 @@ IsShapeWithin total _ = ⊤
 abbrev pub IsTypedWithin : ℕ → Typed → Type 0
 IsTypedWithin total t = IsWithin total t.span × IsShapeWithin total t.shape
 
+-- of some bytes the first line, as far as it may be shown, and that more stand behind it
+abbrev pub quote : List ℕ → List ℕ
+quote bytes =
+    codes "`" ++ flat_map shown (quotable bytes) ++ dots (nat_lt (length (quotable bytes)) (length bytes)) (codes "...")
+    ++ codes "`"
+
 abbrev pub quoted : List ℕ → Span → List ℕ
-quoted source span = codes "`" ++ flat_map shown (bytes_of source span) ++ codes "`"
+quoted source span = quote (bytes_of source span)
 
 -- A, E, I, O, U, and these in small letters
 abbrev pub is_vowel : ℕ → Bool

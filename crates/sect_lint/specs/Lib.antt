@@ -12,6 +12,7 @@ pub mod Labels
 pub mod Details
 pub mod Files
 pub mod Places
+pub mod Advised
 pub mod Reports
 pub mod Json
 pub mod Sarif

@@ -6,7 +6,7 @@ use Rattle.sect_places.specs.{NameSpans.{AreNameSpans}, Positions.{position}, de
 use Rattle.sect_names.specs.{Sources.{IsAccepted, IsDue}, declared.refusal.SourceRefusal.{SourceRefusal}}
 use Rattle.sect_lint.specs.{declared.diagnostic.Detail.{Detail}, declared.diagnostic.Diagnostic.{Diagnostic}}
 use Rattle.sect_lint.specs.{declared.judge.Judgment.{Judgment}, declared.mistake.Mistake.{Mistake}}
-use Rattle.sect_lint.specs.{Mistakes.{mistake_of, number_of, title_of, note_of}, Places.{IsPlaceOf}}
+use Rattle.sect_lint.specs.{Mistakes.{mistake_of, number_of, title_of}, Places.{IsPlaceOf}, Advised.{wanted}}
 use Rattle.sect_lint.specs.Details.{IsFrontDetail, IsDetailWithin, IsDetailBy, detail_text}
 use Rattle.sect_lint.specs.{Excerpts.{excerpt, margin}, Files.{place_line}}
 use Rattle.sect_names.specs.declared.fault.SchemeFault.TheVariants as scheme
@@ -47,8 +47,8 @@ unfoldable pub heading : Mistake → List ℕ
 heading m = codes "error[" ++ decimal (number_of m) ++ codes "]: " ++ title_of m ++ codes "\n"
 
 -- what is wanted, below a line of this number
-unfoldable pub note_line : ℕ → Mistake → List ℕ
-note_line line m = codes "\n" ++ margin line ++ codes "= " ++ note_of m
+unfoldable pub note_line : ℕ → List ℕ → List ℕ
+note_line line words = codes "\n" ++ margin line ++ codes "= " ++ words
 
 -- the report of a diagnostic: the mistake, its place behind this mark, its line with what is said beside the carets,
 -- and what is wanted, but for the line feed at its end
@@ -56,4 +56,4 @@ abbrev pub report : List ℕ → List ℕ → Diagnostic → List ℕ
 report mark source d =
     heading d.mistake ++ place_line mark (position source d.span.start) ++ excerpt source d.span
     ++ detail_text source d.detail
-    ++ note_line (line_of source d.span.start) d.mistake
+    ++ note_line (line_of source d.span.start) (wanted source d)

@@ -2,40 +2,55 @@
 use Rattle.std.specs.{Prelude.{ℕ, ◌-◌, List, [], ◌∷◌, ◌++◌, codes, map}, Fmt.{decimal}}
 use Rattle.serde_json.specs.Data.{Data, string, object, no_members, member}
 use Rattle.sect_front.specs.{Front.{line_of}, declared.span.Span.{Span}, FaultPlaces.{span_from}}
-use Rattle.sect_places.specs.Positions.{column_of}
+use Rattle.sect_characters.specs.Characters.{whole, character_column}
+use Rattle.sect_places.specs.{Positions.{position}, declared.position.Position.{Position}}
 use Rattle.sect_lint.specs.{declared.diagnostic.Detail.{Detail}, declared.diagnostic.Diagnostic.{Diagnostic}}
 use Rattle.sect_lint.specs.{declared.mistake.Mistake.{Mistake}, Mistakes.{number_of, title_of, note_of}}
 use Rattle.sect_lint.specs.{Limits.{words_of}, Kinds.{kinds_text}, Labels.{quoted, typed_text, types_text, counts_text}}
-use Rattle.sect_lint.specs.Json.{count, list}
+use Rattle.sect_lint.specs.{Json.{count, list}, Advised.{advice_of, advised}}
 use Rattle.sect_lint.specs.declared.diagnostic.Detail.TheVariants as detail
 
 abbrev pub text_json : List ℕ → Data
 text_json text = object (member (codes "text") (string text) no_members)
 
--- the bytes, lines and columns of a span
-abbrev pub region_json : List ℕ → Span → Data
-region_json source span =
+-- the bytes, lines and columns of a span, which is from one position to another
+abbrev pub region : Span → Position → Position → Data
+region span start end =
     object (member (codes "byteLength") (count (span.end - span.start)) (member (codes "byteOffset") (count span.start)
-    (member (codes "endColumn") (count (column_of source span.end))
-    (member (codes "endLine") (count (line_of source span.end))
-    (member (codes "startColumn") (count (column_of source span.start))
-    (member (codes "startLine") (count (line_of source span.start)) no_members))))))
+    (member (codes "endColumn") (count end.column) (member (codes "endLine") (count end.line)
+    (member (codes "startColumn") (count start.column) (member (codes "startLine") (count start.line) no_members))))))
 
--- a span of the text of this URI
-abbrev pub physical_json : List ℕ → List ℕ → Span → Data
-physical_json uri source span =
+-- of tokens: before one there is ASCII alone on its line, so its column in bytes is that in characters
+abbrev pub region_json : List ℕ → Span → Data
+region_json source span = region span (position source span.start) (position source span.end)
+
+-- the line and the column of a place, in characters
+abbrev pub point : List ℕ → ℕ → Position
+point source at = record { line = line_of source at; column = character_column source at }
+
+-- of some bytes, wherever they stand: the characters of which they have a part
+abbrev pub point_region : List ℕ → Span → Data
+point_region source span =
+    region (whole source span) (point source (whole source span).start) (point source (whole source span).end)
+
+-- a region of the text of this URI
+abbrev pub physical_json : List ℕ → Data → Data
+physical_json uri place =
     object (member (codes "artifactLocation") (object (member (codes "uri") (string uri) no_members))
-    (member (codes "region") (region_json source span) no_members))
+    (member (codes "region") place no_members))
 
+abbrev pub located_json : List ℕ → Data → Data
+located_json uri place = object (member (codes "physicalLocation") (physical_json uri place) no_members)
+
+-- a span of tokens
 abbrev pub location_json : List ℕ → List ℕ → Span → Data
-location_json uri source span =
-    object (member (codes "physicalLocation") (physical_json uri source span) no_members)
+location_json uri source span = located_json uri (region_json source span)
 
 -- what is said of another place
 abbrev pub related_json : List ℕ → List ℕ → List ℕ → Span → Data
 related_json uri source message span =
     object (member (codes "message") (text_json message) (member (codes "physicalLocation")
-    (physical_json uri source span) no_members))
+    (physical_json uri (region_json source span)) no_members))
 
 -- a call of a circle
 abbrev pub related_call : List ℕ → List ℕ → Span → Data
@@ -68,8 +83,8 @@ said_by source d = title_of d.mistake ++ aside_by source d.detail
 abbrev pub result_json : List ℕ → List ℕ → Diagnostic → Data
 result_json uri source d =
     object (member (codes "level") (string (codes "error"))
-    (member (codes "locations") (list (location_json uri source d.span ∷ []))
-    (member (codes "message") (text_json (said_by source d))
+    (member (codes "locations") (list (located_json uri (point_region source d.span) ∷ []))
+    (member (codes "message") (text_json (said_by source d ++ advised (advice_of source d)))
     (member (codes "relatedLocations") (list (related_by uri source d.detail))
     (member (codes "ruleId") (string (decimal (number_of d.mistake))) no_members)))))
 

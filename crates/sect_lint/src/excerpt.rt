@@ -6,7 +6,8 @@ ghost use Rattle.sect_front.specs.{Front.{line_of}, FaultPlaces.{IsWithin}};
 ghost use Rattle.sect_places.specs.Positions.{column_of as column_by};
 ghost use Rattle.sect_lint.specs.Excerpts.{is_plain as plain_by, hexadecimal as hexadecimal_by, shown, under, in_line};
 ghost use Rattle.sect_lint.specs.Excerpts.{line_text, most_shown, left_out as left_out_by, shown_line, carets};
-ghost use Rattle.sect_lint.specs.Excerpts.{marked_line, numbered_line, excerpt_of, excerpt};
+ghost use Rattle.sect_lint.specs.Excerpts.{marked_line, numbered_line, excerpt_of, excerpt, quotable};
+ghost use Rattle.sect_lint.specs.Excerpts.{without_return as without_return_by};
 
 use sect_front::Span;
 use std::alloc::AllocError;
@@ -15,11 +16,11 @@ use std::fmt::Write;
 /// The most bytes of a line that are shown.
 const MOST_SHOWN: usize = 120;
 
-/// Whether a byte is shown as it is: printable ASCII, or a tab.
+/// Whether a byte is shown as it is: printable ASCII.
 fn is_plain(byte: u8) -> bool
     ensures { result ≡ plain_by byte }
 {
-    byte == b'\t' || (byte > 31 && byte < 127)
+    byte > 31 && byte < 127
 }
 
 /// The digit of a number below 16.
@@ -49,6 +50,8 @@ fn put_byte(text: &mut String, byte: u8) -> Result<(), AllocError>
 {
     if is_plain(byte) {
         put_ascii(text, byte)
+    } else if byte == b'\t' {
+        text.push_str("    ")
     } else {
         text.push_str("\\x")?;
         put_ascii(text, hexadecimal(byte / 16))?;
@@ -70,9 +73,7 @@ pub fn put_bytes(text: &mut String, bytes: &[u8]) -> Result<(), AllocError>
 fn put_mark(text: &mut String, mark: &str, byte: u8) -> Result<(), AllocError>
     ensures { OnOk result (string_bytes text.new ≡ string_bytes text.old ++ under mark.now byte) }
 {
-    if byte == b'\t' {
-        text.push_str("\t")
-    } else if is_plain(byte) {
+    if is_plain(byte) {
         text.push_str(mark)
     } else {
         text.push_str(mark)?;
@@ -109,6 +110,14 @@ fn line_length(bytes: &[u8]) -> usize
     ensures within { result ≤ length bytes.now }
 {
     bytes.iter().take_while(|byte| **byte != b'\n').count()
+}
+
+/// The first line of some bytes, as far as it may be shown.
+pub fn first_line(bytes: &[u8]) -> &[u8]
+    ensures { result.now ≡ quotable bytes.now }
+{
+    let first = first_of(bytes, MOST_SHOWN);
+    first_of(first, line_length(first))
 }
 
 /// The line in which a place stands that has this column, without its line feed and only as far as it may be shown:
@@ -148,6 +157,16 @@ fn part_from(line: &[u8], from: usize) -> &[u8]
     first_of(rest, MOST_SHOWN)
 }
 
+/// The bytes without the carriage return at their end, if one stands there.
+fn without_return(bytes: &[u8]) -> &[u8]
+    ensures { result.now ≡ without_return_by bytes.now }
+{
+    match bytes {
+        [before @ .., b'\r'] => before,
+        _ => bytes,
+    }
+}
+
 /// Adds what is shown of a line.
 fn put_line(text: &mut String, line: &[u8], from: usize) -> Result<(), AllocError>
     requires { from ≤ length line.now }
@@ -156,11 +175,13 @@ fn put_line(text: &mut String, line: &[u8], from: usize) -> Result<(), AllocErro
     if from > 0 {
         text.push_str("...")?;
     }
-    put_bytes(text, part_from(line, from))?;
+    let part = part_from(line, from);
     if line.len() - from > MOST_SHOWN {
-        text.push_str("...")?;
+        put_bytes(text, part)?;
+        text.push_str("...")
+    } else {
+        put_bytes(text, without_return(part))
     }
-    Ok(())
 }
 
 /// The first bytes, so many or all.

@@ -8,6 +8,7 @@ ghost use Rattle.sect_lint.specs.Labels.{typed_text, counts_text, IsTypedWithin}
 ghost use Rattle.sect_lint.specs.Json.{list, place_json, span_json, label_json, call_json, labels_json};
 ghost use Rattle.sect_lint.specs.Json.{diagnostic_json};
 
+use crate::advised::wanted;
 use crate::diagnostic::{Counts, Detail, Diagnostic, Typed};
 use crate::kinds::put_kinds;
 use crate::label::{put_counts, put_quoted, put_typed};
@@ -195,7 +196,7 @@ pub fn diagnostic_value(
     let lines = LineIndex::new(alloc, source)?;
     let code = diagnostic.mistake.number();
     let title = diagnostic.mistake.title();
-    let note = diagnostic.mistake.note();
+    let note = wanted(source, diagnostic);
     json!(in alloc; {"code": code, "labels": labels_value(alloc, &lines, diagnostic)?, "message": title,
         "notes": [note], "severity": "error", "span": span_value(alloc, &lines, diagnostic.span)?})
 }

@@ -2,18 +2,19 @@
 
 ghost use Rattle.std.specs.{Prelude.{◌≡◌, ◌++◌, OnOk, length}, String.{string_bytes}};
 ghost use Rattle.sect_front.specs.FaultPlaces.{IsWithin};
-ghost use Rattle.sect_lint.specs.Labels.{bytes_of as bytes_by, quoted, is_vowel as vowel_by, article as article_by};
+ghost use Rattle.sect_lint.specs.Labels.{bytes_of as bytes_by, quote, quoted, is_vowel as vowel_by};
+ghost use Rattle.sect_lint.specs.Labels.{article as article_by};
 ghost use Rattle.sect_lint.specs.Labels.{reference_text, shape_text, typed_text, types_text, counts_text};
 ghost use Rattle.sect_lint.specs.Labels.{IsShapeWithin, IsTypedWithin};
 
 use crate::diagnostic::{Counts, Shape, Typed};
-use crate::excerpt::put_bytes;
+use crate::excerpt::{first_line, put_bytes};
 use sect_front::Span;
 use std::alloc::AllocError;
 use std::fmt::Write;
 
 /// The bytes of a text that a span has.
-fn bytes_of(source: &[u8], span: Span) -> &[u8]
+pub fn bytes_of(source: &[u8], span: Span) -> &[u8]
     requires { IsWithin (length source.now) span }
     ensures { result.now ≡ bytes_by source.now span }
 {
@@ -22,14 +23,25 @@ fn bytes_of(source: &[u8], span: Span) -> &[u8]
     bytes
 }
 
+/// Adds bytes between backquotes: their first line, as far as it may be shown, and a sign where more stand behind it.
+fn put_quote(text: &mut String, bytes: &[u8]) -> Result<(), AllocError>
+    ensures { OnOk result (string_bytes text.new ≡ string_bytes text.old ++ quote bytes.now) }
+{
+    let line = first_line(bytes);
+    text.push_str("`")?;
+    put_bytes(text, line)?;
+    if line.len() < bytes.len() {
+        text.push_str("...")?;
+    }
+    text.push_str("`")
+}
+
 /// Adds bytes of a text between backquotes.
 pub fn put_quoted(text: &mut String, source: &[u8], span: Span) -> Result<(), AllocError>
     requires { IsWithin (length source.now) span }
     ensures { OnOk result (string_bytes text.new ≡ string_bytes text.old ++ quoted source.now span) }
 {
-    text.push_str("`")?;
-    put_bytes(text, bytes_of(source, span))?;
-    text.push_str("`")
+    put_quote(text, bytes_of(source, span))
 }
 
 fn is_vowel(byte: u8) -> bool

@@ -7,6 +7,7 @@ ghost use Rattle.sect_lint.specs.Details.{position_text, place_text, detail_text
 ghost use Rattle.sect_lint.specs.Details.{next_text, circle_text};
 ghost use Rattle.sect_lint.specs.{Details.{IsDetailWithin}, Reports.{heading, note_line, report}};
 
+use crate::advised::wanted;
 use crate::diagnostic::{Detail, Diagnostic};
 use crate::excerpt::{put_excerpt, put_margin};
 use crate::file::put_place_line;
@@ -149,18 +150,14 @@ fn put_heading(text: &mut String, mistake: Mistake) -> Result<(), AllocError>
 
 /// Adds what is wanted, below a line of this number.
 #[tactic(auto, unfolding(crate::specs::Reports::note_line))]
-fn put_note(
-    text: &mut String,
-    mistake: Mistake,
-    number: &str,
-    line: usize,
-) -> Result<(), AllocError>
+fn put_note(text: &mut String, words: &str, number: &str, line: usize) -> Result<(), AllocError>
     requires { number.now ≡ decimal line }
-    ensures { OnOk result (string_bytes text.new ≡ string_bytes text.old ++ note_line line mistake) }
+    ensures { OnOk result (string_bytes text.new ≡ string_bytes text.old ++ note_line line words.now) }
 {
     text.push_str("\n")?;
     put_margin(text, number)?;
-    Ok(write!(text, "= {}", mistake.note())?)
+    text.push_str("= ")?;
+    text.push_str(words)
 }
 
 /// Adds the report of a diagnostic of a source text: the number and the title of the mistake, where it stands, behind
@@ -184,6 +181,6 @@ pub fn put_report(
     put_place_line(text, mark, position)?;
     put_excerpt(text, source, diagnostic.span, number.as_str(), column)?;
     put_detail(alloc, text, source, &diagnostic.detail)?;
-    put_note(text, diagnostic.mistake, number.as_str(), line)?;
+    put_note(text, wanted(source, diagnostic), number.as_str(), line)?;
     Ok(())
 }

@@ -1,31 +1,33 @@
 //! A diagnostic as a log of SARIF 2.1.0.
 
-ghost use Rattle.std.specs.{Prelude.{◌≡◌, ◌++◌, All, IfOk, OnOk, length, map}, String.{string_bytes}};
+ghost use Rattle.std.specs.{Prelude.{◌≡◌, ◌≤◌, ◌++◌, All, IfOk, OnOk, length, map}, String.{string_bytes}};
 ghost use Rattle.serde_json.specs.View.{view};
 ghost use Rattle.sect_front.specs.FaultPlaces.{IsWithin};
-ghost use Rattle.sect_lint.specs.{Details.{IsDetailWithin}, Json.{list}};
-ghost use Rattle.sect_lint.specs.Sarif.{region_json, location_json, related_json, related_call, related_by, aside_by};
+ghost use Rattle.sect_lint.specs.{Details.{IsDetailWithin}, Json.{list}, Advised.{advice_of as advice_by, advised}};
+ghost use Rattle.sect_lint.specs.Sarif.{region as region_by, region_json, located_json, point as point_by};
+ghost use Rattle.sect_lint.specs.Sarif.{point_region as point_region_by, location_json, related_json, related_call};
+ghost use Rattle.sect_lint.specs.Sarif.{related_by, aside_by};
 ghost use Rattle.sect_lint.specs.Sarif.{said_by, result_json, rule_json, tool_json, run_json, log_json};
 ghost use Rattle.sect_lint.specs.Sarif.{diagnostic_log as log_by, empty_log as empty_by};
 
+use crate::advised::put_advised;
 use crate::diagnostic::{Detail, Diagnostic};
 use crate::json::one_of;
 use crate::kinds::put_kinds;
 use crate::label::{put_counts, put_quoted, put_typed, put_types};
 use crate::mistake::Mistake;
+use sect_characters::{character_column, whole};
 use sect_front::Span;
-use sect_places::LineIndex;
+use sect_places::{LineIndex, Position};
 use serde_json::{Value, json};
 use std::alloc::{AllocError, Global};
 use std::fmt::Write;
 
-/// The bytes, lines and columns of a span.
-fn region_value(alloc: Global, source: &LineIndex<'_>, span: Span) -> Result<Value, AllocError>
-    requires { IsWithin (length source.now) span }
-    ensures { IfOk result (λ v. view v ≡ region_json source.now span) }
+/// The bytes, lines and columns of a span, which is from one position to another.
+fn region(alloc: Global, span: Span, start: Position, end: Position) -> Result<Value, AllocError>
+    requires { span.start ≤ span.end }
+    ensures { IfOk result (λ v. view v ≡ region_by span start end) }
 {
-    let start = source.position(span.start);
-    let end = source.position(span.end);
     let (offset, bytes) = (span.start, span.end - span.start);
     let (start_line, start_column) = (start.line, start.column);
     let (end_line, end_column) = (end.line, end.column);
@@ -33,7 +35,46 @@ fn region_value(alloc: Global, source: &LineIndex<'_>, span: Span) -> Result<Val
         "startColumn": start_column, "startLine": start_line})
 }
 
-/// Where a span of the text of this URI stands.
+/// The bytes, lines and columns of tokens: before one there is ASCII alone on its line.
+fn region_value(alloc: Global, source: &LineIndex<'_>, span: Span) -> Result<Value, AllocError>
+    requires { IsWithin (length source.now) span }
+    ensures { IfOk result (λ v. view v ≡ region_json source.now span) }
+{
+    let start = source.position(span.start);
+    let end = source.position(span.end);
+    region(alloc, span, start, end)
+}
+
+/// The line and the column of a place, both counted from 1, and columns in characters.
+fn point(source: &LineIndex<'_>, at: usize) -> Position
+    requires { at ≤ length source.now }
+    ensures { result ≡ point_by source.now at }
+{
+    Position {
+        line: source.position(at).line,
+        column: character_column(source.text(), at),
+    }
+}
+
+/// The characters of which some bytes have a part: their bytes, and lines and columns in characters.
+fn point_region(alloc: Global, source: &LineIndex<'_>, span: Span) -> Result<Value, AllocError>
+    requires { IsWithin (length source.now) span }
+    ensures { IfOk result (λ v. view v ≡ point_region_by source.now span) }
+{
+    let characters = whole(source.text(), span);
+    let start = point(source, characters.start);
+    let end = point(source, characters.end);
+    region(alloc, characters, start, end)
+}
+
+/// A region of the text of this URI.
+fn located(alloc: Global, uri: &str, place: Value) -> Result<Value, AllocError>
+    ensures { IfOk result (λ v. view v ≡ located_json uri.now (view place)) }
+{
+    json!(in alloc; {"physicalLocation": {"artifactLocation": {"uri": uri}, "region": place}})
+}
+
+/// Where tokens of the text of this URI stand.
 pub fn location_value(
     alloc: Global,
     uri: &str,
@@ -43,8 +84,7 @@ pub fn location_value(
     requires { IsWithin (length source.now) span }
     ensures { IfOk result (λ v. view v ≡ location_json uri.now source.now span) }
 {
-    json!(in alloc; {"physicalLocation": {"artifactLocation": {"uri": uri},
-        "region": region_value(alloc, source, span)?}})
+    located(alloc, uri, region_value(alloc, source, span)?)
 }
 
 /// What is said of another place.
@@ -128,8 +168,8 @@ fn related_values(
     }
 }
 
-/// Adds what is said beside the carets, where it has no place of its own.
-fn put_aside(text: &mut String, source: &[u8], detail: &Detail) -> Result<(), AllocError>
+/// Adds what is said beside the carets, where it has no place of its own, behind a colon.
+pub fn put_aside(text: &mut String, source: &[u8], detail: &Detail) -> Result<(), AllocError>
     requires { IsDetailWithin (length source.now) detail.now }
     ensures { OnOk result (string_bytes text.new ≡ string_bytes text.old ++ aside_by source.now detail.now) }
 {
@@ -159,14 +199,17 @@ fn put_aside(text: &mut String, source: &[u8], detail: &Detail) -> Result<(), Al
     }
 }
 
-/// What is wrong, and what is said beside it.
+/// What is wrong, what is said beside it, and what is to be written instead, where that is known.
 fn message_of(alloc: Global, source: &[u8], diagnostic: &Diagnostic) -> Result<String, AllocError>
-    requires { IsDetailWithin (length source.now) diagnostic.now.detail }
-    ensures { IfOk result (λ text. string_bytes text ≡ said_by source.now diagnostic.now) }
+    requires span { IsWithin (length source.now) diagnostic.now.span }
+    requires detail { IsDetailWithin (length source.now) diagnostic.now.detail }
+    ensures { IfOk result (λ text. string_bytes text
+        ≡ said_by source.now diagnostic.now ++ advised (advice_by source.now diagnostic.now)) }
 {
     let mut text = String::new(alloc);
     text.push_str(diagnostic.mistake.title())?;
     put_aside(&mut text, source, &diagnostic.detail)?;
+    put_advised(&mut text, source, diagnostic)?;
     Ok(text)
 }
 
@@ -181,7 +224,8 @@ fn result_value(
     requires detail { IsDetailWithin (length source.now) diagnostic.now.detail }
     ensures { IfOk result (λ v. view v ≡ result_json uri.now source.now diagnostic.now) }
 {
-    json!(in alloc; {"level": "error", "locations": [location_value(alloc, uri, source, diagnostic.span)?],
+    let place = point_region(alloc, source, diagnostic.span)?;
+    json!(in alloc; {"level": "error", "locations": [located(alloc, uri, place)?],
         "message": {"text": message_of(alloc, source.text(), diagnostic)?},
         "relatedLocations": related_values(alloc, uri, source, &diagnostic.detail)?,
         "ruleId": format!(in alloc; "{}", diagnostic.mistake.number())?})

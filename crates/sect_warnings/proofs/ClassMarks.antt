@@ -38,7 +38,7 @@ module _ (c : CompiledView) (compiled : IsCompiled c) (i : ℕ)
         kept ∙ ap (λ g. Some g) (flow_is c compiled.scheme i within (slice_index_or c.scheme.graphs.sections i []) kept)
 
     -- what its nodes do agrees with the declarations
-    step_there : (j : ℕ) (y : Node) → slice_get nodes j ≡ Some y
+    pub step_there : (j : ℕ) (y : Node) → slice_get nodes j ≡ Some y
         → IsSoundStep c.scheme.program (section_at c i).thread y.label
     step_there j y at = step_sound c.scheme (typed_program c compiled) (section_at c i).thread y.label
         (section_step c.scheme compiled.scheme (section_at c i) y

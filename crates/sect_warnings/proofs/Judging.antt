@@ -1,6 +1,8 @@
 -- What may be told of sections, and where it stands.
 use Rattle.std.proofs.Common.{◌≡◌, ◌<◌, ℕ, zero, suc, ◌+◌, List, [], ◌∷◌, ◌++◌, length, Option, Some, None, sym, ap}
-use Rattle.std.proofs.Common.{◌∙◌, subst, inl, inr, arith, slice_get, add-one, refl}
+use Rattle.std.proofs.Common.{◌∙◌, subst, inl, inr, arith, slice_get, add-one, refl, Bool, true, false, take}
+use Rattle.std.proofs.lemmas.Bool.{or_right, or_from, or_parts}
+use Rattle.std.specs.{Prelude.{◌||◌}, List.{list_any}}
 use Rattle.std.proofs.lemmas.Option.{slice_get_within, slice_get-get_or, get_or_from_slice_get}
 use Rattle.std.specs.{Prelude.{slice_index_or, option_map, All}, List.{flat_map}}
 use Rattle.sect_lemmas.specs.Lists.{Has}
@@ -190,3 +192,20 @@ pub item_within : (t : TreeView) (list : List ℕ) → list ≡ section_items_of
 item_within t list are each i lt =
     let there = each i 0 lt in
     subst (λ l. slice_index_or l i 0 < length (items t)) are (slice_get_within (items t) _ _ there.2)
+
+-- where one of a list is, some is; and where none of the first is nor the next, none of one more is
+pub any_found : {X : Type 0} (f : X → Bool) (xs : List X) (j : ℕ) (x : X) → slice_get xs j ≡ Some x → f x ≡ true
+    → list_any f xs ≡ true
+any_found f [] j x at is = absurd cc
+any_found {X} f (y ∷ ys) zero x at is =
+    let same : y ≡ x = cc in ap (λ (z : X). f z || list_any f ys) same ∙ ap (λ b. b || list_any f ys) is
+any_found f (y ∷ ys) (suc j) x at is = or_right (f y) (list_any f ys) (any_found f ys j x at is)
+
+pub none_more : {X : Type 0} (f : X → Bool) (xs : List X) (j : ℕ) (x : X) → slice_get xs j ≡ Some x
+    → list_any f (take j xs) ≡ false → f x ≡ false → list_any f (take (suc j) xs) ≡ false
+none_more f [] j x at before isnt = absurd cc
+none_more {X} f (y ∷ ys) zero x at before isnt =
+    let same : y ≡ x = cc in or_from (f y) (list_any f (take 0 ys)) (ap (λ (z : X). f z) same ∙ isnt) refl
+none_more f (y ∷ ys) (suc j) x at before isnt =
+    let both = or_parts (f y) (list_any f (take j ys)) before in
+    or_from (f y) (list_any f (take (suc j) ys)) both.0 (none_more f ys j x at both.1 isnt)

@@ -3,8 +3,11 @@ mod Marking
 mod Placing
 mod Plain
 mod Sparing
+mod Trying
 mod Turning
 mod Reasoning
 mod Searching
 mod ClassMarks
 mod Hints
+mod Using
+mod Parting

@@ -1,3 +1,5 @@
+pub mod Fields
+pub mod Apart
 pub mod Warnings
 pub mod Placed
 pub mod Titles

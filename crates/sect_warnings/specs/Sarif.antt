@@ -37,6 +37,7 @@ abbrev pub rules : Data
 rules =
     list (finding_rule finding.NoLock ∷ finding_rule finding.AllForOne
     ∷ finding_rule (finding.ClassLock 0 effect.Read) ∷ finding_rule (finding.NeverFilled 0 0)
+    ∷ finding_rule (finding.NoCommonField 0)
     ∷ spare_rule (spare.Unused thing.Local) ∷ spare_rule spare.Hint ∷ [])
 
 abbrev pub warnings_log : List ℕ → List ℕ → List PlacedView → Data

@@ -15,6 +15,7 @@ name_of finding.NoLock = codes "no-lock"
 name_of finding.AllForOne = codes "all-for-one"
 name_of (finding.ClassLock n e) = codes "class-lock"
 name_of (finding.NeverFilled j x) = codes "never-filled"
+name_of (finding.NoCommonField j) = codes "no-common-field"
 
 -- what a class is locked for
 abbrev pub doing : Effect → List ℕ
@@ -26,7 +27,9 @@ abbrev pub told_of : Finding → List ℕ
 told_of finding.NoLock = codes " takes no lock"
 told_of finding.AllForOne = codes " locks everything where one lock would do"
 told_of (finding.ClassLock n e) = codes " locks all of class " ++ decimal n ++ codes " for " ++ doing e
-told_of (finding.NeverFilled j x) = codes " goes through null in every run"
+told_of (finding.NeverFilled j x) = codes " goes through a local that is always null"
+told_of (finding.NoCommonField j) =
+    codes " excludes section " ++ decimal j ++ codes ", though neither stores to a field that the other uses"
 
 abbrev pub title_of : Warning → List ℕ
 title_of w = codes "section " ++ decimal w.section ++ told_of w.finding
@@ -42,6 +45,8 @@ note_of finding.AllForOne = codes "a section marked `all` runs beside no other t
 note_of (finding.ClassLock n e) = class_note
 note_of (finding.NeverFilled j x) =
     codes "no statement ever gives the local an object, so a thread that comes here ends by the fault `null`"
+note_of (finding.NoCommonField j) =
+    codes "a lock is on all fields of an object; in two records these could be used side by side"
 
 -- the same of a declaration
 abbrev pub spare_name : Spare → List ℕ

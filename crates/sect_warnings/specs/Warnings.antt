@@ -1,6 +1,7 @@
 -- Which warnings are due of a compiled program.
-use Rattle.std.specs.Prelude.{◌≡◌, ◌<◌, ℕ, zero, suc, All, List, [], ◌∷◌, ◌++◌, length, Option, Some, None, slice_get}
-use Rattle.std.specs.{Prelude.{slice_index_or}, List.{flat_map}}
+use Rattle.std.specs.Prelude.{◌≡◌, ◌<◌, ℕ, zero, suc, Bool, true, false, All, List, [], ◌∷◌, ◌++◌, length, map, Option}
+use Rattle.std.specs.Prelude.{Some, None, slice_get}
+use Rattle.std.specs.{Prelude.{slice_index_or}, List.{flat_map, list_any}}
 use Rattle.sect_lemmas.specs.Lists.{Has}
 use Rattle.sect_front.specs.TreeView.{TreeView}
 use Rattle.sect_types.specs.{Items.{items}, Sections.{SectionView, sections_of}, declared.expansion.action.Base.{Base}}
@@ -11,8 +12,10 @@ use Rattle.sect_places.specs.{declared.origin.Origin.{Origin}, Origins.{section_
 use Rattle.sect_places.specs.SectionItems.{section_items_of}
 use Rattle.sect_names.specs.{Carrying.{right_for}, declared.lock.Lock.{Lock}, Needed.{end_of, IsLeast}}
 use Rattle.sect_emit.specs.{Compiled.{CompiledView}, Explaining.{section_at}}
-use Rattle.sect_conflicts.specs.Conflicts.{set_at, Selects}
+use Rattle.sect_conflicts.specs.{declared.conflict.SectionPair.{SectionPair}, Conflicts.{set_at, Selects}}
+use Rattle.sect_conflicts.specs.Comparing.{AreConflicts}
 use Rattle.sect_warnings.specs.{declared.warning.Finding.{Finding}, declared.warning.Warning.{Warning}}
+use Rattle.sect_warnings.specs.Apart.{AreApart, pair_warning, firsts}
 use Rattle.sect_types.specs.declared.expansion.action.Action.TheVariants as action
 use Rattle.sect_types.specs.declared.expansion.action.Base.TheVariants as base
 use Rattle.sect_types.specs.declared.expansion.action.Label.TheVariants as label
@@ -27,12 +30,22 @@ WouldDo c i l =
     (of : SectionView) × (slice_get (sections_of c.scheme.program.texts) i ≡ Some of)
     × (end_of c.scheme i ≡ lock.All ∷ []) × IsLeast c.scheme of.thread [] of.body (l ∷ [])
 
+-- a node that prints, which is admitted in sections alone
+abbrev pub is_print : Label → Bool
+is_print (label.Act (action.Print v)) = true
+is_print _ = false
+
+-- section i prints
+abbrev pub prints : CompiledView → ℕ → Bool
+prints c i = list_any (λ (n : Node). is_print n.label) (flow_nodes (section_at c i).body)
+
 -- the finding is due of section i
 abbrev pub IsDueOf : CompiledView → ℕ → Finding → Type 0
-IsDueOf c i finding.NoLock = set_at c i ≡ []
+IsDueOf c i finding.NoLock = (set_at c i ≡ []) × (prints c i ≡ false)
 IsDueOf c i finding.AllForOne = (l : Lock) × WouldDo c i l
 IsDueOf c i (finding.ClassLock n e) = Has (set_at c i) (lock.Class n (right_for e))
 IsDueOf c i (finding.NeverFilled j x) = IsNeverFilled c.scheme.classes.sets (section_at c i).thread x
+IsDueOf c i (finding.NoCommonField j) = AreApart c i j
 
 abbrev pub IsDue : CompiledView → Warning → Type 0
 IsDue c w = IsDueOf c w.section w.finding
@@ -87,9 +100,20 @@ to_section c (suc i) =
     ++ at_section c i (slice_index_or (section_items_of c.scheme.program.source) i 0)
     (slice_index_or (section_origins_of c.scheme.program.source) i [])
 
--- these are the warnings of the program: of all that may be told of its sections exactly what is due, in this order
+-- of all that may be told of sections one by one these are due, in this order
+abbrev pub AreOfSections : CompiledView → List Warning → Type 0
+AreOfSections c ws = Selects (IsDue c) (to_section c (length (sections_of c.scheme.program.texts))) ws
+
+-- and of what may be told of two sections; of each section what is told of it and the first such other
+abbrev pub AreOfPairs : CompiledView → List Warning → Type 0
+AreOfPairs c ws =
+    (pairs : List SectionPair) × (all : List Warning) × AreConflicts c pairs
+    × Selects (IsDue c) (map (pair_warning c.scheme.program.source) pairs) all × (ws ≡ firsts all)
+
+-- these are the warnings of the program
 abbrev pub AreWarnings : CompiledView → List Warning → Type 0
-AreWarnings c ws = Selects (IsDue c) (to_section c (length (sections_of c.scheme.program.texts))) ws
+AreWarnings c ws =
+    (one : List Warning) × (two : List Warning) × AreOfSections c one × AreOfPairs c two × (ws ≡ one ++ two)
 
 -- each stands at an item of the tree
 abbrev pub AreAtItems : TreeView → List Warning → Type 0

@@ -1,3 +1,5 @@
 -- What the contracts of private functions speak of.
 pub mod Reasons
 pub mod Hinted
+pub mod Trials
+pub mod Usage

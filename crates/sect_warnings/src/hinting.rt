@@ -1,17 +1,16 @@
 //! Hints that would spare a section a lock on a whole class.
 
-ghost use Rattle.std.specs.Prelude.{◌≡◌, ◌<◌, ◌≤◌, ◌++◌, ℕ, List, Some, IfOk, IfSome, OnOk, length, position};
-ghost use Rattle.std.specs.{Prelude.{slice_get}, String.{string_bytes}};
+ghost use Rattle.std.specs.Prelude.{◌≡◌, ◌<◌, ◌≤◌, ◌++◌, Some, IfOk, IfSome, OnOk, length, position, slice_get};
+ghost use Rattle.std.specs.String.{string_bytes};
 ghost use Rattle.sect_places.specs.NameSpans.{AreNameSpans};
 ghost use Rattle.sect_types.specs.Sections.{sections_of};
 ghost use Rattle.sect_graph.specs.Layout.{flow_nodes};
 ghost use Rattle.sect_names.specs.Printing.{global_name};
 ghost use Rattle.sect_emit.specs.Explaining.{section_at};
-ghost use Rattle.sect_warnings.specs.ClassLocks.{class_lock};
 ghost use Rattle.sect_warnings.specs.Hinting.{touched as touched_by, touched_at as touched_at_by};
 ghost use Rattle.sect_warnings.specs.Hinting.{may_guard as may_guard_by, guard_for as guard_for_by, declared_by};
-ghost use Rattle.sect_warnings.specs.Hinting.{hinted as hinted_by, hint_words, IsTried, IsHintSaid};
-ghost use Rattle.sect_warnings.specs.steps.Hinted.{IsHinted};
+ghost use Rattle.sect_warnings.specs.Hinting.{hinted as hinted_by, hint_words};
+ghost use Rattle.sect_warnings.specs.steps.{Hinted.{IsHinted}, Trials.{IsAdded, IsTried}};
 
 use crate::outcome::put_outcome;
 use crate::remedy::{Accepted, ClassWarning};
@@ -48,14 +47,14 @@ pub fn touched_at(compiled: &Compiled, section: u16, node: u32) -> Option<u16>
 }
 
 /// Whether an object of a record may guard those of another: it is another indeed, and nothing guards its objects.
-fn may_guard(scheme: &Scheme, guarded: u16, own: u16) -> bool
+fn may_guard(scheme: &Scheme, guarded: usize, own: u16) -> bool
     ensures { result ≡ may_guard_by scheme.now guarded own }
 {
-    own != guarded && scheme.guards().guard(own).is_none()
+    own as usize != guarded && scheme.guards().guard(own).is_none()
 }
 
 /// The first global whose object may guard those of a record.
-fn guard_for(scheme: &Scheme, guarded: u16) -> Option<usize>
+fn guard_for(scheme: &Scheme, guarded: usize) -> Option<usize>
     ensures is { result ≡ guard_for_by scheme.now guarded }
     ensures within { IfSome result (λ g. g < length scheme.now.program.globals) }
 {
@@ -81,11 +80,11 @@ fn name_of(alloc: Global, program: &Program, global: u16) -> Result<String, Allo
 }
 
 /// Which of these names declares a record.
-fn declared(names: &[NameSpan], tree: &Tree, guarded: u16) -> Option<usize>
+fn declared(names: &[NameSpan], tree: &Tree, guarded: usize) -> Option<usize>
     ensures is { result ≡ declared_by names.now (slice_get tree.now.records guarded) }
     ensures within { IfSome result (λ k. k < length names.now) }
 {
-    match tree.records().get(guarded as usize) {
+    match tree.records().get(guarded) {
         Some(declared) => record_of(names, &declared.name),
         None => None,
     }
@@ -120,11 +119,12 @@ fn tried(alloc: Global, source: &[u8], k: u16) -> Result<Option<Compiled>, Alloc
     }
 }
 
-/// The hint of a record, which is declared by this name, and what guards its objects.
-#[derive(Clone, Copy)]
-struct Hint<'a> {
-    named: &'a NameSpan,
-    guard: &'a str,
+/// A record's hint that was tried in a text, and the program of the text that has it.
+#[derive(Drop)]
+pub struct TriedHint {
+    pub name: Name,
+    pub guard: String,
+    pub compiled: Compiled,
 }
 
 /// Adds which hint is tried.
@@ -139,58 +139,47 @@ fn put_words(text: &mut String, name: &Name, guard: &str) -> Result<(), AllocErr
     Ok(())
 }
 
-/// Adds what a hint of a record comes to for a section with a class lock, where `named` declares the record and an
-/// object of this name may guard its objects; nothing where the text with the hint is refused.
-fn put_tried(
-    alloc: Global,
-    text: &mut String,
-    accepted: Accepted<'_>,
-    of: ClassWarning,
-    hint: Hint<'_>,
-) -> Result<(), AllocError>
-    requires { hint.named.now.span.end ≤ length accepted.source.now }
-    ensures { OnOk result ((said : List ℕ) × IsTried accepted.entry.source.now accepted.entry.compiled.now of.section
-        (class_lock of.lock.class of.lock.effect) hint.entry.named.now hint.entry.guard.now said
-        × (string_bytes text.new ≡ string_bytes text.old ++ said)) }
-{
-    let source = hinted(alloc, accepted.source, hint.named, hint.guard)?;
-    let Some(compiled) = tried(alloc, source.as_slice(), accepted.compiled.scheme().k())? else {
-        return Ok(());
-    };
-    put_words(text, &hint.named.used.name, hint.guard)?;
-    put_outcome(text, &compiled, of.section, of.lock)?;
-    Ok(())
+impl TriedHint {
+    /// Which hint was tried, and what it comes to for a section with a class lock.
+    pub fn said(&self, alloc: Global, of: ClassWarning) -> Result<String, AllocError>
+        ensures { IfOk result (λ text. IsAdded self.now.compiled
+            (hint_words self.now.name (string_bytes self.now.guard)) (Some of) (string_bytes text)) }
+    {
+        let mut text = String::new(alloc);
+        put_words(&mut text, &self.name, self.guard.as_str())?;
+        put_outcome(&mut text, &self.compiled, of.section, of.lock)?;
+        Ok(text)
+    }
 }
 
-/// Adds what a hint of a record comes to for a section with a class lock, if it may have one.
-pub fn put_hint(
+/// Tries the hint of a record, if it may have one; nothing where it may not, or the text with the hint is refused.
+pub fn tried_hint(
     alloc: Global,
-    text: &mut String,
     accepted: Accepted<'_>,
-    of: ClassWarning,
-    guarded: Option<u16>,
-) -> Result<(), AllocError>
+    guarded: usize,
+) -> Result<Option<TriedHint>, AllocError>
     requires { AreNameSpans accepted.source.now accepted.compiled.now.scheme.program.source accepted.names.now }
-    ensures { OnOk result ((said : List ℕ) × IsHintSaid accepted.entry.source.now accepted.entry.names.now
-        accepted.entry.compiled.now of.section (class_lock of.lock.class of.lock.effect) guarded said
-        × (string_bytes text.new ≡ string_bytes text.old ++ said)) }
+    ensures { IfOk result (IsTried accepted.entry.source.now accepted.entry.names.now accepted.entry.compiled.now
+        guarded) }
 {
     let scheme = accepted.compiled.scheme();
-    scheme.program().facts();
-    let Some(guarded) = guarded else {
-        return Ok(());
-    };
-    let Some(number) = declared(accepted.names, scheme.program().tree(), guarded) else {
-        return Ok(());
+    let program = scheme.program();
+    program.facts();
+    let Some(number) = declared(accepted.names, program.tree(), guarded) else {
+        return Ok(None);
     };
     let Some(global) = guard_for(scheme, guarded) else {
-        return Ok(());
+        return Ok(None);
     };
-    let guard = name_of(alloc, scheme.program(), global as u16)?;
-    let hint = Hint {
-        named: &accepted.names[number],
-        guard: guard.as_str(),
+    let named = &accepted.names[number];
+    let guard = name_of(alloc, program, global as u16)?;
+    let text = hinted(alloc, accepted.source, named, guard.as_str())?;
+    let Some(compiled) = tried(alloc, text.as_slice(), scheme.k())? else {
+        return Ok(None);
     };
-    put_tried(alloc, text, accepted, of, hint)?;
-    Ok(())
+    Ok(Some(TriedHint {
+        name: named.used.name,
+        guard,
+        compiled,
+    }))
 }

@@ -6,8 +6,10 @@ ghost use Rattle.sect_graph.specs.Layout.{flow_nodes};
 ghost use Rattle.sect_emit.specs.Explaining.{section_at};
 ghost use Rattle.sect_warnings.specs.Warnings.{warning, through as through_by, unfilled_at, to_node, at_section};
 ghost use Rattle.sect_warnings.specs.Warnings.{class_at, IsDue, AreWarnings, AreAtItems};
+ghost use Rattle.sect_warnings.specs.Warnings.{is_print as is_print_by, prints as prints_by};
 ghost use Rattle.sect_conflicts.specs.{Conflicts.{set_at}, Selecting.{Adds}};
 
+use crate::apart::of_pairs;
 use crate::marked::takes_all_for_one;
 use crate::warning::{Finding, Warning};
 use sect_emit::{Compiled, section_thread};
@@ -109,7 +111,29 @@ fn has_none(set: &[Lock]) -> bool
     set.is_empty()
 }
 
-/// Adds that a section, which is this item, takes no lock, if it takes none.
+/// Whether a node prints.
+fn is_print(label: Label) -> bool
+    ensures { result ≡ is_print_by label }
+{
+    matches!(label, Label::Act(Action::Print(_)))
+}
+
+/// Whether a section prints, which is admitted in sections alone.
+fn prints(compiled: &Compiled, section: u16) -> bool
+    requires { section < length (sections_of compiled.now.scheme.program.texts) }
+    ensures { result ≡ prints_by compiled.now section }
+{
+    compiled.facts();
+    let flow = compiled.scheme().graph().section(section);
+    for node in 0..flow.exit() {
+        if is_print(flow.action(node)) {
+            return true;
+        }
+    }
+    false
+}
+
+/// Adds that a section, which is this item, takes no lock, if it takes none and prints nothing.
 fn add_lockless(
     found: &mut Vec<Warning>,
     compiled: &Compiled,
@@ -121,6 +145,9 @@ fn add_lockless(
         found.new.items) }
 {
     compiled.facts();
+    if prints(compiled, section) {
+        return Ok(());
+    }
     if has_none(compiled.set(section)) {
         found.push(Warning {
             section,
@@ -226,7 +253,7 @@ fn add_section(
     Ok(())
 }
 
-/// What is worth a second look in a compiled program: all that is due, section by section.
+/// What is worth a second look in a compiled program: all that is due, section by section, and then of pairs of them.
 pub fn warnings(alloc: Global, compiled: &Compiled) -> Result<Vec<Warning>, AllocError>
     ensures due { IfOk result (λ found. AreWarnings compiled.now found.items) }
     // Each stands at an item of the program's tree.
@@ -242,5 +269,7 @@ pub fn warnings(alloc: Global, compiled: &Compiled) -> Result<Vec<Warning>, Allo
         let head = Head { section, item };
         add_section(alloc, &mut found, compiled, head, origins.section(section))?;
     }
+    let mut apart = of_pairs(alloc, compiled, items.as_slice())?;
+    found.append(&mut apart)?;
     Ok(found)
 }

@@ -1,7 +1,10 @@
 //! What is worth a second look in a program that is accepted, and where, as it is told to a reader.
 #![tactic(auto)]
 
+mod apart;
+mod apart_mark;
 mod class_mark;
+mod fields;
 mod format;
 mod hinting;
 mod json;
@@ -17,11 +20,13 @@ mod remedy;
 mod report;
 mod sarif;
 mod spare;
+mod trials;
 mod warning;
 
 pub use format::{placed_warnings, warnings_as};
 pub use judge::warnings;
 pub use laws::never_filled_locals_refer_to_nothing;
 pub use placed::{Placed, put_behind};
+pub use report::title;
 pub use spare::spares;
 pub use warning::{Finding, Spare, Told, Warning};

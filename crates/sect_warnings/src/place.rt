@@ -1,28 +1,17 @@
 //! Where warnings stand, and what is said there.
 
-ghost use Rattle.std.specs.Prelude.{◌≡◌, ◌<◌, IfOk, All, length, get_or};
+ghost use Rattle.std.specs.Prelude.{IfOk, All, length};
 ghost use Rattle.sect_front.specs.Front.{IsSpelled};
-ghost use Rattle.sect_types.specs.Items.{items};
-ghost use Rattle.sect_places.specs.{NameSpans.{AreNameSpans}, Ranges.{AreAmong}, Spans.{span_in}};
-ghost use Rattle.sect_lint.specs.Places.{no_range};
+ghost use Rattle.sect_places.specs.NameSpans.{AreNameSpans};
 ghost use Rattle.sect_warnings.specs.{Warnings.{IsDue, AreAtItems}, Reports.{ArePlaced, AreWithin}};
 
 use crate::mark::{Kept, Mark, mark_of};
 use crate::placed::Placed;
 use crate::remedy::Accepted;
+use crate::trials::try_hints;
 use crate::warning::{Told, Warning};
-use sect_front::Span;
-use sect_places::{TokenRange, item_ranges, node_origins, range_span, token_spans};
+use sect_places::{node_origins, tree_spans};
 use std::alloc::{AllocError, Global};
-
-/// The bytes of an item, where `tokens` has the bytes of each token, and `ranges` the tokens of each item.
-fn item_span(tokens: &[Span], ranges: &[TokenRange], item: usize) -> Span
-    requires item { item < length ranges.now }
-    requires ranges { AreAmong (length tokens.now) ranges.now }
-    ensures { result ≡ span_in tokens.now (get_or ranges.now item no_range) }
-{
-    range_span(tokens, ranges[item])
-}
 
 /// The same as `places_of`, of some warnings.
 fn some_places(
@@ -40,16 +29,22 @@ fn some_places(
 {
     let program = accepted.compiled.scheme().program();
     let tree = program.tree();
-    let tokens = token_spans(alloc, accepted.source, tree)?;
-    let ranges = item_ranges(alloc, tree)?;
+    let spans = tree_spans(alloc, accepted.source, tree)?;
     let origins = node_origins(alloc, program)?;
     let mut kept = Kept::new();
     let mut placed = Vec::with_capacity(alloc, found.len())?;
+    let mut trials = Vec::with_capacity(alloc, found.len())?;
     for warning in found {
-        let Mark { item, label, note } = mark_of(alloc, accepted, &origins, &mut kept, *warning)?;
-        let span = item_span(tokens.as_slice(), ranges.as_slice(), item);
-        placed.push(Placed::new(Told::Section(*warning), span, label, note))?;
+        let Mark {
+            item,
+            label,
+            note,
+            trial,
+        } = mark_of(alloc, accepted, &origins, &mut kept, *warning)?;
+        placed.push(Placed::new(Told::Section(*warning), spans[item], label, note))?;
+        trials.push(trial)?;
     }
+    try_hints(alloc, accepted, trials.as_slice(), &mut placed)?;
     Ok(placed)
 }
 

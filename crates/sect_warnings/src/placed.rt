@@ -2,6 +2,7 @@
 
 ghost use Rattle.std.specs.{Prelude.{◌≡◌, ◌++◌, OnOk}, String.{string_bytes}};
 ghost use Rattle.sect_warnings.specs.Placed.{behind};
+ghost use Rattle.sect_warnings.specs.steps.Trials.{with_note};
 
 use crate::warning::Told;
 use sect_front::Span;
@@ -42,6 +43,13 @@ impl Placed {
             label,
             note,
         }
+    }
+
+    /// Adds to what it means.
+    pub(crate) fn extend_note(&mut self, said: &str) -> Result<(), AllocError>
+        ensures { OnOk result (self.new ≡ with_note self.old said.now) }
+    {
+        self.note.push_str(said)
     }
 
     /// What is told.

@@ -1,12 +1,11 @@
 //! What a lock on a whole class means, and whether longer paths would spare a section it.
 
 ghost use Rattle.std.specs.{Prelude.{◌≡◌, ◌++◌, List, ℕ, IfOk, IfSome, OnOk}, String.{string_bytes}};
-ghost use Rattle.sect_places.specs.NameSpans.{AreNameSpans};
 ghost use Rattle.sect_emit.specs.Compiled.{IsCompiledFrom};
-ghost use Rattle.sect_warnings.specs.{ClassLocks.{class_lock}, Remedies.{IsClassNote, IsDeepSaid}};
+ghost use Rattle.sect_warnings.specs.{ClassLocks.{class_lock}, Remedies.{IsDeepSaid}};
+ghost use Rattle.sect_warnings.specs.steps.Trials.{IsBareNote};
 
 use crate::class_mark::ClassLock;
-use crate::hinting::put_hint;
 use crate::outcome::put_outcome;
 use crate::warning::Finding;
 use sect_emit::{Compiled, compile};
@@ -70,24 +69,20 @@ fn put_deep(
     Ok(())
 }
 
-/// What a class lock of a section means, what paths of the most fields come to, and what a hint of this record comes
-/// to.
+/// What a class lock of a section means, and what paths of the most fields come to.
 pub fn class_note(
     alloc: Global,
     accepted: Accepted<'_>,
     kept: &mut Option<Compiled>,
     of: ClassWarning,
-    guarded: Option<u16>,
 ) -> Result<String, AllocError>
-    requires kept { IfSome kept.old (IsCompiledFrom accepted.source.now 3) }
-    requires names { AreNameSpans accepted.source.now accepted.compiled.now.scheme.program.source accepted.names.now }
-    ensures note { IfOk result (λ text. IsClassNote accepted.entry.source.now accepted.entry.names.now
-        accepted.entry.compiled.now of.section (class_lock of.lock.class of.lock.effect) guarded (string_bytes text)) }
+    requires { IfSome kept.old (IsCompiledFrom accepted.source.now 3) }
+    ensures note { IfOk result (λ text. IsBareNote accepted.entry.source.now accepted.entry.compiled.now of.section
+        (class_lock of.lock.class of.lock.effect) (string_bytes text)) }
     ensures kept { IfSome kept.new (IsCompiledFrom accepted.entry.source.now 3) }
 {
     let ClassLock { class, effect } = of.lock;
     let mut text = String::from_str(alloc, Finding::ClassLock { class, effect }.note())?;
     put_deep(alloc, &mut text, accepted, kept, of)?;
-    put_hint(alloc, &mut text, accepted, of, guarded)?;
     Ok(text)
 }

@@ -35,7 +35,11 @@ fn put_told(text: &mut String, finding: Finding) -> Result<(), AllocError>
             let doing = doing(effect);
             Ok(write!(text, " locks all of class {class} for {doing}")?)
         }
-        Finding::NeverFilled { .. } => text.push_str(" goes through null in every run"),
+        Finding::NeverFilled { .. } => text.push_str(" goes through a local that is always null"),
+        Finding::NoCommonField { other } => Ok(write!(
+            text,
+            " excludes section {other}, though neither stores to a field that the other uses"
+        )?),
     }
 }
 

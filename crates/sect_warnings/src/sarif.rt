@@ -92,6 +92,7 @@ fn rules_value(alloc: Global) -> Result<Value, AllocError>
         finding_value(alloc, Finding::AllForOne)?,
         finding_value(alloc, Finding::ClassLock { class: 0, effect: Effect::Read })?,
         finding_value(alloc, Finding::NeverFilled { node: 0, local: 0 })?,
+        finding_value(alloc, Finding::NoCommonField { other: 0 })?,
         spare_value(alloc, Spare::Unused(Thing::Local))?,
         spare_value(alloc, Spare::Hint)?
     ])

@@ -10,7 +10,7 @@ use sect_places::Thing;
 /// What may be told of a section of a program that is accepted.
 #[derive(Clone, Copy)]
 pub enum Finding {
-    /// The section takes no lock.
+    /// The section takes no lock, and prints nothing.
     NoLock,
     /// The section is marked `all`, and without the mark it would take one lock.
     AllForOne,
@@ -19,6 +19,9 @@ pub enum Finding {
     /// The node of this number loads from the object of this local, or stores to it, and no reference to an object ever
     /// comes to the local.
     NeverFilled { node: u16, local: u16 },
+    /// The section and this one, which is of another thread, exclude each other and use fields of one record, though
+    /// neither stores to a field that the other uses.
+    NoCommonField { other: u16 },
 }
 
 impl Finding {
@@ -31,6 +34,7 @@ impl Finding {
             Finding::AllForOne => "all-for-one",
             Finding::ClassLock { .. } => "class-lock",
             Finding::NeverFilled { .. } => "never-filled",
+            Finding::NoCommonField { .. } => "no-common-field",
         }
     }
 
@@ -46,6 +50,9 @@ impl Finding {
             }
             Finding::NeverFilled { .. } => {
                 "no statement ever gives the local an object, so a thread that comes here ends by the fault `null`"
+            }
+            Finding::NoCommonField { .. } => {
+                "a lock is on all fields of an object; in two records these could be used side by side"
             }
         }
     }

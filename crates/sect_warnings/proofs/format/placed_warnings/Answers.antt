@@ -1,20 +1,15 @@
-use Rattle.std.proofs.Common.{◌≡◌, length, sym, subst, get_or}
+use Rattle.std.proofs.Common.{◌≡◌, length, sym, subst}
 use Rattle.std.specs.Prelude.{All}
-use Rattle.sect_lemmas.proofs.Membership.{Has-get_or}
-use Rattle.sect_types.specs.Sections.{sections_of}
 use Rattle.sect_places.specs.NameSpans.{AreNameSpans}
-use Rattle.sect_conflicts.proofs.shared.Selecting.{selected}
-use Rattle.sect_warnings.specs.{Warnings.{IsDue, to_section}, Reports.{ArePlaced, AreWithin}, Spares.{AreSpares}}
-use Rattle.sect_warnings.proofs.Sparing.{with_spares}
+use Rattle.sect_warnings.specs.{Warnings.{IsDue}, Reports.{ArePlaced, AreWithin}, Spares.{AreSpares}}
+use Rattle.sect_warnings.proofs.{Parting.{all_due}, Sparing.{with_spares}}
 use Rattle.sect_warnings.proofs.format.placed_warnings.Goals as goal
 
 pub places_of-requires-clause-due : goal.places_of-requires-clause-due
 places_of-requires-clause-due c =
     let v = c.args.compiled.now in
     let ws = c.in_ok-found.found.items in
-    subst (All (IsDue v)) (sym c.as_slice-2.ensures.value)
-    (λ k d lt. (selected (IsDue v) (to_section v (length (sections_of v.scheme.program.texts))) ws
-    c.in_ok-found.ensures.due (get_or ws k d) (Has-get_or ws k d lt)).1)
+    subst (All (IsDue v)) (sym c.as_slice-2.ensures.value) (all_due v ws c.in_ok-found.ensures.due)
 
 pub returns-clause-placed : goal.returns-clause-placed
 returns-clause-placed c =

@@ -1,11 +1,12 @@
-use Rattle.std.proofs.Common.{◌≡◌, ◌≤◌, [], length, refl, sym, ap, ◌∙◌, arith, get_or}
+use Rattle.std.proofs.Common.{◌≡◌, ◌<◌, ◌≤◌, ℕ, [], length, refl, sym, ap, ◌∙◌, subst, arith}
 use Rattle.std.proofs.lemmas.Option.{slice_get_read, get_or_from_slice_get}
 use Rattle.std.specs.Prelude.{All, slice_index_or}
-use Rattle.sect_lemmas.proofs.Membership.{Has-get_or}
 use Rattle.sect_types.specs.{Items.{items}, Sections.{sections_of}}
 use Rattle.sect_places.specs.{NodeOrigins.{AreOrigins}, SectionItems.{section_items_of, IsAtomicItem}}
+use Rattle.sect_conflicts.specs.Conflicts.{Selects}
 use Rattle.sect_conflicts.proofs.shared.Selecting.{selected, adds_all}
-use Rattle.sect_warnings.specs.Warnings.{IsDue, to_section}
+use Rattle.sect_warnings.specs.{Warnings.{IsDue, to_section, AreAtItems}, declared.warning.Warning.{Warning}}
+use Rattle.sect_warnings.proofs.Parting.{each_of_both, pairs_at}
 use Rattle.sect_warnings.proofs.Judging.{origins_many, origins_within, item_within, all_within, next_section}
 use Rattle.sect_warnings.proofs.judge.warnings.Goals as goal
 
@@ -39,12 +40,44 @@ loop-section-preserved c =
     ∙ get_or_from_slice_get c.in_ok-origins.origins.sections i c.section.result.now [] c.section.ensures)
     c.loop-section.invariant c.in_ok-add_section.ensures
 
+pub of_pairs-requires-clause-items : goal.of_pairs-requires-clause-items
+of_pairs-requires-clause-items c =
+    let v = c.args.compiled.now in
+    let those : c.in_ok-items.items.items ≡ section_items_of v.scheme.program.source =
+    rw (c.program-program.ensures, c.scheme.ensures) at c.in_ok-items.ensures.are in
+    c.as_slice.ensures.value ∙ those
+
+pub of_pairs-requires-clause-many : goal.of_pairs-requires-clause-many
+of_pairs-requires-clause-many c =
+    let v = c.args.compiled.now in
+    let many : length c.in_ok-items.items.items ≡ length (sections_of v.scheme.program.texts) =
+    rw (c.program-program.ensures, c.scheme.ensures) at c.in_ok-items.ensures.many in
+    ap length c.as_slice.ensures.value ∙ many
+
+pub returns-clause-due : goal.returns-clause-due
+returns-clause-due c =
+    let v = c.args.compiled.now in
+    let found = c.loop-section.found.items in
+    let count : c.section_count-section-end.result ≡ length (sections_of v.scheme.program.texts) =
+    rw (c.program-program.ensures, c.scheme.ensures) at c.section_count-section-end.ensures.count in
+    let most : c.loop-section.section ≤ c.section_count-section-end.result = c.loop-section.auto.section-end in
+    let all : c.loop-section.section ≡ length (sections_of v.scheme.program.texts) =
+    omega (arith, most, count, c.loop-section-test.false) in (
+      found,
+      c.in_ok-apart.apart.items,
+      subst (λ n. Selects (IsDue v) (to_section v n) found) all
+          (adds_all (IsDue v) (to_section v c.loop-section.section) found c.loop-section.invariant),
+      c.in_ok-apart.ensures,
+      c.in_ok-append.ensures.items,
+    )
+
 pub returns-clause-items : goal.returns-clause-items
 returns-clause-items c =
     let v = c.args.compiled.now in
     let n = c.loop-section.section in
     let tree = v.scheme.program.source in
     let found = c.loop-section.found.items in
+    let apart = c.in_ok-apart.apart.items in
     let list = c.in_ok-items.items.items in
     let are : AreOrigins v.scheme.program c.in_ok-origins.origins =
     rw (c.program-program.ensures, c.scheme.ensures) at c.in_ok-origins.ensures in
@@ -52,15 +85,20 @@ returns-clause-items c =
     rw (c.program-program.ensures, c.scheme.ensures) at c.in_ok-items.ensures.are in
     let atomic : All (IsAtomicItem tree) list =
     rw (c.program-program.ensures, c.scheme.ensures) at c.in_ok-items.ensures.atomic in
-    let many = c.in_ok-items.ensures.many in
+    let many : length list ≡ length (sections_of v.scheme.program.texts) =
+    rw (c.program-program.ensures, c.scheme.ensures) at c.in_ok-items.ensures.many in
     let count : c.section_count-section-end.result ≡ length (sections_of v.scheme.program.texts) =
     rw (c.program-program.ensures, c.scheme.ensures) at c.section_count-section-end.ensures.count in
     let most : n ≤ c.section_count-section-end.result = c.loop-section.auto.section-end in
-    λ k d lt. all_within (length (items tree)) v n
-    (λ i below. item_within tree list those atomic i
-    (omega (arith, below, most, many, c.section_count-section-end.ensures.count)))
+    let there : (i : ℕ) → i < length list → slice_index_or (section_items_of tree) i 0 < length (items tree) =
+    item_within tree list those atomic in
+    subst (AreAtItems tree) (sym c.in_ok-append.ensures.items)
+    (each_of_both (λ (w : Warning). w.item < length (items tree)) found apart
+    (λ w h. all_within (length (items tree)) v n (λ i below. there i (omega (arith, below, most, many, count)))
     (λ i below. origins_within v c.facts.ensures.compiled.scheme i (omega (arith, below, most, count))
-    c.in_ok-origins.origins are)
-    (get_or found k d)
-    (selected (IsDue v) (to_section v n) found (adds_all (IsDue v) (to_section v n) found c.loop-section.invariant)
-    (get_or found k d) (Has-get_or found k d lt)).0
+    c.in_ok-origins.origins are) w
+    (selected (IsDue v) (to_section v n) found (adds_all (IsDue v) (to_section v n) found c.loop-section.invariant) w
+    h).0)
+    (λ w h.
+    (let at = pairs_at v apart c.in_ok-apart.ensures w h in
+    subst (λ k. k < length (items tree)) (sym at.2) (there at.0 (omega (arith, at.1, many))))))

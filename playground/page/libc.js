@@ -115,6 +115,7 @@ export class Run {
       clock_gettime: () => this.clock(),
       open: () => this.open(),
       close: done,
+      isatty: () => 0,
       __xpg_strerror_r: (_errno, address, length) => this.why(address, length),
       _exit: (status) => { throw new Exit(status); },
       abort: () => { throw new Error("the program gave up"); },

@@ -1,6 +1,6 @@
 -- Positions of the protocol in a text: a line, and units of the encoding on it, both counted from 0.
-use Rattle.std.specs.Prelude.{ℕ, ◌+◌, ◌-◌, ◌==◌, ◌&&◌, ◌||◌, if◌then◌else◌, nat_lt, nat_le, List, [], ◌∷◌, drop, Option}
-use Rattle.std.specs.Prelude.{option_map, option_and_then, codes}
+use Rattle.std.specs.Prelude.{ℕ, ◌+◌, ◌-◌, ◌==◌, ◌&&◌, ◌||◌, if◌then◌else◌, nat_lt, nat_le, List, [], ◌∷◌, take}
+use Rattle.std.specs.Prelude.{drop, fold, Option, option_map, option_and_then, codes}
 use Rattle.serde_json.specs.{Data.{Data}, Find.{get, as_number, as_u64}}
 use Rattle.sect_front.specs.Gaps.{line_feed}
 use Rattle.sect_editor.specs.declared.position.Encoding.{Encoding}
@@ -50,3 +50,11 @@ bytes_of_units encoding column (b ∷ bs) =
 abbrev pub offset : Encoding → Place → List ℕ → ℕ
 offset encoding place text =
     line_start place.line text + bytes_of_units encoding place.column (drop (line_start place.line text) text)
+
+-- the units on a line behind a byte, where so many stand before it
+abbrev pub next_units : Encoding → ℕ → ℕ → ℕ
+next_units encoding column byte = if byte == line_feed then 0 else column + units encoding byte
+
+-- how many units stand before a byte on its line
+abbrev pub units_before : Encoding → List ℕ → ℕ → ℕ
+units_before encoding text at = fold (next_units encoding) 0 (take at text)

@@ -3,7 +3,7 @@ use Rattle.std.specs.Prelude.{◌≡◌, ℕ, List, [], ◌∷◌, ◌++◌, map
 use Rattle.serde_json.specs.Data.{Data, string, object, no_members, member}
 use Rattle.sect_emit.specs.Compiled.{CompiledView}
 use Rattle.sect_editor.specs.Ranges.{count, list, range_json}
-use Rattle.sect_warnings.specs.{Titles.{told_name}, Formats.{AreAllPlaced}, declared.warning.Told.{Told}}
+use Rattle.sect_warnings.specs.{Titles.{told_name, told_title}, Formats.{AreAllPlaced}, declared.warning.Told.{Told}}
 use Rattle.sect_warnings.specs.Placed.{PlacedView, behind}
 use Rattle.sect_warnings.specs.declared.warning.Spare.TheVariants as spare
 use Rattle.sect_warnings.specs.declared.warning.Told.TheVariants as told
@@ -13,11 +13,11 @@ abbrev pub tags : Told → List Data
 tags (told.Declaration (spare.Unused what)) = count 1 ∷ []
 tags _ = []
 
--- the name of a warning, what it means, and what is said of its bytes
+-- what is told, what is said of its bytes, and on the next line what it means
 abbrev pub message_of : PlacedView → List ℕ
-message_of p = told_name p.told ++ codes ": " ++ p.note ++ behind (codes "; ") p.label
+message_of p = told_title p.told ++ behind (codes ": ") p.label ++ codes "\n" ++ p.note
 
--- a warning: its name, what it means and what is said, at some bytes
+-- a warning, at some bytes
 abbrev pub warning_json : List ℕ → PlacedView → Data
 warning_json source p =
     object (member (codes "code") (string (told_name p.told))

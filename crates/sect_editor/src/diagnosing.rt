@@ -5,6 +5,7 @@ ghost use Rattle.serde_json.specs.View.{view};
 ghost use Rattle.sect_editor.specs.{Accepted.{IsCompiledIf}, Diagnosing.{AreDiagnostics}};
 
 use crate::mistakes::mistake_value;
+use crate::text::Reading;
 use crate::warned::warnings_of;
 use sect_emit::{Compiled, compile_scheme};
 use sect_lint::{Judgment, lint};
@@ -21,17 +22,19 @@ pub struct Judged {
 
 /// The diagnostics of a text, those of `lint`, and what it is compiled to.
 #[tactic(auto, unfolding(crate::specs::Diagnosing::AreDiagnostics))]
-pub fn judge(alloc: Global, k: u16, uri: &str, text: &[u8]) -> Result<Judged, AllocError>
-    requires { k ≤ 3 }
-    ensures diagnostics { IfOk result (λ j. AreDiagnostics k uri.now text.now (view j.diagnostics)) }
-    ensures compiled { IfOk result (λ j. IsCompiledIf text.now k j.compiled) }
+pub fn judge(alloc: Global, reading: Reading, uri: &str, text: &[u8]) -> Result<Judged, AllocError>
+    requires { reading.k ≤ 3 }
+    ensures diagnostics { IfOk result (λ j.
+        AreDiagnostics reading.encoding reading.k uri.now text.now (view j.diagnostics)) }
+    ensures compiled { IfOk result (λ j. IsCompiledIf text.now reading.k j.compiled) }
 {
-    match lint(alloc, text, k) {
+    match lint(alloc, text, reading.k) {
         Err(SourceRefusal::Memory) => Err(AllocError),
         // k is small enough
         Err(_) => unreachable!(),
         Ok(Judgment::Refused(diagnostic)) => {
-            let diagnostics = json!(in alloc; [mistake_value(alloc, uri, text, &diagnostic)?])?;
+            let mistake = mistake_value(alloc, reading.encoding, uri, text, &diagnostic)?;
+            let diagnostics = json!(in alloc; [mistake])?;
             Ok(Judged {
                 diagnostics,
                 compiled: None,

@@ -1,9 +1,10 @@
 //! Positions of the protocol: how a message tells them, and which bytes of a text they are.
 
-ghost use Rattle.std.specs.Prelude.{◌≡◌, ◌≤◌, length};
+ghost use Rattle.std.specs.Prelude.{◌≡◌, ◌≤◌, ◌+◌, ◌<◌, ◌^◌, length};
 ghost use Rattle.serde_json.specs.View.{view};
 ghost use Rattle.sect_editor.specs.Positions.{units as units_by, line_start as line_start_by};
 ghost use Rattle.sect_editor.specs.Positions.{bytes_of_units as bytes_by, offset as offset_by, number_in as number_by};
+ghost use Rattle.sect_editor.specs.Positions.{next_units as next_by, units_before as before_by};
 ghost use Rattle.sect_editor.specs.Positions.{place_in as place_by, place_at as place_at_by, range_in as range_by};
 
 use serde_json::Value;
@@ -122,4 +123,29 @@ pub fn offset(encoding: Encoding, text: &[u8], place: Place) -> usize
 {
     let start = line_start(text, place.line);
     start + bytes_of_units(encoding, &text[start..], place.column)
+}
+
+/// The units on a line behind a byte, where so many stand before it.
+fn next_units(encoding: Encoding, column: u64, byte: u8) -> u64
+    requires { column + 2 < 2 ^ 64 }
+    ensures units { result ≡ next_by encoding column byte }
+    ensures most { result ≤ column + 2 }
+{
+    if byte == b'\n' {
+        0
+    } else {
+        column + units(encoding, byte)
+    }
+}
+
+/// How many units stand before a byte on its line.
+pub fn units_before(encoding: Encoding, text: &[u8], at: usize) -> u64
+    requires { at ≤ length text.now }
+    ensures { result ≡ before_by encoding text.now at }
+{
+    let mut column = 0;
+    for byte in &text[..at] {
+        column = next_units(encoding, column, *byte);
+    }
+    column
 }

@@ -11,7 +11,7 @@ ghost use Rattle.sect_warnings.specs.Reports.{AreWithin};
 use crate::ranges::range_value;
 use sect_emit::Compiled;
 use sect_object::Members;
-use sect_warnings::{Placed, Spare, Told, placed_warnings, put_behind};
+use sect_warnings::{Placed, Spare, Told, placed_warnings, put_behind, title};
 use serde_json::{Value, json};
 use std::alloc::{AllocError, Global};
 
@@ -25,17 +25,18 @@ fn tags(alloc: Global, told: Told) -> Result<Value, AllocError>
     }
 }
 
-/// The name of a warning, what it means, and what is said of its bytes.
+/// What is told, what is said of its bytes, and on the next line what it means.
 fn message_of(alloc: Global, placed: &Placed) -> Result<String, AllocError>
     ensures { IfOk result (λ text. string_bytes text ≡ message_by placed.now) }
 {
-    let told = placed.told();
-    let mut text = format!(in alloc; "{}: {}", told.name(), placed.note())?;
-    put_behind(&mut text, "; ", placed.label())?;
+    let mut text = title(alloc, placed.told())?;
+    put_behind(&mut text, ": ", placed.label())?;
+    text.push_str("\n")?;
+    text.push_str(placed.note())?;
     Ok(text)
 }
 
-/// A warning: its name, what it means and what is said, at some bytes.
+/// A warning, at some bytes.
 fn warning_value(alloc: Global, source: &[u8], placed: &Placed) -> Result<Value, AllocError>
     requires { IsWithin (length source.now) placed.now.span }
     ensures { IfOk result (λ v. view v ≡ warning_json source.now placed.now) }

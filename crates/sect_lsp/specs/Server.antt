@@ -195,7 +195,8 @@ diagnostics_json uri diagnostics =
 -- the diagnostics of this very text are published
 abbrev pub Publishes : ServerView → List ℕ → List ℕ → List Data → Type 0
 Publishes s uri text out =
-    (diagnostics : Data) × AreDiagnostics s.k uri text diagnostics × (out ≡ diagnostics_json uri diagnostics ∷ [])
+    (diagnostics : Data) × AreDiagnostics s.encoding s.k uri text diagnostics
+    × (out ≡ diagnostics_json uri diagnostics ∷ [])
 
 abbrev pub Ignores : ServerView → List Data → ServerView → Type 0
 Ignores s out t = (out ≡ []) × (t ≡ s)

@@ -403,7 +403,7 @@ impl Server {
         let Judged {
             diagnostics,
             compiled,
-        } = judge(alloc, self.documents.k(), uri, text.as_slice())?;
+        } = judge(alloc, self.reading(), uri, text.as_slice())?;
         let message = diagnostics_message(alloc, uri, diagnostics)?;
         self.documents.open(alloc, uri, text, compiled)?;
         one(alloc, message)

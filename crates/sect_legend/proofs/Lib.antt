@@ -1,0 +1,3 @@
+mod Naming
+mod Placing
+pub mod shared

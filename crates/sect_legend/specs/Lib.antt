@@ -1,0 +1,2 @@
+pub mod Legend
+pub mod steps

@@ -3,7 +3,9 @@ mod Charted
 mod Columns
 mod Drawn
 mod Events
+mod Going
 mod Labels
 mod Pieces
+mod Placed
 mod Turns
 mod Wishing

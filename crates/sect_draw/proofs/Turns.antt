@@ -1,34 +1,30 @@
 -- Turns one after another.
-use Rattle.std.proofs.Common.{◌≡◌, ℕ, ◌+◌, List, [], ◌∷◌, ◌++◌, length, drop, refl, sym, ap, subst, ◌∙◌, arith}
-use Rattle.sect_types.specs.Programs.{ProgramView}
+use Rattle.std.proofs.Common.{◌≡◌, ℕ, ◌+◌, List, [], ◌∷◌, ◌++◌, length, Option, refl, sym, ap, subst, ◌∙◌, arith}
 use Rattle.sect_emit.specs.{Compiled.{CompiledView}, State.{State}}
-use Rattle.sect_world.specs.Worlds.{Does, threads_of}
-use Rattle.sect_draw.specs.{Waits.{waiting_after}, Chart.{TurnView, AreTurns, turn_row, turn_rows}}
+use Rattle.sect_draw.specs.Chart.{TurnView, Noted, IsTurnFrom, AreTurns, noted_by, turn_row, turn_rows}
+use Rattle.sect_draw.specs.Places.{PlacesView}
+
+-- turns, and others behind them
+pub turns_then : (c : CompiledView) (s : State) (n : Noted) (xs : List TurnView) (between : State) (m : Noted)
+    (ys : List TurnView) (after : State) (noted : Noted) → AreTurns c s n xs between m
+    → AreTurns c between m ys after noted → AreTurns c s n (xs ++ ys) after noted
+turns_then c s n [] between m ys after noted first then =
+    subst (λ z. AreTurns c z n ys after noted) (sym first.0)
+    (subst (λ k. AreTurns c between k ys after noted) (sym first.1) then)
+turns_then c s n (x ∷ xs) between m ys after noted first then =
+    (first.0, turns_then c x.after (noted_by x) xs between m ys after noted first.1 then)
 
 -- one turn more
-pub turns_more : (c : CompiledView) (s : State) (ws : List ℕ) (xs : List TurnView) (between : State) (waited : List ℕ)
-    (x : TurnView)
-    → AreTurns c s ws xs between waited → Does c between x.thread x.turned x.events x.after
-    → x.delivered ≡ drop (length between.output) x.after.output
-    → x.waiting ≡ waiting_after x.thread x.turned (threads_of (drop 1 x.events)) waited
-    → AreTurns c s ws (xs ++ x ∷ []) x.after x.waiting
-turns_more c s ws [] between waited x are does delivered noted = (
-  subst (λ z. Does c z x.thread x.turned x.events x.after) (sym are.0) does,
-  subst (λ (z : State). x.delivered ≡ drop (length z.output) x.after.output) (sym are.0) delivered,
-  subst (λ z. x.waiting ≡ waiting_after x.thread x.turned (threads_of (drop 1 x.events)) z) (sym are.1) noted,
-  (refl, refl),
-)
-turns_more c s ws (y ∷ xs) between waited x are does delivered noted = (
-  are.0,
-  are.1,
-  are.2,
-  turns_more c y.after y.waiting xs between waited x are.3 does delivered noted,
-)
+pub turns_more : (c : CompiledView) (s : State) (n : Noted) (xs : List TurnView) (between : State) (m : Noted)
+    (x : TurnView) → AreTurns c s n xs between m → IsTurnFrom c between m x
+    → AreTurns c s n (xs ++ x ∷ []) x.after (noted_by x)
+turns_more c s n xs between m x are from =
+    turns_then c s n xs between m (x ∷ []) x.after (noted_by x) are (from, (refl, refl))
 
 -- and its row
-pub rows_more : (p : ProgramView) (n : ℕ) (xs : List TurnView) (x : TurnView)
-    → turn_rows p n (xs ++ x ∷ []) ≡ turn_rows p n xs ++ turn_row p (n + length xs) x ∷ []
-rows_more p n [] x = ap (λ m. turn_row p m x ∷ []) (let e : n ≡ n + 0 = omega arith in e)
-rows_more p n (y ∷ xs) x =
-    ap (λ r. turn_row p n y ∷ r) (rows_more p (n + 1) xs x
-    ∙ ap (λ m. turn_rows p (n + 1) xs ++ turn_row p m x ∷ []) (omega arith))
+pub rows_more : (c : CompiledView) (v : Option PlacesView) (n : ℕ) (xs : List TurnView) (x : TurnView)
+    → turn_rows c v n (xs ++ x ∷ []) ≡ turn_rows c v n xs ++ turn_row c v (n + length xs) x ∷ []
+rows_more c v n [] x = ap (λ m. turn_row c v m x ∷ []) (let e : n ≡ n + 0 = omega arith in e)
+rows_more c v n (y ∷ xs) x =
+    ap (λ r. turn_row c v n y ∷ r) (rows_more c v (n + 1) xs x
+    ∙ ap (λ m. turn_rows c v (n + 1) xs ++ turn_row c v m x ∷ []) (omega arith))

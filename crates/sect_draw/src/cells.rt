@@ -5,20 +5,24 @@ ghost use Rattle.std.specs.String.{string_bytes};
 ghost use Rattle.sect_emit.specs.Compiled.{program_of};
 ghost use Rattle.sect_world.specs.declared.event.Deed.TheVariants.{Enter};
 ghost use Rattle.sect_draw.specs.Chart.{own_deed, prints_text, lets_text, ended_text, moved_text, own_text};
-ghost use Rattle.sect_draw.specs.Chart.{let_in_text, cell_text, place_text, turn_row as row_of};
+ghost use Rattle.sect_draw.specs.Chart.{let_in_text, cell_text, place_text, ran_by, ran_text, turn_row as row_of};
 ghost use Rattle.sect_draw.specs.steps.CellTexts.{texts};
-ghost use Rattle.sect_draw.specs.steps.Turning.{shown, program_in, AreOfThreads, HasEntered, IsTold};
+ghost use Rattle.sect_draw.specs.steps.Turning.{shown, program_in, compiled_in, places_in, AreOfThreads};
+ghost use Rattle.sect_draw.specs.steps.Turning.{HasEntered, IsTold};
 
+use crate::faults::{fault_of, is_run, put_fault};
+use crate::places::{Places, put_statement};
 use crate::waits::put_wait;
 use crate::words::put_deed;
 use sect_emit::{put_blanks, put_thread_name};
 use sect_types::{End, Program};
-use sect_world::{Deed, Event, Turned, World};
+use sect_world::{Deed, Event, Standing, Turned, World};
 use std::alloc::{AllocError, Global};
 use std::fmt::Write;
 
-/// A turn that has led to a world: its thread, what it has come to, its events, the numbers that it has delivered, and
-/// who waits now, in the order in which they began to.
+/// A turn that has led to a world: its thread, what it has come to, its events, the numbers that it has delivered, who
+/// waits now, in the order in which they began to, where its thread stood before, and where each thread stood that has
+/// run something before it ran the last. With places, it is told what the turn has run, and where that stands.
 #[derive(Clone, Copy)]
 pub struct Turn<'a> {
     pub world: &'a World<'a>,
@@ -27,13 +31,16 @@ pub struct Turn<'a> {
     pub events: &'a [Event],
     pub delivered: &'a [i64],
     pub waiting: &'a [u16],
+    pub stood: Standing,
+    pub ran: &'a [Option<Standing>],
+    pub places: Option<Places<'a>>,
 }
 
 /// The row of a turn: its number, and a cell for each thread.
 pub fn turn_row(alloc: Global, number: usize, turn: &Turn<'_>) -> Result<Vec<String>, AllocError>
     requires { IsTold turn.now }
     ensures row { IfOk result (λ row. texts row.items
-        ≡ row_of (program_in turn.now) number (shown turn.now)) }
+        ≡ row_of (compiled_in turn.now) (places_in turn.now) number (shown turn.now)) }
     ensures count { IfOk result (λ row. vec_len row ≡ 1 + length (program_in turn.now).texts) }
 {
     let mut cells = Vec::new(alloc);
@@ -59,7 +66,7 @@ fn place(alloc: Global, number: usize) -> Result<String, AllocError>
 fn cell(alloc: Global, turn: &Turn<'_>, thread: u16) -> Result<String, AllocError>
     requires { IsTold turn.now }
     ensures { IfOk result (λ text. string_bytes text
-        ≡ cell_text (program_in turn.now) (shown turn.now) thread) }
+        ≡ cell_text (compiled_in turn.now) (places_in turn.now) (shown turn.now) thread) }
 {
     let mut text = String::new(alloc);
     if thread == turn.thread {
@@ -74,7 +81,7 @@ fn cell(alloc: Global, turn: &Turn<'_>, thread: u16) -> Result<String, AllocErro
 fn put_own(text: &mut String, turn: &Turn<'_>) -> Result<(), AllocError>
     requires { IsTold turn.now }
     ensures { OnOk result (string_bytes text.new ≡ string_bytes text.old
-        ++ own_text (program_in turn.now) (shown turn.now) turn.now.turned) }
+        ++ own_text (compiled_in turn.now) (places_in turn.now) (shown turn.now) turn.now.turned) }
 {
     match turn.turned {
         Turned::Moved(_) => put_moved(text, turn),
@@ -88,15 +95,32 @@ fn put_moved(text: &mut String, turn: &Turn<'_>) -> Result<(), AllocError>
     requires told { IsTold turn.now }
     requires some { turn.now.events.now ≢ [] }
     ensures { OnOk result (string_bytes text.new ≡ string_bytes text.old
-        ++ moved_text (program_in turn.now) (shown turn.now) turn.now.events.now) }
+        ++ moved_text (compiled_in turn.now) (places_in turn.now) (shown turn.now) turn.now.events.now) }
 {
     let Some((own, others)) = turn.events.split_first() else {
         unreachable!()
     };
     put_own_deed(text, turn.world, turn.thread, own.deed)?;
+    put_ran(text, turn, own.deed)?;
     put_delivered(text, turn.delivered)?;
     put_lets(text, turn.world.program(), others)?;
-    put_end(text, turn.world.end_of(turn.thread))
+    put_end(text, turn, turn.world.end_of(turn.thread))
+}
+
+/// Adds the statement or the test that a turn has run, and its place, where places are told.
+fn put_ran(text: &mut String, turn: &Turn<'_>, deed: Deed) -> Result<(), AllocError>
+    requires { IsTold turn.now }
+    ensures { OnOk result (string_bytes text.new ≡ string_bytes text.old
+        ++ ran_text (compiled_in turn.now) (places_in turn.now) turn.now.stood deed) }
+{
+    let Some(places) = &turn.places else {
+        return Ok(());
+    };
+    if is_run(deed) {
+        put_statement(text, turn.world.compiled(), places, turn.stood)
+    } else {
+        Ok(())
+    }
 }
 
 /// Adds what a thread does; of one that enters a section the section's number too.
@@ -140,13 +164,23 @@ fn put_lets(text: &mut String, program: &Program, events: &[Event]) -> Result<()
     Ok(())
 }
 
-/// Adds how a thread has ended, if it has.
-fn put_end(text: &mut String, end: Option<End>) -> Result<(), AllocError>
-    ensures { OnOk result (string_bytes text.new ≡ string_bytes text.old ++ ended_text end) }
+/// Adds how the thread has ended whose turn it is, if it has, and where the fault stands that has ended it, where
+/// places are told.
+fn put_end(text: &mut String, turn: &Turn<'_>, end: Option<End>) -> Result<(), AllocError>
+    requires { IsTold turn.now }
+    ensures { OnOk result (string_bytes text.new ≡ string_bytes text.old
+        ++ ended_text (places_in turn.now) end (ran_by (shown turn.now))) }
 {
-    match end {
+    let Some(how) = end else {
+        return Ok(());
+    };
+    write!(text, ", end: {how}")?;
+    match &turn.places {
         None => Ok(()),
-        Some(end) => Ok(write!(text, ", end: {end}")?),
+        Some(places) => {
+            let fault = fault_of(end, turn.ran, turn.thread as usize);
+            put_fault(text, None, turn.world.compiled(), places, fault)
+        }
     }
 }
 

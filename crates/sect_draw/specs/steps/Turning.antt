@@ -1,13 +1,16 @@
 -- A turn as it is charted. `charted_turn` and what it calls cite it.
-use Rattle.std.specs.Prelude.{◌≡◌, ◌≢◌, ◌<◌, ℕ, List, [], ◌∷◌, ◌++◌, Some, drop, length}
+use Rattle.std.specs.Prelude.{◌≡◌, ◌≢◌, ◌<◌, ℕ, List, [], ◌∷◌, ◌++◌, Option, Some, IfSome, length, option_map}
+use Rattle.std.specs.List.{flat_map}
 use Rattle.sect_lemmas.specs.Lists.{Has}
 use Rattle.sect_types.specs.Programs.{ProgramView}
-use Rattle.sect_emit.specs.{Compiled.{program_of}, State.{ThreadState, State, IsThread, Entered}}
+use Rattle.sect_emit.specs.{Compiled.{CompiledView, program_of}, State.{ThreadState, State, IsThread, Entered}}
 use Rattle.sect_emit.specs.declared.plan.Grip.{Grip}
-use Rattle.sect_world.specs.{Sights.{first_wish}, Worlds.{WorldView, Does, threads_of}}
+use Rattle.sect_world.specs.{Sights.{first_wish}, Standings.{IsStandingThere}, Worlds.{WorldView}}
 use Rattle.sect_world.specs.{declared.event.Deed.TheVariants.{Enter}, declared.event.Event.{Event}}
 use Rattle.sect_world.specs.{declared.turned.EventKind.{EventKind}, declared.turned.Turned.TheVariants.{Moved, Waits}}
-use Rattle.sect_draw.specs.{Waits.{waiting_after}, Chart.{TurnView}, declared.cells.Turn.{Turn}}
+use Rattle.sect_draw.specs.{Chart.{TurnView, Noted, IsTurnFrom, AreTurns, noted_by}, Places.{PlacesView}}
+use Rattle.sect_draw.specs.declared.noting.{Kept.{Kept}, Made.{Made}}
+use Rattle.sect_draw.specs.{declared.cells.Turn.{Turn}, Placing.{places_shown, IsPlaced, AreThere}}
 
 -- the turn that led to the world, as a reader is told of it
 abbrev pub shown : Turn → TurnView
@@ -18,7 +21,15 @@ shown t = record {
   delivered = t.delivered.now;
   after = t.world.now.state;
   waiting = t.waiting.now;
+  stood = t.stood;
+  ran = t.ran.now;
 }
+
+abbrev pub compiled_in : Turn → CompiledView
+compiled_in t = t.world.now.compiled
+
+abbrev pub places_in : Turn → Option PlacesView
+places_in t = option_map places_shown t.places
 
 abbrev pub program_in : Turn → ProgramView
 program_in t = program_of t.world.now.compiled
@@ -41,15 +52,32 @@ pub record IsTold (t : Turn) : Type 0 where
   pub entered : (e : Event) (es : List Event) → t.events.now ≡ e ∷ es → e.deed ≡ Enter
       → HasEntered t.world.now.state t.thread
   pub threads : AreOfThreads (program_in t) t.events.now
+  pub placed : IfSome t.places (IsPlaced (compiled_in t))
+  pub stood : IsStandingThere (compiled_in t) t.stood
+  pub ran : AreThere (compiled_in t) t.ran.now
 
--- a turn of thread t that leads from one world to the other, and from who waits in the first to who waits in the second
-pub record IsCharted (t : ℕ) (old new : WorldView) (ws waiting : List ℕ) (x : TurnView) : Type 0 where
+-- a turn of thread t that leads from one world to the other, and from what was kept to what is
+pub record IsCharted (t : ℕ) (old new : WorldView) (n noted : Noted) (x : TurnView) : Type 0 where
   pub compiled : new.compiled ≡ old.compiled
-  pub fuel : new.fuel ≡ old.fuel
   pub trace : new.trace ≡ old.trace ++ x.events
   pub thread : x.thread ≡ t
-  pub does : Does old.compiled old.state t x.turned x.events new.state
-  pub delivered : x.delivered ≡ drop (length old.state.output) new.state.output
   pub after : x.after ≡ new.state
-  pub noted : x.waiting ≡ waiting_after t x.turned (threads_of (drop 1 x.events)) ws
-  pub waits : x.waiting ≡ waiting
+  pub from : IsTurnFrom old.compiled old.state n x
+  pub kept : noted_by x ≡ noted
+
+abbrev pub kept_shown : Kept → Noted
+kept_shown k = record { waiting = k.waiting.items; ran = k.ran.items }
+
+-- this has been made by the turn
+pub record IsMade (made : Made) (old : State) (x : TurnView) : Type 0 where
+  pub turned : made.turned ≡ x.turned
+  pub events : made.events.items ≡ x.events
+  pub stood : made.stood ≡ x.stood
+  pub delivered : made.delivered ≡ length old.output
+
+-- turns lead from one world to the other, and so do they from what was kept to what is
+pub record GoesOn (old : WorldView) (n : Noted) (new : WorldView) (noted : Noted) : Type 0 where
+  pub compiled : new.compiled ≡ old.compiled
+  pub turns : List TurnView
+  pub lead : AreTurns old.compiled old.state n turns new.state noted
+  pub trace : new.trace ≡ old.trace ++ flat_map (λ (x : TurnView). x.events) turns

@@ -1,6 +1,7 @@
 mod Conflicting
 mod Cutting
 mod Lines
+mod Listed
 mod Outcoming
 mod Refusing
 mod Running

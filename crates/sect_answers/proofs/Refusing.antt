@@ -2,12 +2,14 @@
 use Rattle.std.proofs.Common.{◌≡◌, ◌<◌, ◌∷◌, ◌++◌, ℕ, List, Err, refl, sym, subst, length, inl, arith}
 use Rattle.sect_lemmas.specs.Lists.{Has}
 use Rattle.sect_lemmas.proofs.Membership.{Has-right}
-use Rattle.sect_names.specs.{declared.refusal.SourceRefusal.{SourceRefusal}, Sources.{IsAccepted}}
-use Rattle.sect_types.specs.Whole.{SerialEndView}
+use Rattle.sect_names.specs.{declared.refusal.SourceRefusal.{SourceRefusal}, Sources.{IsAccepted, IsTypedText}}
+use Rattle.sect_types.specs.{Programs.{ProgramView}, Whole.{SerialEndView}}
 use Rattle.sect_serial.specs.declared.whole.SerialFault.{SerialFault}
+use Rattle.sect_serial.specs.{declared.exploring.OutcomesFault.{OutcomesFault}, Exploring.{IsUnlisted}}
 use Rattle.sect_check.specs.declared.fault.CheckFault.{CheckFault}
 use Rattle.sect_answers.specs.{Answers.{IsDue, of_source}, Compiling.{IsCompileDue, of_compile}, Serial.{of_serial}}
 use Rattle.sect_answers.specs.{Splitting.{IsSplit}, Checking.{IsCheckDue, of_check}}
+use Rattle.sect_answers.specs.{Outcomes.{of_outcomes}, Placed.{IsPlacedOutcomesDue, IsPlacedSerialDue}}
 use Rattle.sect_answers.specs.Scheduling.{IsScheduleDue, of_world}
 use Rattle.sect_emit.specs.{Faults.{IsDueBy}, declared.fault.CompileFault.{CompileFault}, Compiled.{CompiledView}}
 use Rattle.sect_world.specs.{declared.turned.WorldFault.{WorldFault}, Schedules.{IsUnrun}}
@@ -15,6 +17,7 @@ use Rattle.sect_names.specs.Sources as sources
 use Rattle.sect_names.specs.declared.refusal.SourceRefusal.TheVariants as source
 use Rattle.sect_serial.specs.Judging as serial
 use Rattle.sect_serial.specs.declared.whole.SerialFault.TheVariants as serial_fault
+use Rattle.sect_serial.specs.declared.exploring.OutcomesFault.TheVariants as states_fault
 use Rattle.sect_check.specs.Verdicts as certificates
 use Rattle.sect_check.specs.declared.fault.CheckFault.TheVariants as check_fault
 use Rattle.sect_answers.specs.declared.refusal.Refusal.TheVariants as program
@@ -66,6 +69,35 @@ check_due input cert source k (check_fault.BrokenChain i n j) split h =
     (λ e. cc, record { cert = cert; source = source; split = split; holds = h })
 check_due input cert source k (check_fault.NoChain i n) split h =
     (λ e. cc, record { cert = cert; source = source; split = split; holds = h })
+
+-- and of `serial` and `outcomes`, where they tell places
+pub placed_serial_due : (bytes : List ℕ) (k fuel : ℕ) (order : List ℕ) (why : SourceRefusal) → sources.IsDue bytes k why
+    → IsPlacedSerialDue bytes k fuel order (of_source why)
+placed_serial_due bytes k fuel order source.Memory h = tt
+placed_serial_due bytes k fuel order (source.Front fault) h = (λ e. cc, h)
+placed_serial_due bytes k fuel order (source.Types fault) h = (λ e. cc, h)
+placed_serial_due bytes k fuel order (source.Scheme fault) h = (λ e. cc, h)
+
+pub placed_outcomes_due : (bytes : List ℕ) (k fuel most : ℕ) (why : SourceRefusal) → sources.IsDue bytes k why
+    → IsPlacedOutcomesDue bytes k fuel most (of_source why)
+placed_outcomes_due bytes k fuel most source.Memory h = tt
+placed_outcomes_due bytes k fuel most (source.Front fault) h = (λ e. cc, h)
+placed_outcomes_due bytes k fuel most (source.Types fault) h = (λ e. cc, h)
+placed_outcomes_due bytes k fuel most (source.Scheme fault) h = (λ e. cc, h)
+
+-- an order that is refused is refused there too
+pub placed_order_due : (bytes : List ℕ) (k fuel : ℕ) (order : List ℕ) (p : ProgramView) (why : SerialFault)
+    → IsTypedText bytes p → serial.Judges p fuel order (Err why)
+    → IsPlacedSerialDue bytes k fuel order (of_serial why)
+placed_order_due bytes k fuel order p serial_fault.Memory typed h = tt
+placed_order_due bytes k fuel order p (serial_fault.NoSection t) typed h = (λ e. cc, (p, typed, h))
+placed_order_due bytes k fuel order p (serial_fault.SectionsLeft t) typed h = (λ e. cc, (p, typed, h))
+
+-- and so are too many states
+pub placed_states_due : (bytes : List ℕ) (k fuel most : ℕ) (p : ProgramView) (why : OutcomesFault)
+    → IsTypedText bytes p → IsUnlisted p fuel most why → IsPlacedOutcomesDue bytes k fuel most (of_outcomes why)
+placed_states_due bytes k fuel most p states_fault.Memory typed h = tt
+placed_states_due bytes k fuel most p states_fault.TooManyStates typed h = (λ e. cc, (p, typed, h))
 
 -- and of `schedule`
 pub schedule_source_due : (bytes : List ℕ) (k : ℕ) (schedule : List ℕ) (why : SourceRefusal) → sources.IsDue bytes k why

@@ -6,7 +6,8 @@ use Rattle.sect_serial.specs.Judging.{outcome_of}
 use Rattle.sect_emit.specs.{Compiled.{CompiledView, IsCompiledFrom, program_of}, State.{State}}
 use Rattle.sect_world.specs.{declared.world.Run.{Run}, Runs.{IsComplete, order_of}, Worlds.{outcome_at}}
 use Rattle.sect_run.specs.Ends.{IsWholeRun}
-use Rattle.sect_answers.specs.{Formats.{outcome_in}, Running.{IsOutcomeOfRun}, declared.format.Format.{Format}}
+use Rattle.sect_answers.specs.{Formats.{outcome_in}, Running.{IsOutcomeOfRun}, Serial.{IsOutcome}}
+use Rattle.sect_answers.specs.declared.format.Format.{Format}
 
 -- the outcome that a complete run comes to is the one that whole sections come to in its order
 ended_so : (s : State) (e : SerialEndView) (order : List ℕ) → IsComplete s e → outcome_at s order ≡ outcome_of order e
@@ -17,7 +18,22 @@ ended_so s e order is = λ i. record {
   store = sym is.store i;
 }
 
--- so a run of the compiled program that is printed is what `run` answers to its source
+-- so what is printed of it is what `serial` answers for its order
+pub serial_of_run : (source : List ℕ) (k fuel : ℕ) (format : Format) (text : List ℕ) (compiled : CompiledView)
+    → IsCompiledFrom source k compiled → (run : Run) → IsWholeRun compiled fuel run
+    → text ≡ outcome_in format (program_of compiled) run.outcome
+    → IsOutcome source fuel (order_of run.events.items) format text
+serial_of_run source k fuel format text compiled from run whole printed = record {
+  program = program_of compiled;
+  typed = from.accepted.text;
+  end = whole.end;
+  runs = whole.serial;
+  printed = printed
+      ∙ ap (λ (o : OutcomeView). outcome_in format (program_of compiled) o)
+      (whole.outcome ∙ ended_so whole.state whole.end (order_of run.events.items) whole.complete);
+}
+
+-- and a run of the compiled program that is printed is what `run` answers to its source
 pub outcome_of_run : (source : List ℕ) (k fuel : ℕ) (format : Format) (text : List ℕ) (compiled : CompiledView)
     → IsCompiledFrom source k compiled → (run : Run) → IsWholeRun compiled fuel run
     → text ≡ outcome_in format (program_of compiled) run.outcome → IsOutcomeOfRun source k fuel format text
@@ -27,13 +43,5 @@ outcome_of_run source k fuel format text compiled from run whole printed = recor
   run = run;
   whole = whole;
   printed = printed;
-  serial = record {
-    program = program_of compiled;
-    typed = from.accepted.text;
-    end = whole.end;
-    runs = whole.serial;
-    printed = printed
-        ∙ ap (λ (o : OutcomeView). outcome_in format (program_of compiled) o)
-        (whole.outcome ∙ ended_so whole.state whole.end (order_of run.events.items) whole.complete);
-  };
+  serial = serial_of_run source k fuel format text compiled from run whole printed;
 }

@@ -1,10 +1,11 @@
 -- What a schedule has come to, as it is printed.
-use Rattle.std.proofs.Common.{◌≡◌, ◌++◌, ℕ, List, map, length, sym, ap, subst, ◌∙◌}
+use Rattle.std.proofs.Common.{◌≡◌, ◌++◌, ℕ, List, Option, Some, map, length, sym, ap, subst, ◌∙◌}
 use Rattle.sect_types.specs.Programs.{ProgramView}
 use Rattle.sect_store.specs.{Outcomes.{OutcomeView}, Printing.{outcome_text}}
 use Rattle.sect_emit.specs.Compiled.{CompiledView, program_of}
 use Rattle.sect_world.specs.{Runs.{order_of}, Schedules.{IsProgress, all_events}, Worlds.{outcome_at}}
-use Rattle.sect_world.specs.declared.schedule.Progress.{Progress}
+use Rattle.sect_world.specs.declared.{schedule.Progress.{Progress}, standing.Standing.{Standing}}
+use Rattle.sect_draw.specs.Places.{PlacesView, ran_outcome}
 use Rattle.sect_answers.specs.{Scheduling.{AreTurnLines}, Turns.{turn_lines}}
 use Rattle.sect_lemmas.specs.Blocks.{blocks_of, AreEnough}
 use Rattle.sect_lemmas.proofs.Blocks.{cut_gives_back, joined_are_enough}
@@ -34,3 +35,18 @@ module _ (c : CompiledView) (fuel : ℕ) (schedule : List ℕ) (p : Progress) (i
         ∙ ap (λ (q : ProgramView). turn_lines q is.blocks
         ++ outcome_text q (outcome_at is.state (order_of (all_events is.blocks)))) same));
   }
+
+  -- and so they are where the outcome is told with places
+  pub placed_printed : (program : ProgramView) (v : PlacesView) (ran : List (Option Standing)) (lines bytes : List ℕ)
+      → program ≡ program_of c → lines ≡ turn_lines program (blocks_of p.made.items p.run.events.items)
+      → bytes ≡ lines ++ ran_outcome (program_of c) (Some v) ran p.run.outcome
+      → bytes ≡ turn_lines (program_of c) is.blocks
+      ++ ran_outcome (program_of c) (Some v) ran (outcome_at is.state (order_of (all_events is.blocks)))
+  placed_printed program v ran lines bytes same begun printed =
+      let told = λ (o : OutcomeView). ran_outcome (program_of c) (Some v) ran o in
+      let first : lines ≡ turn_lines (program_of c) is.blocks =
+      begun ∙ (ap (λ bs. turn_lines program bs) blocks_are ∙ ap (λ (q : ProgramView). turn_lines q is.blocks) same) in
+      printed
+      ∙ (ap (λ ls. ls ++ told p.run.outcome) first
+      ∙ ap (λ (o : OutcomeView). turn_lines (program_of c) is.blocks ++ told o)
+      (is.outcome ∙ ap (λ es. outcome_at is.state (order_of es)) is.events))

@@ -11,6 +11,7 @@ pub mod InC
 pub mod Listing
 pub mod Naming
 pub mod Outcomes
+pub mod Placed
 pub mod Placing
 pub mod Refusals
 pub mod Running
@@ -18,3 +19,4 @@ pub mod Scheduling
 pub mod Serial
 pub mod Splitting
 pub mod Turns
+pub mod Verbose

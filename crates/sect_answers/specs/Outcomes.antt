@@ -19,6 +19,11 @@ use Rattle.sect_names.specs.declared.refusal.SourceRefusal.TheVariants as source
 abbrev pub count_text : ℕ → List ℕ → List ℕ
 count_text n name = decimal n ++ codes " " ++ name ++ (if nat_eq n 1 then [] else codes "s")
 
+-- how many outcomes there are, and how many states lead to them
+abbrev pub counts_line : OutcomesView → List ℕ
+counts_line o =
+    count_text (length o.found) (codes "outcome") ++ codes " of " ++ count_text o.states (codes "state") ++ codes "\n"
+
 -- the outcome of this number, with its order
 abbrev pub one_text : ProgramView → ℕ → SerialEndView × List ℕ → List ℕ
 one_text p n x = numbered_text p n (outcome_of x.1 x.0)

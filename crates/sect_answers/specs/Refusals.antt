@@ -1,5 +1,5 @@
 -- The line of a refusal. `put_refusal` cites it.
-use Rattle.std.specs.{Prelude.{ℕ, List, ◌++◌, codes}, Fmt.{decimal}, String.{string_bytes}}
+use Rattle.std.specs.{Prelude.{ℕ, Bool, true, false, List, ◌++◌, codes}, Fmt.{decimal}, String.{string_bytes}}
 use Rattle.sect_front.specs.declared.parsing.FrontFault.{FrontFault}
 use Rattle.sect_types.specs.declared.rules.rule.TypeFault.{TypeFault}
 use Rattle.sect_names.specs.declared.fault.SchemeFault.{SchemeFault}
@@ -102,6 +102,12 @@ check_text (check.NoChain i n) = codes "48 NoChain section " ++ (decimal i ++ (c
 abbrev pub world_text : WorldFault → List ℕ
 world_text (world.NoSuchThread t) = codes "70 NoSuchThread " ++ decimal t
 world_text world.Memory = no_memory
+
+-- a text is refused for a mistake, of which `lint` says more
+abbrev pub has_report : Refusal → Bool
+has_report (refusal.Source (source_refusal.Scheme scheme.BadK)) = false
+has_report (refusal.Source why) = true
+has_report why = false
 
 -- what a refusal says
 abbrev pub refusal_text : Refusal → List ℕ

@@ -31,5 +31,5 @@ pub fn schedule_chart(
 {
     texts_have_one_program();
     let compiled = compile(alloc, source, k)?;
-    Ok(chart(alloc, &compiled, fuel, schedule.as_slice())?)
+    Ok(chart(alloc, &compiled, fuel, schedule.as_slice(), None)?)
 }

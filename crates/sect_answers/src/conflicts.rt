@@ -103,7 +103,7 @@ fn pairs_called(count: usize) -> &'static str
 }
 
 /// Adds how many pairs there are, and how many of each kind.
-fn put_heading(text: &mut String, pairs: &[SectionPair]) -> Result<(), AllocError>
+pub fn put_heading(text: &mut String, pairs: &[SectionPair]) -> Result<(), AllocError>
     ensures { OnOk result (string_bytes text.new ≡ string_bytes text.old ++ heading pairs.now) }
 {
     let count = pairs.len();
@@ -133,7 +133,11 @@ fn put_pairs(text: &mut String, program: &Program, pairs: &[SectionPair]) -> Res
 }
 
 /// Adds whether two sections exclude each other.
-fn put_conflict(text: &mut String, program: &Program, conflict: &Conflict) -> Result<(), AllocError>
+pub fn put_conflict(
+    text: &mut String,
+    program: &Program,
+    conflict: &Conflict,
+) -> Result<(), AllocError>
     requires { IsConflictNamed program.now conflict.now }
     ensures { OnOk result (string_bytes text.new
         ≡ string_bytes text.old ++ conflict_text program.now conflict.now) }

@@ -6,6 +6,7 @@ ghost use Rattle.sect_names.specs.Sources.{IsTypedText};
 ghost use Rattle.sect_serial.specs.Exploring.{HasStates};
 ghost use Rattle.sect_answers.specs.declared.refusal.Refusal.TheVariants.{Memory};
 ghost use Rattle.sect_answers.specs.Outcomes.{AreAllOutcomes, IsOutcomesDue, outcomes_text, outcomes_in, count_text};
+ghost use Rattle.sect_answers.specs.Outcomes.{counts_line};
 
 use crate::format::Format;
 use crate::refusal::Refusal;
@@ -29,6 +30,16 @@ fn put_count(text: &mut String, number: usize, name: &str) -> Result<(), AllocEr
     Ok(())
 }
 
+/// Adds a line with how many outcomes there are, and how many states lead to them.
+pub fn put_counts(text: &mut String, outcomes: &Outcomes) -> Result<(), AllocError>
+    ensures { OnOk result (string_bytes text.new ≡ string_bytes text.old ++ counts_line outcomes.now) }
+{
+    put_count(text, outcomes.len(), "outcome")?;
+    text.push_str(" of ")?;
+    put_count(text, outcomes.states(), "state")?;
+    text.push_str("\n")
+}
+
 /// Adds how many outcomes there are, and each with its order.
 fn put_outcomes(
     alloc: Global,
@@ -38,10 +49,7 @@ fn put_outcomes(
 ) -> Result<(), AllocError>
     ensures { OnOk result (string_bytes text.new ≡ string_bytes text.old ++ outcomes_text program.now outcomes.now) }
 {
-    put_count(text, outcomes.len(), "outcome")?;
-    text.push_str(" of ")?;
-    put_count(text, outcomes.states(), "state")?;
-    text.push_str("\n")?;
+    put_counts(text, outcomes)?;
     let printer = Printer::new(alloc, program)?;
     for number in 0..outcomes.len() {
         let (end, order) = outcomes.at(number);

@@ -4,11 +4,12 @@ ghost use Rattle.std.specs.Prelude.{◌≡◌};
 ghost use Rattle.sect_answers.specs.{declared.refusal.Refusal.TheVariants.{Memory}, Answers.{of_source}};
 ghost use Rattle.sect_answers.specs.{Serial.{of_serial}, Compiling.{of_compile}, Checking.{of_check}};
 ghost use Rattle.sect_answers.specs.{Scheduling.{of_world}, Outcomes.{of_outcomes}};
+ghost use Rattle.sect_answers.specs.Refusals.{has_report as has_report_of};
 
 use sect_check::CheckFault;
 use sect_emit::CompileFault;
 use sect_infer::InferFault;
-use sect_names::SourceRefusal;
+use sect_names::{SchemeFault, SourceRefusal};
 use sect_run::RunFault;
 use sect_serial::{OutcomesFault, SerialFault};
 use sect_world::WorldFault;
@@ -35,6 +36,19 @@ pub enum Refusal {
     Schedule(WorldFault),
     /// The program has no section of this number.
     Section(u16),
+}
+
+impl Refusal {
+    /// Whether a text is refused for a mistake, of which `lint` says more.
+    pub fn has_report(&self) -> bool
+        ensures { result ≡ has_report_of self.now }
+    {
+        match self {
+            Refusal::Source(SourceRefusal::Scheme(SchemeFault::BadK)) => false,
+            Refusal::Source(_) => true,
+            _ => false,
+        }
+    }
 }
 
 impl From<AllocError> for Refusal {

@@ -14,6 +14,7 @@ use crate::refusal::Refusal;
 use crate::times::{Reading, put_times};
 use sect_emit::{Compiled, compile};
 use sect_run::{Gate, Meter, RunFault, run_threads};
+use sect_world::Run;
 use std::alloc::Global;
 use std::sync::Wait;
 use std::thread::Threads;
@@ -83,6 +84,33 @@ pub fn timed_outcome<R: Threads + Wait + Sync + Clock + CpuClock>(
 {
     let compiled = compile(alloc, source, k)?;
     Ok(timed_of(rt, alloc, &compiled, fuel, format)?)
+}
+
+/// A run that has been measured, and lines that tell what it took and what its threads waited for.
+#[derive(Drop)]
+pub struct MeasuredRun {
+    pub run: Run,
+    pub times: String,
+}
+
+/// A run of a compiled program by threads, and what it took.
+pub fn measured_run<R: Threads + Wait + Sync + Clock + CpuClock>(
+    rt: &R,
+    alloc: Global,
+    compiled: &Compiled,
+    fuel: u32,
+) -> Result<MeasuredRun, RunFault>
+    ensures { IfOk result (λ measured. IsWholeRun compiled.now fuel measured.run) }
+{
+    let program = compiled.scheme().program();
+    let meter = Meter::new(rt, alloc, program.thread_count())?;
+    let began = Reading::of(rt);
+    let run = run_threads(rt, alloc, compiled, fuel, &meter)?;
+    let took = Reading::of(rt).since(began);
+    let measured = meter.measured()?;
+    let mut times = String::new(alloc);
+    put_times(&mut times, program, took, &run.events, &measured)?;
+    Ok(MeasuredRun { run, times })
 }
 
 /// The outcome of a compiled program, run by threads, and what the run took.

@@ -1,6 +1,6 @@
 //! The command `schedule`.
 
-ghost use Rattle.std.specs.{Prelude.{◌≡◌, ◌++◌, IfOk, IfErr, IsOkUnless, length}, String.{string_bytes}};
+ghost use Rattle.std.specs.{Prelude.{◌≡◌, ◌++◌, IfOk, IfErr, OnOk, IsOkUnless, length}, String.{string_bytes}};
 ghost use Rattle.sect_front.specs.Front.{IsSpelled};
 ghost use Rattle.sect_names.specs.{Schemes.{SchemeView}, Sources.{IsAccepted}};
 ghost use Rattle.sect_store.specs.Printing.{outcome_text as printed};
@@ -92,6 +92,21 @@ fn turn_lines(
     Ok(progress_text(alloc, compiled.scheme().program(), &progress)?)
 }
 
+/// Adds a line for each turn of a run.
+pub fn put_progress(
+    alloc: Global,
+    text: &mut String,
+    program: &Program,
+    progress: &Progress,
+) -> Result<(), AllocError>
+    requires { AreEnough progress.now.made.items progress.now.run.events.items }
+    ensures { OnOk result (string_bytes text.new ≡ string_bytes text.old
+        ++ lines_by program.now (blocks_of progress.now.made.items progress.now.run.events.items)) }
+{
+    let events = progress.run.events.since(alloc, 0)?;
+    put_turns(text, program, progress.made.as_slice(), events.as_slice())
+}
+
 /// A line for each turn of a run, and what it has come to.
 fn progress_text(
     alloc: Global,
@@ -104,14 +119,7 @@ fn progress_text(
         ++ printed program.now progress.now.run.outcome) }
 {
     let mut text = String::new(alloc);
-    let run = &progress.run;
-    let events = run.events.since(alloc, 0)?;
-    put_turns(
-        &mut text,
-        program,
-        progress.made.as_slice(),
-        events.as_slice(),
-    )?;
-    put_outcome(alloc, &mut text, program, &run.outcome)?;
+    put_progress(alloc, &mut text, program, progress)?;
+    put_outcome(alloc, &mut text, program, &progress.run.outcome)?;
     Ok(text)
 }

@@ -1,0 +1,20 @@
+use Rattle.std.proofs.Common.{subst, sym}
+use Rattle.sect_endings.specs.steps.Sets.{AreMarks, IsMet}
+use Rattle.sect_endings.proofs.Candidates.{narrowed_less, thread_candidate, thread_settled}
+use Rattle.sect_endings.proofs.lasting.narrow_to_thread.Goals as goal
+
+pub returns-clause-less : goal.returns-clause-less
+returns-clause-less c = narrowed_less c.args.graph.now c.deref.result.now c.args.marks.now c.narrow.new.marks
+    c.in_ok-changed.changed c.in_ok-changed.ensures
+
+pub returns-clause-stays : goal.returns-clause-stays
+returns-clause-stays c = thread_candidate c.args.graph.now c.args.thread c.deref.result.now c.args.marks.now
+    c.narrow.new.marks c.in_ok-changed.changed
+    (subst (λ z. AreMarks c.args.graph.now.states z (IsMet c.args.graph.now c.args.marks.now c.args.thread))
+    (sym c.deref.ensures.value) c.in_ok-goals.ensures) c.in_ok-changed.ensures
+
+pub returns-clause-meets : goal.returns-clause-meets
+returns-clause-meets c = thread_settled c.args.graph.now c.args.thread c.deref.result.now c.args.marks.now
+    c.narrow.new.marks c.in_ok-changed.changed
+    (subst (λ z. AreMarks c.args.graph.now.states z (IsMet c.args.graph.now c.args.marks.now c.args.thread))
+    (sym c.deref.ensures.value) c.in_ok-goals.ensures) c.in_ok-changed.ensures c.requires

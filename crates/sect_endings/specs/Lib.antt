@@ -1,0 +1,4 @@
+pub mod Graphs
+pub mod Runs
+pub mod Laws
+pub mod steps

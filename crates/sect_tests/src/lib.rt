@@ -5,6 +5,8 @@
 #[cfg(test)]
 mod apart;
 #[cfg(test)]
+mod asking;
+#[cfg(test)]
 mod carrying;
 #[cfg(test)]
 mod certificates;
@@ -16,6 +18,8 @@ mod classes;
 mod conditions;
 #[cfg(test)]
 mod covering;
+#[cfg(test)]
+mod endings;
 #[cfg(test)]
 mod graphs;
 #[cfg(test)]

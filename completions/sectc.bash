@@ -1,19 +1,29 @@
 # Completions of sectc for bash.
+# The names of the threads in the file that the words name.
+_sectc_threads() {
+    local place file
+    for ((place = 2; place < COMP_CWORD; place++)); do
+        file=${COMP_WORDS[place]}
+        if [ "${COMP_WORDS[place - 1]}" = --file ] && [ -f "$file" ]; then
+            sed 's://.*::' "$file" | grep -oE '(^|[^A-Za-z0-9_])thread[[:space:]]+[A-Za-z_][A-Za-z0-9_]*' | sed 's/.*[[:space:]]//'
+        fi
+    done
+}
 _sectc() {
     local words= files= command=${COMP_WORDS[1]} current=${COMP_WORDS[COMP_CWORD]}
     case "$command" in
-        locks) words='--k --format --help' files=1 ;;
+        locks) words='--k --format --verbose --help' files=1 ;;
         compile) words='--k --format --workers --cert --help' files=1 ;;
         c) words='--k --help' files=1 ;;
-        explain) words='--k --format --help' files=1 ;;
-        conflicts) words='--k --format --help' files=1 ;;
+        explain) words='--k --format --color --help' files=1 ;;
+        conflicts) words='--k --format --verbose --color --help' files=1 ;;
         inspect) words='--k --help' files=1 ;;
         graph) words='--k --section --help' files=1 ;;
-        serial) words='--fuel --format --file --help' ;;
-        outcomes) words='--fuel --most --format --help' files=1 ;;
-        schedule) words='--k --format --fuel --chart --file --help' ;;
-        run) words='--k --format --fuel --time --help' files=1 ;;
-        lint) words='--k --format --help' files=1 ;;
+        serial) words="--fuel --format --places --file --help $(_sectc_threads)" ;;
+        outcomes) words='--fuel --most --format --places --help' files=1 ;;
+        schedule) words="--k --format --fuel --chart --places --color --file --help $(_sectc_threads)" ;;
+        run) words='--k --format --fuel --time --places --help' files=1 ;;
+        lint) words='--k --format --color --help' files=1 ;;
         lsp) words='--help' ;;
         check) words='--k --help' files=1 ;;
     esac
@@ -23,13 +33,16 @@ _sectc() {
         'compile --format') words='text json' files= ;;
         'compile --k') words='0 1 2 3' files= ;;
         'compile --workers') words= files= ;;
+        'conflicts --color') words='auto always never' files= ;;
         'conflicts --format') words='text json' files= ;;
         'conflicts --k') words='0 1 2 3' files= ;;
+        'explain --color') words='auto always never' files= ;;
         'explain --format') words='text json' files= ;;
         'explain --k') words='0 1 2 3' files= ;;
         'graph --k') words='0 1 2 3' files= ;;
         'graph --section') words= files= ;;
         'inspect --k') words='0 1 2 3' files= ;;
+        'lint --color') words='auto always never' files= ;;
         'lint --format') words='text json sarif' files= ;;
         'lint --k') words='0 1 2 3' files= ;;
         'locks --format') words='text json' files= ;;
@@ -40,6 +53,7 @@ _sectc() {
         'run --format') words='text json' files= ;;
         'run --fuel') words= files= ;;
         'run --k') words='0 1 2 3' files= ;;
+        'schedule --color') words='auto always never' files= ;;
         'schedule --file') words= files=1 ;;
         'schedule --format') words='text json' files= ;;
         'schedule --fuel') words= files= ;;

@@ -3,7 +3,7 @@
 use crate::bytes::put_piece;
 use crate::case::Case;
 use crate::failure::Failure;
-use sect_command::{SystemFiles, Writers, command_on_texts};
+use sect_command::{Around, Screen, SystemFiles, Writers, command_on_texts};
 use std::alloc::{AllocError, Global};
 use std::rt::Files;
 use std::sync::Wait;
@@ -45,8 +45,14 @@ fn answer_to(
         output: Vec::new(rt.alloc()),
         errors: Vec::new(rt.alloc()),
     };
-    let files = SystemFiles { rt };
-    let status = command_on_texts(rt, words.as_slice(), &files, input, &mut writers);
+    let around = Around {
+        texts: &SystemFiles { rt },
+        screen: Screen {
+            colours: false,
+            hints: false,
+        },
+    };
+    let status = command_on_texts(rt, words.as_slice(), &around, input, &mut writers);
     Ok(Answer {
         status,
         text: shown(rt.alloc(), writers.output.as_slice())?,

@@ -1,5 +1,6 @@
 mod Ending
 mod Names
 mod Rows
+mod Said
 mod Wanting
 mod Words

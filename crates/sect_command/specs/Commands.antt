@@ -67,20 +67,29 @@ named_file = option (codes "file")
 abbrev threads : Rule
 threads = operands (codes "threads")
 
+abbrev verbose : Rule
+verbose = flag (codes "verbose")
+
+abbrev places : Rule
+places = flag (codes "places")
+
+abbrev color : Rule
+color = option (codes "color")
+
 -- what a command takes
 abbrev pub taken_by : Subcommand → List Rule
-taken_by Locks = k ∷ format ∷ files ∷ []
+taken_by Locks = k ∷ format ∷ verbose ∷ files ∷ []
 taken_by Compile = k ∷ format ∷ option (codes "workers") ∷ flag (codes "cert") ∷ file ∷ []
 taken_by C = k ∷ file ∷ []
-taken_by Explain = k ∷ format ∷ file ∷ []
-taken_by Conflicts = k ∷ format ∷ files ∷ []
+taken_by Explain = k ∷ format ∷ color ∷ file ∷ []
+taken_by Conflicts = k ∷ format ∷ verbose ∷ color ∷ files ∷ []
 taken_by Inspect = k ∷ file ∷ []
 taken_by Graph = k ∷ option (codes "section") ∷ file ∷ []
-taken_by Serial = fuel ∷ format ∷ named_file ∷ threads ∷ []
-taken_by Outcomes = fuel ∷ option (codes "most") ∷ format ∷ file ∷ []
-taken_by Schedule = k ∷ format ∷ fuel ∷ flag (codes "chart") ∷ named_file ∷ threads ∷ []
-taken_by Run = k ∷ format ∷ fuel ∷ flag (codes "time") ∷ file ∷ []
-taken_by Lint = k ∷ format ∷ files ∷ []
+taken_by Serial = fuel ∷ format ∷ places ∷ named_file ∷ threads ∷ []
+taken_by Outcomes = fuel ∷ option (codes "most") ∷ format ∷ places ∷ file ∷ []
+taken_by Schedule = k ∷ format ∷ fuel ∷ flag (codes "chart") ∷ places ∷ color ∷ named_file ∷ threads ∷ []
+taken_by Run = k ∷ format ∷ fuel ∷ flag (codes "time") ∷ places ∷ file ∷ []
+taken_by Lint = k ∷ format ∷ color ∷ files ∷ []
 taken_by Lsp = []
 taken_by Check = k ∷ file ∷ []
 

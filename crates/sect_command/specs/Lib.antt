@@ -1,4 +1,5 @@
 pub mod Asking
+pub mod Colouring
 pub mod Commands
 pub mod Reporting
 pub mod Requests

@@ -1,6 +1,6 @@
 -- What a request is answered of a source text.
-use Rattle.std.specs.Prelude.{◌≡◌, ◌≢◌, ◌⊎◌, ◌+◌, ◌++◌, ℕ, Bool, true, false, not, if◌then◌else◌, List, [], codes, ⊤}
-use Rattle.std.specs.{Prelude.{Option, Some, None, option_map}, Str.{bytes_eq}, String.{string_bytes}}
+use Rattle.std.specs.Prelude.{◌≡◌, ◌≢◌, ◌⊎◌, ◌+◌, ◌++◌, ℕ, Bool, true, false, not, if◌then◌else◌, List, [], ◌∷◌, codes}
+use Rattle.std.specs.{Prelude.{⊤, Option, Some, None, option_map, replicate}, Str.{bytes_eq}, String.{string_bytes}}
 use Rattle.std.specs.{declared.string.String.{String}, declared.alloc.Global.{Global}}
 use Rattle.sect_front.specs.Limits.{most_bytes}
 use Rattle.sect_infer.specs.Workers.{AreOffered}
@@ -10,25 +10,76 @@ use Rattle.sect_answers.specs.{Conflicting.{AreProgramConflicts}, Explaining.{Is
 use Rattle.sect_answers.specs.{InC.{IsProgramInC}, Naming.{AreMeant, IsNamingDue}}
 use Rattle.sect_answers.specs.declared.naming.ThreadWord.{ThreadWord}
 use Rattle.sect_answers.specs.{Graphing.{IsProgramGraph, IsGraphDue}, Findings.{IsUnblamed, IsInspection, IsLintDue}}
-use Rattle.sect_answers.specs.{Outcomes.{AreAllOutcomes, IsOutcomesDue}, Placing.{AddsPlace}, Refusals.{refusal_text}}
+use Rattle.sect_answers.specs.{Outcomes.{AreAllOutcomes, IsOutcomesDue}, Placing.{AddsPlace}}
+use Rattle.sect_answers.specs.Placed.{ArePlacedOutcomes, ArePlacedTurns, IsPlacedChart, IsPlacedOutcomesDue}
+use Rattle.sect_answers.specs.Placed.{IsPlacedRun, IsPlacedSerial, IsPlacedSerialDue}
+use Rattle.sect_answers.specs.Refusals.{has_report, refusal_text}
 use Rattle.sect_answers.specs.{Running.{IsOutcomeOfRun}, Scheduling.{IsScheduled, IsScheduleDue}}
-use Rattle.sect_answers.specs.{Serial.{IsOutcome, IsSerialDue}, declared.refusal.Refusal.{Refusal}}
+use Rattle.sect_answers.specs.{Serial.{IsOutcome, IsSerialDue}, Verbose.{IsVerboseAnswer}}
+use Rattle.sect_answers.specs.declared.refusal.Refusal.{Refusal}
 use Rattle.sect_lint.specs.declared.format.LintFormat.TheVariants.{Json}
 use Rattle.sect_command.specs.{Statuses.{done, refused, wrong_words}, declared.report.Answer.{Answer}}
 use Rattle.sect_command.specs.declared.request.Form.TheVariants.{Listing, Document, Certificate}
+use Rattle.sect_command.specs.declared.request.{Form.{Form}, Placed.{Placed}, PlacedRun.{PlacedRun}}
 use Rattle.sect_command.specs.declared.request.Request.{Request}
 use Rattle.sect_command.specs.declared.request.Request.TheVariants.{Locks, Compile, C, Explain, Conflicts, Graph}
 use Rattle.sect_command.specs.declared.request.Request.TheVariants.{Inspect, Check, Serial, Outcomes, Schedule, Chart}
-use Rattle.sect_command.specs.declared.request.Request.TheVariants.{Run, TimedRun, Lint}
+use Rattle.sect_command.specs.declared.request.Request.TheVariants.{Run, TimedRun, Lint, Verbose}
+use Rattle.sect_command.specs.declared.request.PlacedRun.TheVariants as placed
+use Rattle.sect_command.specs.declared.request.Request.TheVariants as asks
 use Rattle.sect_answers.specs.declared.naming.ThreadFault.TheVariants as fault
 use Rattle.sect_answers.specs.declared.refusal.Refusal.TheVariants as refusal
+
+-- the threads of a run with places, as the words name them
+abbrev pub threads_placed : PlacedRun → List ThreadWord
+threads_placed (placed.Serial order) = order.items
+threads_placed (placed.Schedule schedule) = schedule.threads.items
+threads_placed (placed.Chart schedule) = schedule.threads.items
+threads_placed of = []
 
 -- the threads of an order or a schedule, as the words name them; of another request none
 abbrev pub threads_of : Request → List ThreadWord
 threads_of (Serial fuel order format) = order.items
-threads_of (Schedule k fuel schedule format) = schedule.items
-threads_of (Chart k fuel schedule) = schedule.items
+threads_of (Schedule k fuel schedule format) = schedule.threads.items
+threads_of (Chart k fuel schedule) = schedule.threads.items
+threads_of (asks.Placed p) = threads_placed p.of
 threads_of request = []
+
+-- each thread has so many turns, one after another
+abbrev pub turns_of : List ℕ → List ℕ → List ℕ
+turns_of [] ts = []
+turns_of (n ∷ ns) [] = []
+turns_of (n ∷ ns) (t ∷ ts) = replicate n t ++ turns_of ns ts
+
+-- where the words of a run with places mean these threads, each as often as it has turns
+abbrev pub spread_placed : PlacedRun → List ℕ → List ℕ
+spread_placed (placed.Schedule schedule) ts = turns_of schedule.counts.items ts
+spread_placed (placed.Chart schedule) ts = turns_of schedule.counts.items ts
+spread_placed of ts = ts
+
+-- where the words of a request mean these threads, each as often as it has turns
+abbrev pub spread_by : Request → List ℕ → List ℕ
+spread_by (Schedule k fuel schedule format) ts = turns_of schedule.counts.items ts
+spread_by (Chart k fuel schedule) ts = turns_of schedule.counts.items ts
+spread_by (asks.Placed p) ts = spread_placed p.of ts
+spread_by request ts = ts
+
+-- the words of the request name threads, in an order
+abbrev pub is_ordered : Request → Bool
+is_ordered (Serial fuel order format) = true
+is_ordered (Schedule k fuel schedule format) = true
+is_ordered (Chart k fuel schedule) = true
+is_ordered request = false
+
+-- the answer to the request goes by the text alone, and tells no places of faults
+abbrev pub is_plain : Request → Bool
+is_plain (asks.Placed p) = false
+is_plain request = not (is_ordered request)
+
+-- the words of the request mean these threads, each as often as it has turns
+abbrev pub AreMeantBy : List ℕ → Request → List ℕ → Type 0
+AreMeantBy source request threads =
+    (named : List ℕ) × AreMeant source (threads_of request) named × (threads ≡ spread_by request named)
 
 -- the name that stands for standard input
 abbrev pub input_name : List ℕ
@@ -38,28 +89,59 @@ input_name = codes "-"
 abbrev pub file_of : List ℕ → Option (List ℕ)
 file_of name = if bytes_eq name input_name then None else Some name
 
+-- the bytes are the compiled program of the source, in this form
+abbrev pub IsCompiledIn : Form → List ℕ → ℕ → List ℕ → Type 0
+IsCompiledIn Listing source k bytes = IsProgramListing source k bytes
+IsCompiledIn Document source k bytes = IsProgramDocument source k bytes
+IsCompiledIn Certificate source k bytes = IsCertified source k bytes
+
+-- the bytes are what is requested of the source of this name, where these are the threads that the words mean
+abbrev pub AnswersPlaced : List ℕ → List ℕ → Placed → List ℕ → PlacedRun → List ℕ → Type 0
+AnswersPlaced name source p threads (placed.Serial order) bytes =
+    IsPlacedSerial (file_of name) source p.k p.fuel threads bytes
+AnswersPlaced name source p threads (placed.Outcomes most) bytes =
+    ArePlacedOutcomes (file_of name) source p.k p.fuel most bytes
+AnswersPlaced name source p threads (placed.Schedule schedule) bytes =
+    ArePlacedTurns (file_of name) source p.k p.fuel threads bytes
+AnswersPlaced name source p threads (placed.Chart schedule) bytes =
+    IsPlacedChart (file_of name) source p.k p.fuel threads bytes
+AnswersPlaced name source p threads placed.Run bytes = IsPlacedRun (file_of name) source p.k p.fuel bytes
+AnswersPlaced name source p threads placed.TimedRun bytes = IsPlacedRun (file_of name) source p.k p.fuel bytes
+
 -- the bytes are what is requested of the source of this name
 abbrev pub Answers : List ℕ → Request → List ℕ → List ℕ → Type 0
 Answers name (Locks k format) source bytes = IsAnswer source k format bytes
-Answers name (Compile k workers Listing) source bytes = AreOffered workers × IsProgramListing source k bytes
-Answers name (Compile k workers Document) source bytes = AreOffered workers × IsProgramDocument source k bytes
-Answers name (Compile k workers Certificate) source bytes = AreOffered workers × IsCertified source k bytes
+Answers name (Compile k workers form) source bytes = AreOffered workers × IsCompiledIn form source k bytes
 Answers name (C k) source bytes = IsProgramInC source k bytes
 Answers name (Explain k format) source bytes = IsProgramExplanation source k format bytes
 Answers name (Conflicts k format) source bytes = AreProgramConflicts source k format bytes
+Answers name (Verbose k of) source bytes = IsVerboseAnswer (file_of name) source k of bytes
 Answers name (Serial fuel order format) source bytes =
-    (threads : List ℕ) × AreMeant source order.items threads × IsOutcome source fuel threads format bytes
+    (threads : List ℕ) × AreMeantBy source (Serial fuel order format) threads
+    × IsOutcome source fuel threads format bytes
 Answers name (Outcomes fuel most format) source bytes = AreAllOutcomes source fuel most format bytes
 Answers name (Schedule k fuel schedule format) source bytes =
-    (threads : List ℕ) × AreMeant source schedule.items threads × IsScheduled source k fuel threads format bytes
+    (threads : List ℕ) × AreMeantBy source (Schedule k fuel schedule format) threads
+    × IsScheduled source k fuel threads format bytes
 Answers name (Chart k fuel schedule) source bytes =
-    (threads : List ℕ) × AreMeant source schedule.items threads × IsCharted source k fuel threads bytes
+    (threads : List ℕ) × AreMeantBy source (Chart k fuel schedule) threads × IsCharted source k fuel threads bytes
 Answers name (Run k fuel format) source bytes = IsOutcomeOfRun source k fuel format bytes
 Answers name (TimedRun k fuel format) source bytes = IsOutcomeOfRun source k fuel format bytes
+Answers name (asks.Placed p) source bytes =
+    (threads : List ℕ) × AreMeantBy source (asks.Placed p) threads × AnswersPlaced name source p threads p.of bytes
 Answers name (Graph k section) source bytes = IsProgramGraph source k section bytes
 Answers name (Lint k format) source bytes = IsUnblamed (file_of name) source k format bytes
 Answers name (Inspect k) source bytes = IsInspection source k bytes
 Answers name (Check k) source bytes = IsValidInput source k × (bytes ≡ codes "valid\n")
+
+-- the refusal is due where this is requested of a source, and these are the threads that the words mean
+abbrev pub IsPlacedDue : List ℕ → Placed → List ℕ → PlacedRun → Refusal → Type 0
+IsPlacedDue source p threads (placed.Serial order) why = IsPlacedSerialDue source p.k p.fuel threads why
+IsPlacedDue source p threads (placed.Outcomes most) why = IsPlacedOutcomesDue source p.k p.fuel most why
+IsPlacedDue source p threads (placed.Schedule schedule) why = IsScheduleDue source p.k threads why
+IsPlacedDue source p threads (placed.Chart schedule) why = IsScheduleDue source p.k threads why
+IsPlacedDue source p threads placed.Run why = IsDue source p.k why
+IsPlacedDue source p threads placed.TimedRun why = IsDue source p.k why
 
 -- the refusal is due where this is requested of the source of this name
 abbrev pub IsRefusalDue : List ℕ → Request → List ℕ → Refusal → Type 0
@@ -68,15 +150,19 @@ IsRefusalDue name (Compile k workers form) source why = IsCompileDue source k wo
 IsRefusalDue name (C k) source why = IsDue source k why
 IsRefusalDue name (Explain k format) source why = IsDue source k why
 IsRefusalDue name (Conflicts k format) source why = IsDue source k why
+IsRefusalDue name (Verbose k of) source why = IsDue source k why
 IsRefusalDue name (Serial fuel order format) source why =
-    (threads : List ℕ) × AreMeant source order.items threads × IsSerialDue source fuel threads why
+    (threads : List ℕ) × AreMeantBy source (Serial fuel order format) threads × IsSerialDue source fuel threads why
 IsRefusalDue name (Outcomes fuel most format) source why = IsOutcomesDue source fuel most why
 IsRefusalDue name (Schedule k fuel schedule format) source why =
-    (threads : List ℕ) × AreMeant source schedule.items threads × IsScheduleDue source k threads why
+    (threads : List ℕ) × AreMeantBy source (Schedule k fuel schedule format) threads
+    × IsScheduleDue source k threads why
 IsRefusalDue name (Chart k fuel schedule) source why =
-    (threads : List ℕ) × AreMeant source schedule.items threads × IsScheduleDue source k threads why
+    (threads : List ℕ) × AreMeantBy source (Chart k fuel schedule) threads × IsScheduleDue source k threads why
 IsRefusalDue name (Run k fuel format) source why = IsDue source k why
 IsRefusalDue name (TimedRun k fuel format) source why = IsDue source k why
+IsRefusalDue name (asks.Placed p) source why =
+    (threads : List ℕ) × AreMeantBy source (asks.Placed p) threads × IsPlacedDue source p threads p.of why
 IsRefusalDue name (Graph k section) source why = IsGraphDue source k section why
 IsRefusalDue name (Lint k format) source why = IsLintDue (file_of name) source k format why
 IsRefusalDue name (Inspect k) source why = IsLintDue None source k Json why
@@ -99,12 +185,14 @@ path_length_of (Compile k workers form) = k
 path_length_of (C k) = k
 path_length_of (Explain k format) = k
 path_length_of (Conflicts k format) = k
+path_length_of (Verbose k of) = k
 path_length_of (Serial fuel order format) = 2
 path_length_of (Outcomes fuel most format) = 2
 path_length_of (Schedule k fuel schedule format) = k
 path_length_of (Chart k fuel schedule) = k
 path_length_of (Run k fuel format) = k
 path_length_of (TimedRun k fuel format) = k
+path_length_of (asks.Placed p) = p.k
 path_length_of (Graph k section) = k
 path_length_of (Lint k format) = k
 path_length_of (Inspect k) = k
@@ -135,9 +223,15 @@ IsMarkedLine true name request source why line =
 abbrev pub IsLineFor : List ℕ → Request → List ℕ → Refusal → List ℕ → Type 0
 IsLineFor name request source why = IsMarkedLine (is_marked name why) name request source why
 
+-- what may be said on standard error of a run with places
+abbrev pub MayRemarkPlaced : PlacedRun → List ℕ → Type 0
+MayRemarkPlaced placed.TimedRun remarks = ⊤
+MayRemarkPlaced of remarks = remarks ≡ []
+
 -- what may be said on standard error of an answer: what a run took, where that is asked for, and else nothing
 abbrev pub MayRemark : Request → List ℕ → Type 0
 MayRemark (TimedRun k fuel format) remarks = ⊤
+MayRemark (asks.Placed p) remarks = MayRemarkPlaced p.of remarks
 MayRemark request remarks = remarks ≡ []
 
 -- the answer is what is requested of the source of this name
@@ -145,6 +239,7 @@ pub record IsDone (name : List ℕ) (request : Request) (source : List ℕ) (ans
   pub status : answer.status ≡ done
   pub text : Answers name request source answer.text.items
   pub remarks : MayRemark request answer.remarks.items
+  pub linted : answer.is_linted ≡ false
 
 -- the answer is the line of a refusal that is due, of the source of this name
 pub record IsRefused (name : List ℕ) (request : Request) (source : List ℕ) (answer : Answer) : Type 0 where
@@ -154,6 +249,7 @@ pub record IsRefused (name : List ℕ) (request : Request) (source : List ℕ) (
   pub status : answer.status ≡ refused
   pub line : IsLineFor name request source why answer.text.items
   pub remarks : answer.remarks.items ≡ []
+  pub linted : answer.is_linted ≡ has_report why
 
 -- the name of a thread in place of one that is near it
 abbrev pub near_text : List ℕ → List ℕ
@@ -180,6 +276,7 @@ pub record NamesNoThread (request : Request) (source : List ℕ) (answer : Answe
   pub status : answer.status ≡ wrong_words
   pub line : IsUnknownLine request source answer.text.items
   pub remarks : answer.remarks.items ≡ []
+  pub linted : answer.is_linted ≡ false
 
 abbrev pub IsRightFor : List ℕ → Request → List ℕ → Answer → Type 0
 IsRightFor name request source answer =

@@ -1,5 +1,5 @@
 -- What the words of a command line say. The functions that read them cite it.
-use Rattle.std.specs.{Prelude.{◌≡◌, ◌≤◌, ℕ, Bool, true, false, List, [], Option, Some, None, codes}}
+use Rattle.std.specs.Prelude.{◌≡◌, ◌≤◌, ◌⊎◌, ⊤, ℕ, Bool, true, false, List, [], ◌∷◌, ◌++◌, Option, Some, None, codes}
 use Rattle.std.specs.{Prelude.{option_map, unwrap_or}, List.{AllZip}, String.{string_bytes}}
 use Rattle.std.specs.Str.Parse.{IsNumeral, digits_value}
 use Rattle.clap.specs.{Matches.{first_value, one_text, raw_values, matched_of}}
@@ -11,7 +11,8 @@ use Rattle.sect_answers.specs.declared.naming.ThreadWord.TheVariants as thread
 use Rattle.sect_front.specs.Words.{is_name}
 use Rattle.sect_lint.specs.declared.format.LintFormat.{LintFormat}
 use Rattle.sect_lint.specs.declared.format.LintFormat.TheVariants as lint_format
-use Rattle.sect_command.specs.declared.request.Form.{Form}
+use Rattle.sect_command.specs.declared.{colours.Colour.{Colour}, request.Form.{Form}}
+use Rattle.sect_command.specs.declared.colours.Colour.TheVariants as colour
 use Rattle.sect_command.specs.declared.request.Form.TheVariants as form
 
 -- the text is decimal digits alone, and spells this number, which lies between these two
@@ -42,10 +43,37 @@ SaysLintFormat (Some word) lint_format.Text = word ≡ codes "text"
 SaysLintFormat (Some word) lint_format.Json = word ≡ codes "json"
 SaysLintFormat (Some word) lint_format.Sarif = word ≡ codes "sarif"
 
+-- the option says when an answer is painted; where it has no value, it is where standard output shows colours
+abbrev pub SaysColour : Option (List ℕ) → Colour → Type 0
+SaysColour None c = c ≡ colour.Auto
+SaysColour (Some word) colour.Auto = word ≡ codes "auto"
+SaysColour (Some word) colour.Always = word ≡ codes "always"
+SaysColour (Some word) colour.Never = word ≡ codes "never"
+
 -- the word spells the number of a thread, or it is its name; no name is a number
 abbrev pub SaysThread : List ℕ → ThreadWord → Type 0
 SaysThread text (thread.Number n) = Spells 0 65535 text n
 SaysThread text (thread.Name name) = (is_name text ≡ true) × (string_bytes name ≡ text)
+
+-- the most turns that a word gives a thread
+abbrev pub most_turns : ℕ
+most_turns = 1000000
+
+-- the word names a thread that has one turn; or a thread, and behind `:` how many turns it has
+abbrev pub SaysTurns : List ℕ → ThreadWord → ℕ → Type 0
+SaysTurns text t n =
+    (SaysThread text t × (n ≡ 1))
+    ⊎ ((name : List ℕ) × (count : List ℕ) × (text ≡ name ++ codes ":" ++ count) × SaysThread name t
+    × Spells 1 most_turns count n)
+
+-- the words give turns so, one after another
+abbrev pub AreTurns : List (List ℕ) → List ThreadWord → List ℕ → Type 0
+AreTurns [] [] [] = ⊤
+AreTurns [] [] (n ∷ ns) = ⊥
+AreTurns [] (t ∷ ts) ns = ⊥
+AreTurns (w ∷ ws) [] ns = ⊥
+AreTurns (w ∷ ws) (t ∷ ts) [] = ⊥
+AreTurns (w ∷ ws) (t ∷ ts) (n ∷ ns) = SaysTurns w t n × AreTurns ws ts ns
 
 -- the words name threads so, one after another
 abbrev pub AreThreads : List (List ℕ) → List ThreadWord → Type 0

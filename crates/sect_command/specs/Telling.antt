@@ -1,5 +1,5 @@
 -- What a run answers to its words and its input, and to which stream. `command` cites it.
-use Rattle.std.specs.Prelude.{◌≡◌, ◌≢◌, ◌≤◌, ◌⊎◌, ℕ, List, [], Option, None, Result, Ok, IfSome}
+use Rattle.std.specs.Prelude.{◌≡◌, ◌≢◌, ◌≤◌, ◌⊎◌, ℕ, false, List, [], Option, None, Result, Ok, IfSome}
 use Rattle.std.specs.Io.KnownBytes.{Appends}
 use Rattle.sect_lsp.specs.{Framing.{front_of}, Sessions.{IsSession}}
 use Rattle.sect_lsp.specs.declared.{framing.Front.{Front}, server.Phase.{Phase}}
@@ -7,6 +7,7 @@ use Rattle.sect_lsp.specs.declared.framing.Front.TheVariants as front
 use Rattle.sect_lsp.specs.declared.server.Phase.TheVariants as phase
 use Rattle.sect_command.specs.{Statuses.{wrong_words, failed}, Reporting.{IsReport}, Wanting.{IsWanted}}
 use Rattle.sect_command.specs.{declared.failure.Failure.{Failure}, declared.report.Report.{Report}}
+use Rattle.sect_command.specs.declared.colours.Screen.{Screen}
 use Rattle.sect_command.specs.declared.request.{Asked.{Asked}, Wanted.TheVariants.{Answers, Session}}
 
 -- no name leads to a text whose bytes are known
@@ -14,10 +15,10 @@ abbrev pub no_texts : List ℕ → Option (List ℕ)
 no_texts name = None
 
 -- the words are wrong, or the report is of what they ask for
-abbrev pub IsRightForWords : List (List ℕ) → (List ℕ → Option (List ℕ)) → Option (List ℕ) → Report → Type 0
-IsRightForWords words bytes_of input report =
+abbrev pub IsRightForWords : List (List ℕ) → (List ℕ → Option (List ℕ)) → Screen → Option (List ℕ) → Report → Type 0
+IsRightForWords words bytes_of screen input report =
     ((report.status ≡ wrong_words) × (report.complaints.items ≡ []))
-    ⊎ ((asked : Asked) × IsWanted words (Answers asked) × IsReport bytes_of input asked report)
+    ⊎ ((asked : Asked) × IsWanted words (Answers asked) × IsReport bytes_of screen input asked report)
 
 -- the text of a report is written, its status is given, and these are its complaints
 pub record IsWritten (report : Report) (old new : Option (List ℕ)) (status : ℕ) (complaints : List ℕ) : Type 0 where
@@ -54,21 +55,27 @@ IsServed input old new status =
 
 -- the run has failed; or a report that is right for its words is written, with these complaints to be told; or they ask
 -- for a session with an editor, and it was one
-abbrev pub IsAnswered : List (List ℕ) → (List ℕ → Option (List ℕ)) → Option (List ℕ) → Option (List ℕ)
+abbrev pub IsAnswered : List (List ℕ) → (List ℕ → Option (List ℕ)) → Screen → Option (List ℕ) → Option (List ℕ)
     → Option (List ℕ) → ℕ → List ℕ → Type 0
-IsAnswered words bytes_of input old new status complaints =
+IsAnswered words bytes_of screen input old new status complaints =
     HasFailed status complaints
-    ⊎ (((report : Report) × IsRightForWords words bytes_of input report × IsWritten report old new status complaints)
+    ⊎ (((report : Report) × IsRightForWords words bytes_of screen input report
+    × IsWritten report old new status complaints)
     ⊎ (IsWanted words Session × (complaints ≡ []) × IsServed input old new status))
 
--- the same where there are no texts to be named, and no complaints are told
+-- streams that nobody looks at
+abbrev pub dark : Screen
+dark = record { colours = false; hints = false }
+
+-- the same where there are no texts to be named, nobody looks, and no complaints are told
 abbrev pub IsTold : List (List ℕ) → Option (List ℕ) → Option (List ℕ) → Option (List ℕ) → ℕ → Type 0
-IsTold words input old new status = (complaints : List ℕ) × IsAnswered words no_texts input old new status complaints
+IsTold words input old new status =
+    (complaints : List ℕ) × IsAnswered words no_texts dark input old new status complaints
 
 -- the same, where the complaints are written to standard error, unless that fails
-pub record IsAnsweredAloud (words : List (List ℕ)) (bytes_of : List ℕ → Option (List ℕ))
+pub record IsAnsweredAloud (words : List (List ℕ)) (bytes_of : List ℕ → Option (List ℕ)) (screen : Screen)
     (input old new errors_old errors_new : Option (List ℕ)) (status : ℕ) : Type 0 where
   pub complaints : List ℕ
   pub before : ℕ
-  pub answered : IsAnswered words bytes_of input old new before complaints
+  pub answered : IsAnswered words bytes_of screen input old new before complaints
   pub told : (status ≡ failed) ⊎ ((status ≡ before) × Appends errors_old errors_new complaints)

@@ -3,8 +3,8 @@ use Rattle.std.specs.Prelude.{◌≡◌, ◌⊎◌, ◌++◌, ◌||◌, Bool, tr
 use Rattle.std.specs.{Str.{bytes_eq}, String.{string_bytes}}
 use Rattle.clap.specs.Faults.{fault_of}
 use Rattle.clap.specs.Simple.{subcommand_of as subcommand_met}
-use Rattle.clap.specs.{Walk.{Text, rows_of}, declared.parser.matches.Found.{Found}}
-use Rattle.sect_command.specs.{Asking.{IsMade, files_in}, Commands.{name_of, sectc}}
+use Rattle.clap.specs.{Matches.{first_value}, Walk.{Text, rows_of}, declared.parser.matches.Found.{Found}}
+use Rattle.sect_command.specs.{Asking.{IsMade, files_in}, Commands.{name_of, sectc}, Saying.{SaysColour}}
 use Rattle.sect_command.specs.declared.{request.Wanted.{Wanted}, subcommand.Subcommand.{Subcommand}}
 use Rattle.sect_command.specs.declared.request.Wanted.TheVariants.{Answers, Session}
 use Rattle.sect_command.specs.declared.subcommand.Subcommand.TheVariants.{Lsp}
@@ -25,6 +25,7 @@ abbrev pub Makes : Subcommand → Found → List Text → Wanted → Type 0
 Makes s found behind Session = s ≡ Lsp
 Makes s found behind (Answers asked) =
     IsMade s found behind asked.request × (map string_bytes asked.files.items ≡ files_in found)
+    × SaysColour (first_value found (codes "color")) asked.colour
 
 -- the words of which `clap` is told, as it reads them by the commands, name a subcommand and its options, and these
 -- make this, with the words behind

@@ -1,28 +1,29 @@
 //! What is answered to the texts of which a request is asked.
 
-ghost use Rattle.std.specs.Prelude.{◌≡◌, ◌++◌, [], if◌then◌else◌, IfOk, IfErr, OnOk, option_map};
+ghost use Rattle.std.specs.Prelude.{◌≡◌, ◌++◌, false, [], if◌then◌else◌, IfOk, IfErr, OnOk, option_map};
 ghost use Rattle.std.specs.String.{string_bytes};
 ghost use Rattle.sect_answers.specs.Naming.{AreMeant};
 ghost use Rattle.sect_command.specs.declared.failure.Failure.TheVariants.{Memory};
-ghost use Rattle.sect_command.specs.Requests.{AddsPlaceOf, Answers, IsDone, IsLineFor, IsRefusalDue, IsRightFor};
-ghost use Rattle.sect_command.specs.Requests.{file_of as file_by, is_marked as is_marked_for, threads_of};
-ghost use Rattle.sect_command.specs.Requests.{near_text, unknown_text, wanted_text};
-ghost use Rattle.sect_command.specs.Reporting.{AddsComplaint, AddsRight, AddsText, IsGiven, IsReport};
-ghost use Rattle.sect_command.specs.Reporting.{has_headings, heading};
+ghost use Rattle.sect_command.specs.Requests.{AddsPlaceOf, IsDone, IsLineFor, IsRefusalDue, IsRightFor};
+ghost use Rattle.sect_command.specs.Requests.{is_marked as is_marked_for, threads_of};
+ghost use Rattle.sect_command.specs.Requests.{spread_placed as spread_placed_by};
+ghost use Rattle.sect_command.specs.Statuses.{done as done_status};
+ghost use Rattle.sect_command.specs.Requests.{AreMeantBy, near_text, spread_by, unknown_text, wanted_text};
+ghost use Rattle.sect_command.specs.Reporting.{AddsComplaint, AddsRight, AddsShown, AddsText, IsGiven, IsReport};
+ghost use Rattle.sect_command.specs.Reporting.{has_headings, heading, hint_text};
 
+use crate::colours::{Screen, is_painted, shown};
 use crate::failure::Failure;
+use crate::printing::{INPUT, Text, placed_text, printed};
 use crate::report::{Answer, Report};
-use crate::request::{Asked, Form, Request};
+use crate::request::{Asked, PlacedRun, Request};
 use crate::statuses::{DONE, FAILED, REFUSED, WRONG_WORDS};
-use crate::texts::{Texts, first_bytes};
+use crate::texts::{Around, Texts, first_bytes};
+use crate::turns::repeated;
 use sect_answers::{
-    Format, Refusal, ThreadFault, all_outcomes, findings, inspection, locks, program_certificate,
-    program_conflicts, program_document, program_explanation, program_graph, program_in_c,
-    program_listing, put_mistake_place, put_refusal, run_outcome, schedule_chart, schedule_outcome,
-    serial_outcome, threads_named, timed_outcome, verdict,
+    Refusal, ThreadFault, Timed, placed_timed_run, put_mistake_place, put_refusal, threads_named,
+    timed_outcome,
 };
-use sect_lint::LintFormat;
-use sect_run::OpenGate;
 use std::alloc::{AllocError, Global};
 use std::io;
 use std::io::{ErrorKind, Read};
@@ -30,46 +31,30 @@ use std::sync::Wait;
 use std::thread::Threads;
 use std::time::{Clock, CpuClock};
 
-/// The name that stands for standard input.
-pub const INPUT: &str = "-";
-
-/// A request with all that its answers come from: threads, named texts, and the text on standard input.
+/// A request with all that its answers come from: threads, what the run finds around it, the text on standard input.
 #[derive(Drop)]
 struct Setting<'a, R: Threads + Wait + Sync + Clock + CpuClock, T: Texts> {
     rt: &'a R,
-    texts: &'a T,
+    around: &'a Around<'a, T>,
     asked: &'a Asked,
     given: &'a [u8],
-}
-
-/// A source text, and its name.
-#[derive(Clone, Copy)]
-struct Text<'a> {
-    name: &'a str,
-    source: &'a [u8],
-}
-
-/// The file of the text of a name: that on standard input has none.
-fn file_of(name: &str) -> Option<&str>
-    ensures { option_map (λ file. file.now) result ≡ file_by name.now }
-{
-    if name == INPUT { None } else { Some(name) }
 }
 
 /// What is answered to each text of which a request is asked, one after another.
 pub fn reported<R: Threads + Wait + Sync + Clock + CpuClock, T: Texts, I: Read + Drop>(
     rt: &R,
     alloc: Global,
-    texts: &T,
+    around: &Around<'_, T>,
     asked: &Asked,
     input: I,
 ) -> Result<Report, Failure>
-    ensures { IfOk result (IsReport (T.bytes_of texts.now) (I.remaining input) asked.now) }
+    ensures { IfOk result (IsReport (T.bytes_of around.now.texts.now) around.now.screen (I.remaining input)
+        asked.now) }
 {
     let given = given_text(alloc, asked, input)?;
     let setting = Setting {
         rt,
-        texts,
+        around,
         asked,
         given: given.as_slice(),
     };
@@ -104,14 +89,14 @@ fn add_text<R: Threads + Wait + Sync + Clock + CpuClock, T: Texts>(
     name: &str,
     report: &mut Report,
 ) -> Result<(), Failure>
-    ensures { OnOk result (AddsText (T.bytes_of setting.now.texts.now) setting.now.given.now setting.now.asked.now
-        name.now report.old report.new) }
+    ensures { OnOk result (AddsText (T.bytes_of setting.now.around.now.texts.now) setting.now.around.now.screen
+        setting.now.given.now setting.now.asked.now name.now report.old report.new) }
 {
     if name == INPUT {
         return add_answer_to(alloc, setting, name, setting.given, report);
     }
     let most = setting.asked.request.most_kept();
-    match setting.texts.text_of(alloc, name, most) {
+    match setting.around.texts.text_of(alloc, name, most) {
         Ok(source) => add_answer_to(alloc, setting, name, source.as_slice(), report),
         Err(failed) if failed.kind() == ErrorKind::OutOfMemory => Err(Failure::Memory),
         Err(failed) => Ok(add_complaint(alloc, name, failed, report)?),
@@ -126,17 +111,55 @@ fn add_answer_to<R: Threads + Wait + Sync + Clock + CpuClock, T: Texts>(
     source: &[u8],
     report: &mut Report,
 ) -> Result<(), Failure>
-    ensures { OnOk result (AddsRight setting.now.asked.now name.now source.now report.old report.new) }
+    ensures { OnOk result (AddsRight setting.now.around.now.screen setting.now.asked.now name.now source.now
+        report.old report.new) }
 {
     let text = Text { name, source };
     let answer = worked(setting.rt, alloc, &setting.asked.request, text)?;
     put_head(&mut report.text, setting.asked, name)?;
-    report.text.extend_from_slice(answer.text.as_slice())?;
+    add_answer(alloc, setting.around.screen, setting.asked, answer, report)
+}
+
+/// Adds an answer: its text as it is shown, what is said of it on standard error, and its status.
+fn add_answer(
+    alloc: Global,
+    screen: Screen,
+    asked: &Asked,
+    answer: Answer,
+    report: &mut Report,
+) -> Result<(), Failure>
+    ensures { OnOk result (AddsShown screen asked.now answer report.old report.new) }
+{
+    let Answer {
+        status,
+        text,
+        remarks,
+        is_linted,
+    } = answer;
+    let text = shown(
+        alloc,
+        &asked.request,
+        is_painted(asked.colour, screen),
+        text,
+    )?;
+    report.text.extend_from_slice(text.as_slice())?;
+    report.complaints.extend_from_slice(remarks.as_slice())?;
     report
         .complaints
-        .extend_from_slice(answer.remarks.as_slice())?;
-    report.status = report.status.max(answer.status);
+        .extend_from_slice(hint(screen.hints && is_linted))?;
+    report.status = report.status.max(status);
     Ok(())
+}
+
+/// What is said behind a refusal of which `lint` says more.
+fn hint(is_due: bool) -> &'static [u8]
+    ensures { result.now ≡ hint_text is_due }
+{
+    if is_due {
+        b"sectc lint says where and why\n"
+    } else {
+        b""
+    }
 }
 
 /// Adds what stands above the answer to a text.
@@ -199,6 +222,7 @@ fn worked<R: Threads + Wait + Sync + Clock + CpuClock>(
             status: WRONG_WORDS,
             text: unknown_line(alloc, name.as_str(), &near)?.into_bytes(),
             remarks: Vec::new(alloc),
+            is_linted: false,
         }),
     }
 }
@@ -215,6 +239,7 @@ fn answered<R: Threads + Wait + Sync + Clock + CpuClock>(
     ensures answers { IfOk result (IsRightFor text.entry.name.now request.now text.entry.source.now) }
     ensures fails { IfErr result (λ failure. failure ≡ Memory) }
 {
+    let threads = meant_by(alloc, request, threads, text)?;
     match done(rt, alloc, request, threads, text) {
         Ok(answer) => Ok(answer),
         Err(Refusal::Memory) => Err(Failure::Memory),
@@ -222,8 +247,47 @@ fn answered<R: Threads + Wait + Sync + Clock + CpuClock>(
             status: REFUSED,
             text: refusal_line(alloc, request, text, &refusal)?.into_bytes(),
             remarks: Vec::new(alloc),
+            is_linted: refusal.has_report(),
         }),
     }
+}
+
+/// These threads of a request, each as often as it has turns.
+fn spread(alloc: Global, request: &Request, threads: Vec<u16>) -> Result<Vec<u16>, AllocError>
+    ensures { IfOk result (λ spread. spread.items ≡ spread_by request.now threads.items) }
+{
+    match request {
+        Request::Schedule { schedule, .. } | Request::Chart { schedule, .. } => {
+            repeated(alloc, schedule.counts.as_slice(), threads.as_slice())
+        }
+        Request::Placed(placed) => spread_placed(alloc, &placed.of, threads),
+        _ => Ok(threads),
+    }
+}
+
+/// The same of a run with places.
+fn spread_placed(alloc: Global, of: &PlacedRun, threads: Vec<u16>) -> Result<Vec<u16>, AllocError>
+    ensures { IfOk result (λ spread. spread.items ≡ spread_placed_by of.now threads.items) }
+{
+    match of {
+        PlacedRun::Schedule(schedule) | PlacedRun::Chart(schedule) => {
+            repeated(alloc, schedule.counts.as_slice(), threads.as_slice())
+        }
+        _ => Ok(threads),
+    }
+}
+
+/// The threads that the words of a request mean, where they name these: each as often as it has turns.
+fn meant_by(
+    alloc: Global,
+    request: &Request,
+    threads: Vec<u16>,
+    text: Text<'_>,
+) -> Result<Vec<u16>, AllocError>
+    requires { AreMeant text.source.now (threads_of request.now) threads.items }
+    ensures { IfOk result (λ meant. AreMeantBy text.entry.source.now request.now meant.items) }
+{
+    spread(alloc, request, threads)
 }
 
 /// The answer to a request, whose words mean these threads, that is not refused.
@@ -234,23 +298,40 @@ fn done<R: Threads + Wait + Sync + Clock + CpuClock>(
     threads: Vec<u16>,
     text: Text<'_>,
 ) -> Result<Answer, Refusal>
-    requires { AreMeant text.source.now (threads_of request.now) threads.items }
+    requires { AreMeantBy text.source.now request.now threads.items }
     ensures answers { IfOk result (IsDone text.entry.name.now request.now text.entry.source.now) }
     ensures refuses { IfErr result (IsRefusalDue text.entry.name.now request.now text.entry.source.now) }
 {
     if let Request::TimedRun { k, fuel, format } = request {
         let timed = timed_outcome(rt, alloc, text.source, *k, *fuel, *format)?;
-        return Ok(Answer {
-            status: DONE,
-            text: timed.outcome.into_bytes(),
-            remarks: timed.times.into_bytes(),
-        });
+        return Ok(timed_answer(timed));
+    }
+    if let Request::Placed(placed) = request {
+        if let PlacedRun::TimedRun = &placed.of {
+            let timed = placed_timed_run(rt, alloc, placed_text(text), placed.k, placed.fuel)?;
+            return Ok(timed_answer(timed));
+        }
     }
     Ok(Answer {
         status: DONE,
         text: printed(rt, alloc, request, threads, text)?,
         remarks: Vec::new(alloc),
+        is_linted: false,
     })
+}
+
+/// The answer that tells of a run, and what it took.
+fn timed_answer(timed: Timed) -> Answer
+    ensures status { result.status ≡ done_status }
+    ensures text { result.text.items ≡ string_bytes timed.outcome }
+    ensures linted { result.is_linted ≡ false }
+{
+    Answer {
+        status: DONE,
+        text: timed.outcome.into_bytes(),
+        remarks: timed.times.into_bytes(),
+        is_linted: false,
+    }
 }
 
 /// Adds the name of a thread in place of one that is near it.
@@ -334,68 +415,5 @@ fn is_marked(name: &str, refusal: &Refusal) -> bool
     match refusal {
         Refusal::Report(_) => false,
         _ => name != INPUT,
-    }
-}
-
-/// What is printed for a request, whose words mean these threads, that is not refused.
-fn printed<R: Threads + Wait + Sync + Clock + CpuClock>(
-    rt: &R,
-    alloc: Global,
-    request: &Request,
-    threads: Vec<u16>,
-    text: Text<'_>,
-) -> Result<Vec<u8>, Refusal>
-    requires { AreMeant text.source.now (threads_of request.now) threads.items }
-    ensures answers { IfOk result (λ answer. Answers text.entry.name.now request.now text.entry.source.now
-        answer.items) }
-    ensures refuses { IfErr result (IsRefusalDue text.entry.name.now request.now text.entry.source.now) }
-{
-    let source = text.source;
-    match request {
-        Request::Locks { k, format } => Ok(locks(alloc, source, *k, *format)?.into_bytes()),
-        Request::Compile {
-            k,
-            workers,
-            form: Form::Listing,
-        } => program_listing(rt, alloc, source, *k, *workers),
-        Request::Compile {
-            k,
-            workers,
-            form: Form::Document,
-        } => program_document(rt, alloc, source, *k, *workers),
-        Request::Compile {
-            k,
-            workers,
-            form: Form::Certificate,
-        } => program_certificate(rt, alloc, source, *k, *workers),
-        Request::C { k } => program_in_c(alloc, source, *k),
-        Request::Explain { k, format } => program_explanation(alloc, source, *k, *format),
-        Request::Conflicts { k, format } => {
-            Ok(program_conflicts(alloc, source, *k, *format)?.into_bytes())
-        }
-        Request::Serial { fuel, format, .. } => {
-            Ok(serial_outcome(alloc, source, *fuel, threads, *format)?.into_bytes())
-        }
-        Request::Outcomes { fuel, most, format } => {
-            Ok(all_outcomes(alloc, source, *fuel, *most, *format)?.into_bytes())
-        }
-        Request::Schedule {
-            k,
-            fuel,
-            format,
-            ..
-        } => Ok(schedule_outcome(alloc, source, *k, *fuel, threads, *format)?.into_bytes()),
-        Request::Chart { k, fuel, .. } => {
-            Ok(schedule_chart(alloc, source, *k, *fuel, threads)?.into_bytes())
-        }
-        Request::Run { k, fuel, format } | Request::TimedRun { k, fuel, format } => {
-            Ok(run_outcome(rt, alloc, source, *k, *fuel, &OpenGate, *format)?.into_bytes())
-        }
-        Request::Graph { k, section } => program_graph(alloc, source, *k, *section),
-        Request::Lint { k, format } => {
-            Ok(findings(alloc, file_of(text.name), source, *k, *format)?.into_bytes())
-        }
-        Request::Inspect { k } => inspection(alloc, source, *k),
-        Request::Check { k } => Ok(verdict(alloc, source, *k)?.into_bytes()),
     }
 }

@@ -7,13 +7,14 @@ ghost use Rattle.sect_command.specs.Statuses.{failed, wrong_words};
 ghost use Rattle.sect_command.specs.Telling.{IsAnswered, IsAnsweredAloud, IsTold, IsReportTold, no_texts};
 
 use crate::answering::reported;
+use crate::colours::DARK;
 use crate::failure::Failure;
 use crate::options::wanted_of;
 use crate::report::Report;
 use crate::request::Wanted;
 use crate::serving::served;
 use crate::statuses::{FAILED, WRONG_WORDS};
-use crate::texts::{NoTexts, Texts};
+use crate::texts::{Around, NoTexts, Texts};
 use crate::usage::UsageFault;
 use std::alloc::Global;
 use std::io::{Read, Write};
@@ -40,7 +41,8 @@ struct Ended {
 
 /// Judges the words (the program's name first), reads the whole input, works, and writes the answer; or serves an
 /// editor, if they ask for that. It gives the exit status: 0 done, 1 refused, 2 the words are wrong, 3 want of memory,
-/// or the input or the output failed. There are no files: one that the words name can't be read.
+/// or the input or the output failed. There are no files: one that the words name can't be read. What it writes isn't
+/// shown anywhere.
 pub fn command<R: Threads + Wait + Sync + Clock + CpuClock + AllocGlobal, I: Read + Drop, O: Write>(
     rt: &R,
     words: &[String],
@@ -50,7 +52,11 @@ pub fn command<R: Threads + Wait + Sync + Clock + CpuClock + AllocGlobal, I: Rea
     ensures { IsTold (map string_bytes words.now) (I.remaining input) (O.contents output.old) (O.contents output.new)
         result }
 {
-    answered(rt, words, &NoTexts, input, output).status
+    let around = Around {
+        texts: &NoTexts,
+        screen: DARK,
+    };
+    answered(rt, words, &around, input, output).status
 }
 
 /// As `command`, for words that may name texts. What is said of one that can't be read goes to standard error, the
@@ -61,12 +67,13 @@ pub fn command_on_texts<
     I: Read + Drop,
     O: Write,
     E: Write,
->(rt: &R, words: &[String], texts: &T, input: I, writers: &mut Writers<O, E>) -> u8
-    ensures { IsAnsweredAloud (map string_bytes words.now) (T.bytes_of texts.now) (I.remaining input)
+>(rt: &R, words: &[String], around: &Around<'_, T>, input: I, writers: &mut Writers<O, E>) -> u8
+    ensures { IsAnsweredAloud (map string_bytes words.now) (T.bytes_of around.now.texts.now) around.now.screen
+        (I.remaining input)
         (O.contents writers.old.output) (O.contents writers.new.output) (E.contents writers.old.errors)
         (E.contents writers.new.errors) result }
 {
-    let ended = answered(rt, words, texts, input, &mut writers.output);
+    let ended = answered(rt, words, around, input, &mut writers.output);
     if !is_written(&mut writers.errors, ended.complaints.as_slice()) {
         return FAILED;
     }
@@ -79,8 +86,9 @@ fn answered<
     T: Texts,
     I: Read + Drop,
     O: Write,
->(rt: &R, words: &[String], texts: &T, input: I, output: &mut O) -> Ended
-    ensures { IsAnswered (map string_bytes words.now) (T.bytes_of texts.now) (I.remaining input)
+>(rt: &R, words: &[String], around: &Around<'_, T>, input: I, output: &mut O) -> Ended
+    ensures { IsAnswered (map string_bytes words.now) (T.bytes_of around.now.texts.now) around.now.screen
+        (I.remaining input)
         (O.contents output.old) (O.contents output.new) result.status result.complaints.items }
 {
     match wanted_of(rt.alloc(), words) {
@@ -89,7 +97,7 @@ fn answered<
             complaints: Vec::new(rt.alloc()),
         },
         Ok(Wanted::Answers(asked)) => {
-            let report = reported(rt, rt.alloc(), texts, &asked, input);
+            let report = reported(rt, rt.alloc(), around, &asked, input);
             report_told(rt.alloc(), output, report)
         }
         Err(fault) => {

@@ -98,10 +98,34 @@ const CHART: Argument = Argument {
     help: "prints a column for each thread and a row for each turn, with what waits for what",
 };
 
+const VERBOSE: Argument = Argument {
+    name: "verbose",
+    given: Given::Alone,
+    help: "tells the thread and the place of each section, and the sites of each class",
+};
+
+const COLOR: Argument = Argument {
+    name: "color",
+    given: Given::Before("WHEN"),
+    help: "whether the answer is in colours: auto, always or never (default auto)",
+};
+
 const TIME: Argument = Argument {
     name: "time",
     given: Given::Alone,
     help: "tells on standard error what the run took, and what its threads waited for",
+};
+
+const PLACES: Argument = Argument {
+    name: "places",
+    given: Given::Alone,
+    help: "tells where each fault stands",
+};
+
+const TURN_PLACES: Argument = Argument {
+    name: "places",
+    given: Given::Alone,
+    help: "tells where each fault stands; with --chart what each turn has run, and where that stands",
 };
 
 const ORDER: Argument = Argument {
@@ -113,7 +137,7 @@ const ORDER: Argument = Argument {
 const TURNS: Argument = Argument {
     name: "threads",
     given: Given::Unnamed("T"),
-    help: "the threads whose turn it is by number or name, one turn after another",
+    help: "the threads whose turn it is by number or name, one turn after another; T:N is N turns of T",
 };
 
 const FILE: Argument = Argument {
@@ -147,7 +171,7 @@ const COMMANDS: &[Row] = &[
         name: "locks",
         about: "prints the lock set of each section of the source text",
         example: "Example: sectc locks < two_threads.sect",
-        takes: &[K, FORMAT, FILES],
+        takes: &[K, FORMAT, VERBOSE, FILES],
     },
     Row {
         subcommand: Subcommand::Compile,
@@ -168,14 +192,14 @@ const COMMANDS: &[Row] = &[
         name: "explain",
         about: "prints why each section of the source text takes each of its locks",
         example: "Example: sectc explain < two_threads.sect",
-        takes: &[K, FORMAT, FILE],
+        takes: &[K, FORMAT, COLOR, FILE],
     },
     Row {
         subcommand: Subcommand::Conflicts,
         name: "conflicts",
         about: "prints which sections of the source text exclude each other, and where",
         example: "Example: sectc conflicts < two_threads.sect",
-        takes: &[K, FORMAT, FILES],
+        takes: &[K, FORMAT, VERBOSE, COLOR, FILES],
     },
     Row {
         subcommand: Subcommand::Inspect,
@@ -196,14 +220,14 @@ const COMMANDS: &[Row] = &[
         name: "serial",
         about: "runs the program of the source text by whole sections in an order, and prints the outcome",
         example: "Example: sectc serial 1 0 < two_threads.sect",
-        takes: &[FUEL, FORMAT, NAMED_FILE, ORDER],
+        takes: &[FUEL, FORMAT, PLACES, NAMED_FILE, ORDER],
     },
     Row {
         subcommand: Subcommand::Outcomes,
         name: "outcomes",
         about: "prints every outcome that a run of the program of the source text can have",
         example: "Example: sectc outcomes < two_threads.sect",
-        takes: &[FUEL, MOST, FORMAT, FILE],
+        takes: &[FUEL, MOST, FORMAT, PLACES, FILE],
     },
     Row {
         subcommand: Subcommand::Schedule,
@@ -211,21 +235,30 @@ const COMMANDS: &[Row] = &[
         about: "runs the compiled program of the source text turn by turn, and prints the events and the outcome so \
             far",
         example: "Example: sectc schedule --chart 0 0 0 0 0 1 1 1 1 < two_threads.sect",
-        takes: &[K, FORMAT, FUEL, CHART, NAMED_FILE, TURNS],
+        takes: &[
+            K,
+            FORMAT,
+            FUEL,
+            CHART,
+            TURN_PLACES,
+            COLOR,
+            NAMED_FILE,
+            TURNS,
+        ],
     },
     Row {
         subcommand: Subcommand::Run,
         name: "run",
         about: "runs the compiled program of the source text by threads, and prints the outcome",
         example: "Example: sectc run < two_threads.sect",
-        takes: &[K, FORMAT, FUEL, TIME, FILE],
+        takes: &[K, FORMAT, FUEL, TIME, PLACES, FILE],
     },
     Row {
         subcommand: Subcommand::Lint,
         name: "lint",
         about: "tells what is wrong with the source text, and where",
         example: "Example: sectc lint < linked_list.sect",
-        takes: &[K, LINT_FORMAT, FILES],
+        takes: &[K, LINT_FORMAT, COLOR, FILES],
     },
     Row {
         subcommand: Subcommand::Lsp,

@@ -4,18 +4,21 @@ ghost use Rattle.std.specs.Prelude.{◌≡◌, ℕ, List, IfOk, map};
 ghost use Rattle.std.specs.String.{string_bytes};
 ghost use Rattle.clap.specs.Matches.{found_of};
 ghost use Rattle.sect_command.specs.{Asking.{IsMade, IsRequested, files_in}, Saying.{SaysK, SaysForm}};
+ghost use Rattle.sect_command.specs.Asking.{IsPlacedByThreads, IsPlacedSchedule};
 ghost use Rattle.sect_command.specs.Wanting.{IsMadeBy, IsWanted, Makes};
 ghost use Rattle.sect_command.specs.declared.subcommand.Subcommand.TheVariants as subcommand;
 
+use crate::colours::colour_of;
 use crate::formats::{format_of, lint_format_of};
 use crate::grammar::{examples, grammar, subcommand_named};
 use crate::numbers::{DEFAULT_K, DEFAULT_WORKERS, FUEL, STATES, number_of, number_or};
-use crate::request::{Asked, Form, Request, Wanted};
+use crate::request::{Asked, Form, Placed, PlacedRun, Request, Turns, Wanted};
 use crate::running::{threads_of, told_count};
 use crate::subcommand::Subcommand;
+use crate::turns::turns_of;
 use crate::usage::UsageFault;
 use clap::ArgMatches;
-use sect_answers::Format;
+use sect_answers::{Format, Verbose};
 use std::alloc::Global;
 
 /// What the words ask for, the program's name first.
@@ -54,7 +57,12 @@ fn wanted_from(
         None => Ok(Wanted::Session),
         Some(request) => {
             let files = files_of(alloc, options)?;
-            Ok(Wanted::Answers(Asked { request, files }))
+            let colour = colour_of(alloc, options)?;
+            Ok(Wanted::Answers(Asked {
+                request,
+                files,
+                colour,
+            }))
         }
     }
 }
@@ -121,8 +129,14 @@ fn locks_request(alloc: Global, options: &ArgMatches<'_>) -> Result<Request, Usa
     ensures { IfOk result (λ r. (behind : List (List ℕ)) → IsMade subcommand.Locks (found_of options.now) behind r) }
 {
     let k = k_of(alloc, options)?;
-    let format = format_of(alloc, options)?;
-    Ok(Request::Locks { k, format })
+    match (options.get_flag("verbose"), format_of(alloc, options)?) {
+        (false, format) => Ok(Request::Locks { k, format }),
+        (true, Format::Text) => Ok(Request::Verbose {
+            k,
+            of: Verbose::Locks,
+        }),
+        (true, Format::Json) => Err(UsageFault::TextOnly("verbose")),
+    }
 }
 
 /// What `c` asks for by its options.
@@ -148,8 +162,14 @@ fn conflicts_request(alloc: Global, options: &ArgMatches<'_>) -> Result<Request,
         → IsMade subcommand.Conflicts (found_of options.now) behind r) }
 {
     let k = k_of(alloc, options)?;
-    let format = format_of(alloc, options)?;
-    Ok(Request::Conflicts { k, format })
+    match (options.get_flag("verbose"), format_of(alloc, options)?) {
+        (false, format) => Ok(Request::Conflicts { k, format }),
+        (true, Format::Text) => Ok(Request::Verbose {
+            k,
+            of: Verbose::Conflicts,
+        }),
+        (true, Format::Json) => Err(UsageFault::TextOnly("verbose")),
+    }
 }
 
 /// What `inspect` asks for by its options.
@@ -196,12 +216,19 @@ fn serial_request(
 {
     let fuel = FUEL.of(alloc, options)?;
     let order = threads_of(alloc, options, untold)?;
-    let format = format_of(alloc, options)?;
-    Ok(Request::Serial {
-        fuel,
-        order,
-        format,
-    })
+    match (options.get_flag("places"), format_of(alloc, options)?) {
+        (false, format) => Ok(Request::Serial {
+            fuel,
+            order,
+            format,
+        }),
+        (true, Format::Text) => Ok(Request::Placed(Placed {
+            k: DEFAULT_K,
+            fuel,
+            of: PlacedRun::Serial(order),
+        })),
+        (true, Format::Json) => Err(UsageFault::TextOnly("places")),
+    }
 }
 
 /// What `outcomes` asks for by its options.
@@ -210,8 +237,15 @@ fn outcomes_request(alloc: Global, options: &ArgMatches<'_>) -> Result<Request, 
 {
     let fuel = FUEL.of(alloc, options)?;
     let most = STATES.of(alloc, options)?;
-    let format = format_of(alloc, options)?;
-    Ok(Request::Outcomes { fuel, most, format })
+    match (options.get_flag("places"), format_of(alloc, options)?) {
+        (false, format) => Ok(Request::Outcomes { fuel, most, format }),
+        (true, Format::Text) => Ok(Request::Placed(Placed {
+            k: DEFAULT_K,
+            fuel,
+            of: PlacedRun::Outcomes(most),
+        })),
+        (true, Format::Json) => Err(UsageFault::TextOnly("places")),
+    }
 }
 
 /// What `schedule` asks for by its options, and by the threads of which `clap` wasn't told.
@@ -224,7 +258,11 @@ fn schedule_request(
 {
     let k = k_of(alloc, options)?;
     let fuel = FUEL.of(alloc, options)?;
-    let schedule = threads_of(alloc, options, untold)?;
+    let schedule = turns_of(alloc, options, untold)?;
+    if options.get_flag("places") {
+        let of = placed_schedule(alloc, options, schedule)?;
+        return Ok(Request::Placed(Placed { k, fuel, of }));
+    }
     match (options.get_flag("chart"), format_of(alloc, options)?) {
         (false, format) => Ok(Request::Schedule {
             k,
@@ -237,17 +275,47 @@ fn schedule_request(
     }
 }
 
+/// How `schedule` asks for these turns, where places are told.
+fn placed_schedule(
+    alloc: Global,
+    options: &ArgMatches<'_>,
+    schedule: Turns,
+) -> Result<PlacedRun, UsageFault>
+    ensures { IfOk result (IsPlacedSchedule (found_of options.now) schedule) }
+{
+    match (options.get_flag("chart"), format_of(alloc, options)?) {
+        (false, Format::Text) => Ok(PlacedRun::Schedule(schedule)),
+        (true, Format::Text) => Ok(PlacedRun::Chart(schedule)),
+        (_, Format::Json) => Err(UsageFault::TextOnly("places")),
+    }
+}
+
 /// What `run` asks for by its options.
 fn run_request(alloc: Global, options: &ArgMatches<'_>) -> Result<Request, UsageFault>
     ensures { IfOk result (λ r. (behind : List (List ℕ)) → IsMade subcommand.Run (found_of options.now) behind r) }
 {
     let k = k_of(alloc, options)?;
     let fuel = FUEL.of(alloc, options)?;
+    if options.get_flag("places") {
+        let of = placed_run(alloc, options)?;
+        return Ok(Request::Placed(Placed { k, fuel, of }));
+    }
     let format = format_of(alloc, options)?;
     if options.get_flag("time") {
         Ok(Request::TimedRun { k, fuel, format })
     } else {
         Ok(Request::Run { k, fuel, format })
+    }
+}
+
+/// How `run` asks for a run, where places are told.
+fn placed_run(alloc: Global, options: &ArgMatches<'_>) -> Result<PlacedRun, UsageFault>
+    ensures { IfOk result (IsPlacedByThreads (found_of options.now)) }
+{
+    match (options.get_flag("time"), format_of(alloc, options)?) {
+        (false, Format::Text) => Ok(PlacedRun::Run),
+        (true, Format::Text) => Ok(PlacedRun::TimedRun),
+        (_, Format::Json) => Err(UsageFault::TextOnly("places")),
     }
 }
 

@@ -2,17 +2,25 @@
 
 ghost use Rattle.std.specs.Prelude.{◌≡◌, true};
 ghost use Rattle.sect_lemmas.specs.Lists.{Has};
-ghost use Rattle.sect_command.specs.Requests.{input_name, most_kept_of, path_length_of, threads_of};
+ghost use Rattle.sect_command.specs.Requests.{input_name, most_kept_of, path_length_of, threads_of, threads_placed};
 ghost use Rattle.sect_command.specs.Reporting.{has_headings as has_headings_of, names_of};
 ghost use Rattle.sect_command.specs.Reporting.{is_document as is_document_of};
 
-use crate::answering::INPUT;
+use crate::colours::Colour;
 use crate::numbers::DEFAULT_K;
-use sect_answers::{Format, ThreadWord};
+use crate::printing::INPUT;
+use sect_answers::{Format, ThreadWord, Verbose};
 use sect_lint::LintFormat;
 
 /// One byte more than a text may have.
 const MOST_KEPT: u64 = 1048577;
+
+/// Turns of threads, one after another: of each so many as stand at its place.
+#[derive(Drop)]
+pub struct Turns {
+    pub threads: Vec<ThreadWord>,
+    pub counts: Vec<u32>,
+}
 
 /// What is answered to a whole text.
 #[derive(Drop)]
@@ -42,6 +50,11 @@ pub enum Request {
         k: u16,
         format: Format,
     },
+    /// One of the two, with what stands behind its numbers, where paths have at most k fields.
+    Verbose {
+        k: u16,
+        of: Verbose,
+    },
     /// The control-flow graphs of all sections, or of the one of this number, where paths have at most k fields.
     Graph {
         k: u16,
@@ -68,19 +81,19 @@ pub enum Request {
         most: u32,
         format: Format,
     },
-    /// A run by the turns of these threads, each thread with this much fuel, of the program that is compiled with paths
-    /// of at most k fields.
+    /// A run by these turns, each thread with this much fuel, of the program that is compiled with paths of at most k
+    /// fields.
     Schedule {
         k: u16,
         fuel: u32,
-        schedule: Vec<ThreadWord>,
+        schedule: Turns,
         format: Format,
     },
     /// The same run, as a chart.
     Chart {
         k: u16,
         fuel: u32,
-        schedule: Vec<ThreadWord>,
+        schedule: Turns,
     },
     /// A run by threads, each with this much fuel, of the program that is compiled with paths of at most k fields.
     Run {
@@ -94,10 +107,52 @@ pub enum Request {
         fuel: u32,
         format: Format,
     },
+    /// One of these runs, with where its faults stand.
+    Placed(Placed),
     /// Whether a certificate is valid for the source behind it, with paths of at most k fields.
     Check {
         k: u16,
     },
+}
+
+/// A run of the program that is compiled with paths of at most k fields, each thread with this much fuel.
+#[derive(Drop)]
+pub struct Placed {
+    pub k: u16,
+    pub fuel: u32,
+    pub of: PlacedRun,
+}
+
+/// Of what the places of faults are told.
+#[derive(Drop)]
+pub enum PlacedRun {
+    /// A run by whole sections of these threads.
+    Serial(Vec<ThreadWord>),
+    /// All outcomes, where they lead to at most so many states.
+    Outcomes(u32),
+    /// A run by these turns.
+    Schedule(Turns),
+    /// The same run, as a chart that says what each turn has run.
+    Chart(Turns),
+    /// A run by threads.
+    Run,
+    /// The same run, and on standard error what it took and what its threads waited for.
+    TimedRun,
+}
+
+impl PlacedRun {
+    /// The threads of an order or a schedule, as the words name them; of another run none.
+    fn threads(&self) -> &[ThreadWord]
+        ensures { result.now ≡ threads_placed self.now }
+    {
+        match self {
+            PlacedRun::Serial(order) => order.as_slice(),
+            PlacedRun::Schedule(schedule) | PlacedRun::Chart(schedule) => {
+                schedule.threads.as_slice()
+            }
+            _ => &[],
+        }
+    }
 }
 
 impl Request {
@@ -129,6 +184,7 @@ impl Request {
             | Request::C { k }
             | Request::Explain { k, .. }
             | Request::Conflicts { k, .. }
+            | Request::Verbose { k, .. }
             | Request::Schedule { k, .. }
             | Request::Chart { k, .. }
             | Request::Run { k, .. }
@@ -137,6 +193,7 @@ impl Request {
             | Request::Lint { k, .. }
             | Request::Inspect { k }
             | Request::Check { k } => *k,
+            Request::Placed(placed) => placed.k,
             Request::Serial { .. } | Request::Outcomes { .. } => DEFAULT_K,
         }
     }
@@ -159,19 +216,21 @@ impl Request {
         match self {
             Request::Serial { order, .. } => order.as_slice(),
             Request::Schedule { schedule, .. } | Request::Chart { schedule, .. } => {
-                schedule.as_slice()
+                schedule.threads.as_slice()
             }
+            Request::Placed(placed) => placed.of.threads(),
             _ => &[],
         }
     }
 }
 
-/// A request, and the names of the files whose texts it is asked of, in order. Without names, and where one is `-`,
-/// that is the text on standard input.
+/// A request, the names of the files whose texts it is asked of, in order, and when the answers are painted. Without
+/// names, and where one is `-`, that is the text on standard input.
 #[derive(Drop)]
 pub struct Asked {
     pub request: Request,
     pub files: Vec<String>,
+    pub colour: Colour,
 }
 
 impl Asked {

@@ -48,7 +48,7 @@ pub fn told_count(words: &[String]) -> usize
 }
 
 /// How a word names a thread: by its number, or by a name.
-fn thread_of(alloc: Global, word: &str) -> Result<ThreadWord, UsageFault>
+pub fn thread_of(alloc: Global, word: &str) -> Result<ThreadWord, UsageFault>
     ensures { IfOk result (SaysThread word.now) }
 {
     match number(word, MOST) {

@@ -3,6 +3,7 @@
 ghost use Rattle.std.specs.Prelude.{◌≡◌, ◌≤◌, ◌<◌, ◌+◌, ℕ, List, Option, None, IfOk, IfSome, length, take};
 ghost use Rattle.sect_front.specs.Limits.{most_bytes};
 
+use crate::colours::Screen;
 use std::alloc::Global;
 use std::io::{ErrorKind, Read};
 use std::rt::Files;
@@ -44,6 +45,13 @@ impl Texts for NoTexts {
     fn text_of(&self, _alloc: Global, _name: &str, _most: u64) -> io::Result<Vec<u8>> {
         Err(io::Error::from(ErrorKind::NotFound))
     }
+}
+
+/// What a run finds around it: the texts that its words may name, and what its streams are shown on.
+#[derive(Clone, Copy)]
+pub struct Around<'a, T: Texts> {
+    pub texts: &'a T,
+    pub screen: Screen,
 }
 
 /// How many bytes are dropped at a time.

@@ -27,6 +27,9 @@ pub enum UsageFault {
     /// A word in the place of a thread's number that isn't decimal digits alone or is too great.
     #[error("error: invalid thread '{0}': a number from 0 to 65535 is wanted\n")]
     Thread(String),
+    /// A word that gives a thread no number of turns behind `:`, or too great a one.
+    #[error("error: invalid turns '{0}': a number from 1 to 1000000 is wanted behind ':'\n")]
+    Turns(String),
     /// A word of digits alone in the place of a file.
     #[error("error: unexpected argument '{0}': a file of digits alone is named './{0}'\n")]
     NumberForFile(String),
@@ -36,6 +39,9 @@ pub enum UsageFault {
     /// A value of `--format` that is no form of `lint`.
     #[error("error: invalid value '{0}' for '--format': text, json or sarif is wanted\n")]
     LintFormat(String),
+    /// A value of `--color` that says nothing of colours.
+    #[error("error: invalid value '{0}' for '--color': auto, always or never is wanted\n")]
+    Colour(String),
     /// JSON where the named option makes a text.
     #[error("error: invalid value 'json' for '--format': with '--{0}' text is wanted\n")]
     TextOnly(&'static str),

@@ -6,9 +6,11 @@
 mod tests;
 
 use sect_command::{
-    FAILED, OUT_OF_MEMORY, SystemFiles, WRONG_WORDS, Writers, command_on_texts, told,
+    Around, FAILED, OUT_OF_MEMORY, Screen, SystemFiles, WRONG_WORDS, Writers, command_on_texts,
+    shows_colours, told,
 };
 use std::env::FillError;
+use std::io::IsTerminal;
 use std::process::ExitCode;
 use std::{env, io, str};
 
@@ -20,15 +22,44 @@ fn main(rt: HostRuntime) -> ExitCode {
         output: rt.stdout(),
         errors: rt.stderr(),
     };
-    let files = SystemFiles { rt: &rt };
+    let around = Around {
+        texts: &SystemFiles { rt: &rt },
+        screen: screen_of(&rt, &writers),
+    };
     let status = match arguments(&rt) {
-        Ok(words) => command_on_texts(&rt, words.as_slice(), &files, rt.stdin(), &mut writers),
+        Ok(words) => command_on_texts(&rt, words.as_slice(), &around, rt.stdin(), &mut writers),
         Err(refused) if refused.kind() == io::ErrorKind::OutOfMemory => {
             told(&mut writers.output, FAILED, OUT_OF_MEMORY)
         }
         Err(_) => WRONG_WORDS,
     };
     ExitCode::from(status)
+}
+
+/// What the streams of the program are shown on.
+fn screen_of<O: io::Write + IsTerminal, E: io::Write + IsTerminal>(
+    rt: &impl std::rt::Env,
+    writers: &Writers<O, E>,
+) -> Screen {
+    let (mut no_color, mut term) = ([0u8; SHORT], [0u8; SHORT]);
+    Screen {
+        colours: shows_colours(
+            writers.output.is_terminal(),
+            variable(rt, "NO_COLOR", &mut no_color),
+            variable(rt, "TERM", &mut term),
+        ),
+        hints: writers.errors.is_terminal(),
+    }
+}
+
+/// The value of an environment variable, which is empty where it isn't set, and of a longer one as many bytes as there
+/// is room for.
+fn variable<'a>(rt: &impl std::rt::Env, name: &str, room: &'a mut [u8]) -> &'a [u8] {
+    match rt.var(name, room) {
+        Ok(length) => &room[..length],
+        Err(FillError::TooLong) => room,
+        Err(FillError::NotPresent) => &room[..0],
+    }
 }
 
 /// The words of the command line, the program's name first. An argument that is no text fails.

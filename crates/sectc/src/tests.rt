@@ -7,6 +7,7 @@ mod hostile;
 mod names;
 mod programs;
 mod run;
+mod screens;
 mod sessions;
 mod streams;
 mod stretch;

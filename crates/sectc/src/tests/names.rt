@@ -1,7 +1,7 @@
 //! What `lint` says of files whose names no case can have.
 
 use super::words_of;
-use sect_command::{REFUSED, Texts, Writers, command_on_texts};
+use sect_command::{Around, REFUSED, Screen, Texts, Writers, command_on_texts};
 use std::alloc::Global;
 use std::io;
 use std::process::Abort;
@@ -33,12 +33,18 @@ fn expect_told(
     part: &str,
 ) -> Result<(), Fail> {
     let words = words_of(rt.alloc(), line)?;
-    let texts = OneText { text: b"$" };
+    let around = Around {
+        texts: &OneText { text: b"$" },
+        screen: Screen {
+            colours: false,
+            hints: false,
+        },
+    };
     let mut writers = Writers {
         output: Vec::new(rt.alloc()),
         errors: Vec::new(rt.alloc()),
     };
-    let status = command_on_texts(rt, words.as_slice(), &texts, &b""[..], &mut writers);
+    let status = command_on_texts(rt, words.as_slice(), &around, &b""[..], &mut writers);
     assert_eq!(rt; status, REFUSED, "{line}");
     let shown = super::text_of(rt.alloc(), writers.output.as_slice())?;
     assert!(rt; shown.contains(part), "{line}: {shown}");

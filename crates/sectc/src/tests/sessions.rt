@@ -38,8 +38,9 @@ const OPEN: &str =
 
 const WRONG: &str =
     "{\"jsonrpc\":\"2.0\",\"method\":\"textDocument/publishDiagnostics\",\"params\":{\"diagnostics\":[\
-    {\"code\":12,\"message\":\"wrong type: both sides have one type, `+ - * < <=` and `print` take integers, and only \
-    a local is assigned to\",\"range\":{\"end\":{\"character\":26,\"line\":0},\"start\":{\"character\":18,\"line\":0}},\
+    {\"code\":12,\"message\":\"wrong type: `x` is an int, `null` is a reference\\nboth sides have one type, \
+    `+ - * < <=` and `print` take integers, and only a local is assigned to\",\
+    \"range\":{\"end\":{\"character\":26,\"line\":0},\"start\":{\"character\":18,\"line\":0}},\
     \"relatedInformation\":[],\"severity\":1,\"source\":\"sectc\"}],\"uri\":\"u\"}}";
 
 /// The null becomes a 7.

@@ -16,7 +16,8 @@ loop-name-init g c =
     let empty : IsEmpty start =
     record { status = refl; text = c.new.ensures.items; complaints = c.new-2.ensures.items } in
     let files = c.args.asked.now.files.items in
-    let bytes = g.T.Texts.bytes_of c.args.texts.now in
+    let bytes = g.T.Texts.bytes_of c.args.around.now.texts.now in
+    let screen = c.args.around.now.screen in
     let given = c.as_slice.result.now in
     let asked = c.args.asked.now in
     let report = c.if-is_empty.report in
@@ -25,13 +26,15 @@ loop-name-init g c =
       | then-is_empty+in_ok-add_text w ↦ (
           let none : files ≡ [] = nil_from_length files
           (eqb-true (length files) 0 (ap (λ n. n == 0) count ∙ sym c.is_empty.ensures ∙ w.if-is_empty.true)) in
-          let added : AddsText bytes given asked input_name start report =
-          subst (λ r. AddsText bytes given asked input_name start r) (sym w.report-is) w.in_ok-add_text.ensures in (
+          let added : AddsText bytes screen given asked input_name start report =
+          subst (λ r. AddsText bytes screen given asked input_name start r) (sym w.report-is)
+          w.in_ok-add_text.ensures in (
             start,
             empty,
             λ after more. (
-                let left = subst (λ xs. AddsTexts bytes given asked (map string_bytes xs) report after) none more in
-                subst (λ xs. AddsTexts bytes given asked (or_input (map string_bytes xs)) start after) (sym none)
+                let left =
+                subst (λ xs. AddsTexts bytes screen given asked (map string_bytes xs) report after) none more in
+                subst (λ xs. AddsTexts bytes screen given asked (or_input (map string_bytes xs)) start after) (sym none)
                 (report, added, left)
                 ),
           )
@@ -45,9 +48,9 @@ loop-name-init g c =
           let same : start ≡ report = sym w.report-is in (
             start,
             empty,
-            λ after more. subst (λ names. AddsTexts bytes given asked names start after)
+            λ after more. subst (λ names. AddsTexts bytes screen given asked names start after)
                 (sym (or_input_is (map string_bytes files) some))
-                (subst (λ r. AddsTexts bytes given asked (map string_bytes files) r after) (sym same) more),
+                (subst (λ r. AddsTexts bytes screen given asked (map string_bytes files) r after) (sym same) more),
           )
           )
     ]
@@ -55,7 +58,8 @@ loop-name-init g c =
 pub loop-name-preserved : goal.loop-name-preserved
 loop-name-preserved g c =
     let files = c.args.asked.now.files.items in
-    let bytes = g.T.Texts.bytes_of c.args.texts.now in
+    let bytes = g.T.Texts.bytes_of c.args.around.now.texts.now in
+    let screen = c.args.around.now.screen in
     let given = c.as_slice.result.now in
     let asked = c.args.asked.now in
     let i = c.loop-name.name-index in
@@ -65,12 +69,12 @@ loop-name-preserved g c =
     let within : i < length files = omega arith in
     let is = subst (λ xs. name ≡ get_or xs i name) c.deref-name-items.ensures.value c.name-item.is in
     let left = names_left string_bytes files i name within is in
-    let added : AddsText bytes given asked (string_bytes name) before next =
-    subst (λ n. AddsText bytes given asked n before next) c.as_str.ensures.value c.in_ok-add_text-2.ensures in (
+    let added : AddsText bytes screen given asked (string_bytes name) before next =
+    subst (λ n. AddsText bytes screen given asked n before next) c.as_str.ensures.value c.in_ok-add_text-2.ensures in (
       c.loop-name.invariant.0,
       c.loop-name.invariant.1,
       λ after more. c.loop-name.invariant.2 after
-          (subst (λ names. AddsTexts bytes given asked names before after) (sym left) (next, added, more)),
+          (subst (λ names. AddsTexts bytes screen given asked names before after) (sym left) (next, added, more)),
     )
 
 pub returns : goal.returns
@@ -85,6 +89,7 @@ returns g c =
       start = c.loop-name.invariant.0;
       empty = c.loop-name.invariant.1;
       texts = c.loop-name.invariant.2 c.loop-name.report
-          (subst (λ xs. AddsTexts (g.T.Texts.bytes_of c.args.texts.now) c.as_slice.result.now c.args.asked.now
-          (map string_bytes xs) c.loop-name.report c.loop-name.report) (sym none) refl);
+          (subst (λ xs. AddsTexts (g.T.Texts.bytes_of c.args.around.now.texts.now) c.args.around.now.screen
+          c.as_slice.result.now c.args.asked.now (map string_bytes xs) c.loop-name.report c.loop-name.report)
+          (sym none) refl);
     }

@@ -21,4 +21,5 @@ returns-in_ok-unknown_line-in-Err-Unknown-clause-answers g c =
       status = refl;
       line = (name, near, due, line);
       remarks = c.new.ensures.items;
+      linted = refl;
     }))

@@ -13,8 +13,9 @@ returns-in-Ok-Answers g c = elim c.report_told.ensures [
     inr (
       c.in-Ok-Answers.asked,
       subst (IsWanted (map string_bytes c.args.words.now)) c.in-Ok-Answers.field-0-is c.in-Ok-Answers.ensures,
-      subst (λ (r : Result Report Failure). IfOk r (IsReport (g.T.Texts.bytes_of c.args.texts.now)
-          (g.I.Read.remaining c.args.input) c.in-Ok-Answers.asked)) told.1 c.reported-report.ensures,
+      subst (λ (r : Result Report Failure). IfOk r (IsReport (g.T.Texts.bytes_of c.args.around.now.texts.now)
+          c.args.around.now.screen (g.I.Read.remaining c.args.input) c.in-Ok-Answers.asked)) told.1
+          c.reported-report.ensures,
     ),
     told.2,
   ))

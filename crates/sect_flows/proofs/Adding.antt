@@ -1,14 +1,12 @@
 -- Locals at points that are added to others.
-use Rattle.std.proofs.Common.{◌≡◌, ◌↔◌, ◌⊎◌, ◌++◌, ◌∙◌, List, [], ◌∷◌, Bool, true, false, refl, sym, ap, subst, rules, inl, inr}
+use Rattle.std.proofs.Common.{◌≡◌, ◌↔◌, ◌⊎◌, ◌++◌, ◌∙◌, List, [], ◌∷◌, Bool, true, false, refl, sym, ap, subst, inl, inr}
 use Rattle.std.proofs.lemmas.List.{append-nil, append_assoc}
-use Rattle.std.specs.{Prelude.{if◌then◌else◌}, Bool.{Decides}, List.{list_any}}
+use Rattle.std.specs.{Prelude.{if◌then◌else◌}, List.{list_any}}
 use Rattle.sect_lemmas.specs.Lists.{Has}
 use Rattle.sect_lemmas.proofs.Inserting.{inserted}
 use Rattle.sect_flows.specs.{declared.point.LocalAt.{LocalAt}, steps.Adding.{Adds}}
+use Rattle.sect_flows.proofs.shared.Telling.{local_tells}
 use Rattle.sect_flows.specs.contracts.point.LocalAtPartialEq.TheImpl.{ghosts as the_local_eq}
-
-pub local_tells : (h k : LocalAt) → Decides (the_local_eq.eq h k) (h ≡ k)
-local_tells h k = search rules
 
 pub adds_one : (ks new : List LocalAt) (h : LocalAt)
     → new ≡ (if list_any (the_local_eq.eq h) ks then ks else ks ++ h ∷ [])

@@ -1,3 +1,4 @@
 mod Adding
 mod Finding
 mod Searching
+pub mod shared

@@ -35,15 +35,18 @@ followed_on g t p x old new n within done added = record {
   right = λ k h. elim ((added.each k).0 h) [
     | inl before ↦ done.right k before
     | inr next ↦ (let (m, at, flow) = next in
-    may_flow_on g t p x m k (done.right m (Has-slice_get old n m at)) flow)
+        may_flow_on g t p x m k (done.right m (Has-slice_get old n m at)) flow)
   ];
   begun = λ k set. (added.each k).1 (inl (done.begun k set));
   followed = λ i h k lt at flow. elim (cases_lt i n) [
     | inl less ↦ (added.each k).1 (inl (done.followed i h k less
         (still_at old new i h added.grown (omega (arith, less, within)) at) flow))
     | inr more ↦ (let same : i ≡ n = omega (arith, lt, more) in
-    (added.each k).1 (inr (h, still_at old new n h added.grown within (subst (λ j. slice_get new j ≡ Some h) same at),
-        flow)))
+        (added.each k).1 (inr (
+          h,
+          still_at old new n h added.grown within (subst (λ j. slice_get new j ≡ Some h) same at),
+          flow,
+        )))
   ];
 }
 

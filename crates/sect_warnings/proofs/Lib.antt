@@ -11,3 +11,4 @@ mod ClassMarks
 mod Hints
 mod Using
 mod Parting
+mod Losing

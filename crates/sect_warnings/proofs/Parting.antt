@@ -21,6 +21,7 @@ use Rattle.sect_warnings.specs.declared.warning.Warning.{Warning}
 use Rattle.sect_warnings.specs.Apart.{ExcludeByPart, pair_warning, is_of, firsts_behind}
 use Rattle.sect_warnings.specs.{Fields.{share_field, share_record}, steps.Usage.{is_all, by_part}}
 use Rattle.sect_warnings.specs.Warnings.{IsDue, AreOfPairs, AreWarnings, to_section}
+use Rattle.sect_warnings.proofs.Losing.{flows_due}
 use Rattle.sect_modes.specs.declared.key.Key.TheVariants as key
 
 was_false : (b : Bool) → not b ≡ true → b ≡ false
@@ -146,10 +147,13 @@ each_of_both P xs ys of_xs of_ys k d within =
 
 -- each warning is due
 pub all_due : (c : CompiledView) (ws : List Warning) → AreWarnings c ws → All (IsDue c) ws
-all_due c ws are =
-    subst (All (IsDue c)) (sym are.4) (each_of_both (IsDue c) are.0 are.1
-    (λ w h. (selected (IsDue c) (to_section c (length (sections_of c.scheme.program.texts))) are.0 are.2 w h).1)
-    (λ w h. pairs_due c are.1 are.3 w h))
+all_due c ws (one, two, three, alone, paired, flowing, is) =
+    subst (All (IsDue c)) (sym is) (each_of_both (IsDue c) (one ++ two) three
+    (λ w h. elim (Has-cases one two w h) [
+      | inl first ↦ (selected (IsDue c) (to_section c (length (sections_of c.scheme.program.texts))) one alone w first).1
+      | inr second ↦ pairs_due c two paired w second
+    ])
+    (flows_due c three flowing))
 
 -- sections that are compared are there
 pub compared_within : (c : CompiledView) (i j : ℕ) → AreCompared c i j

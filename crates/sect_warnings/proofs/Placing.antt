@@ -91,12 +91,12 @@ zip_from_places R (x ∷ xs) (y ∷ ys) d e same each =
     (each 0 (omega arith), zip_from_places R xs ys d e (omega (arith, same)) (λ k lt. each (suc k) (omega (arith, lt))))
 
 -- a warning with its place, before what hints come to
-pub record IsBarePut (source : List ℕ) (c : CompiledView) (spans : List Span) (w : Warning) (p : PlacedView)
+pub record IsBarePut (source : List ℕ) (names : List NameSpan) (c : CompiledView) (spans : List Span) (w : Warning) (p : PlacedView)
     (t : Option Trial) : Type 0
   where
     pub told : p.told ≡ told.Section w
     pub mark : BareView
-    pub marks : IsBareMark source c w mark
+    pub marks : IsBareMark source names c w mark
     pub there : mark.item < length spans
     pub span : p.span ≡ get_or spans mark.item no_span
     pub label : p.label ≡ mark.label
@@ -108,7 +108,7 @@ no_warning = record { section = 0; finding = finding.NoLock; item = 0 }
 
 -- what a warning's mark is with what its hint comes to
 marked_with : (source : List ℕ) (names : List NameSpan) (c : CompiledView) (i item : ℕ) (f : Finding) (m : BareView)
-    (said : List ℕ) → IsBareFor source c i item f m → IsTrialSaid source names c m.trial said
+    (said : List ℕ) → IsBareFor source names c i item f m → IsTrialSaid source names c m.trial said
     → IsMarkedFor source names c i item f (record { item = m.item; label = m.label; note = m.note ++ said })
 marked_with source names c i item finding.NoLock m said marks says =
     let none : said ≡ [] = subst (λ t. IsTrialSaid source names c t said) marks.3 says in
@@ -120,6 +120,9 @@ marked_with source names c i item (finding.NeverFilled j x) m said marks says =
     let none : said ≡ [] = subst (λ t. IsTrialSaid source names c t said) marks.3 says in
     (marks.0, marks.1, ap (λ s. m.note ++ s) none ∙ append-nil m.note ∙ marks.2)
 marked_with source names c i item (finding.NoCommonField j) m said marks says =
+    let none : said ≡ [] = subst (λ t. IsTrialSaid source names c t said) marks.3 says in
+    (marks.0, marks.1, ap (λ s. m.note ++ s) none ∙ append-nil m.note ∙ marks.2)
+marked_with source names c i item (finding.LostUpdate u) m said marks says =
     let none : said ≡ [] = subst (λ t. IsTrialSaid source names c t said) marks.3 says in
     (marks.0, marks.1, ap (λ s. m.note ++ s) none ∙ append-nil m.note ∙ marks.2)
 marked_with source names c i item (finding.ClassLock n e) m said (r, marked, bare, trial) says = (
@@ -146,34 +149,34 @@ module _ (source : List ℕ) (names : List NameSpan) (c : CompiledView) (spans :
       pub placed_many : length placed ≡ m
       pub trials_many : length trials ≡ m
       pub each : (k : ℕ) → k < m
-          → IsBarePut source c spans (get_or found k no_warning) (get_or placed k no_placed) (get_or trials k None)
+          → IsBarePut source names c spans (get_or found k no_warning) (get_or placed k no_placed) (get_or trials k None)
 
     pub none_put : ArePut 0 [] []
     none_put = record { placed_many = refl; trials_many = refl; each = λ k lt. absurd (omega (arith, lt)) }
 
     pub one_put : (m : ℕ) (placed : List PlacedView) (trials : List (Option Trial)) (p : PlacedView) (t : Option Trial)
-        → ArePut m placed trials → IsBarePut source c spans (get_or found m no_warning) p t
+        → ArePut m placed trials → IsBarePut source names c spans (get_or found m no_warning) p t
         → ArePut (m + 1) (placed ++ p ∷ []) (trials ++ t ∷ [])
     one_put m placed trials p t put one = record {
       placed_many = omega (arith, length-append placed (p ∷ []), put.placed_many);
       trials_many = omega (arith, length-append trials (t ∷ []), put.trials_many);
-      each = below_more (λ k. IsBarePut source c spans (get_or found k no_warning)
+      each = below_more (λ k. IsBarePut source names c spans (get_or found k no_warning)
           (get_or (placed ++ p ∷ []) k no_placed) (get_or (trials ++ t ∷ []) k None)) m
           (λ k below.
           (let first = sym (get_or_append_left placed (p ∷ []) no_placed k (omega (arith, below, put.placed_many))) in
           let second = sym (get_or_append_left trials (t ∷ []) None k (omega (arith, below, put.trials_many))) in
-          subst (λ q. IsBarePut source c spans (get_or found k no_warning) q (get_or (trials ++ t ∷ []) k None))
-          first (subst (IsBarePut source c spans (get_or found k no_warning) (get_or placed k no_placed)) second
+          subst (λ q. IsBarePut source names c spans (get_or found k no_warning) q (get_or (trials ++ t ∷ []) k None))
+          first (subst (IsBarePut source names c spans (get_or found k no_warning) (get_or placed k no_placed)) second
           (put.each k below))))
-          (subst (λ q. IsBarePut source c spans (get_or found m no_warning) q (get_or (trials ++ t ∷ []) m None))
+          (subst (λ q. IsBarePut source names c spans (get_or found m no_warning) q (get_or (trials ++ t ∷ []) m None))
           (sym (get_or_push placed p no_placed m put.placed_many))
-          (subst (IsBarePut source c spans (get_or found m no_warning) p)
+          (subst (IsBarePut source names c spans (get_or found m no_warning) p)
           (sym (get_or_push trials t None m put.trials_many)) one));
     }
 
     -- with what their hints come to
     with_hint : (w : Warning) (p q : PlacedView) (t : Option Trial) (said : List ℕ)
-        → IsBarePut source c spans w p t → IsTrialSaid source names c t said → q ≡ with_note p said
+        → IsBarePut source names c spans w p t → IsTrialSaid source names c t said → q ≡ with_note p said
         → IsPut source names c spans w q
     with_hint w p q t said bare says is = subst (IsPut source names c spans w) (sym is) (record {
       told = bare.told;

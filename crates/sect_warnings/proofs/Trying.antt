@@ -6,10 +6,10 @@ use Rattle.std.proofs.lemmas.List.{append_assoc, append-nil, get_or-set_same, ge
 use Rattle.std.proofs.lemmas.{Option.{slice_get_cases}, Bool.{or_parts}}
 use Rattle.std.specs.{Prelude.{nat_eq, is_some, slice_index_or, slice_set}, List.{list_any}, Cmp.{unsigned_Decides}}
 use Rattle.std.specs.String.{string_bytes}
-use Rattle.sect_front.specs.{TreeView.{TreeView}, declared.tree.Record.{Record}}
+use Rattle.sect_front.specs.{declared.tree.Record.{Record}}
 use Rattle.sect_places.specs.declared.name_use.NameSpan.{NameSpan}
 use Rattle.sect_emit.specs.Compiled.{CompiledView}
-use Rattle.sect_warnings.specs.{declared.remedy.ClassWarning.{ClassWarning}, declared.trials.Trial.{Trial}}
+use Rattle.sect_warnings.specs.{declared.trials.Trial.{Trial}}
 use Rattle.sect_warnings.specs.{Placed.{PlacedView}, Hinting.{IsHintSaid, IsHintOf, guard_for, declared_by, hint_words}}
 use Rattle.sect_warnings.specs.declared.hinting.TriedHint.{TriedHint}
 use Rattle.sect_lint.specs.Naming.{found}

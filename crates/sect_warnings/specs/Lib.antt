@@ -1,5 +1,6 @@
 pub mod Fields
 pub mod Apart
+pub mod Lost
 pub mod Warnings
 pub mod Placed
 pub mod Titles

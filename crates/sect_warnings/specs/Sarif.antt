@@ -3,7 +3,7 @@ use Rattle.std.specs.Prelude.{ℕ, List, [], ◌∷◌, ◌++◌, map, codes}
 use Rattle.serde_json.specs.Data.{Data, string, object, no_members, member}
 use Rattle.sect_lint.specs.{Json.{list}, Sarif.{text_json, location_json, tool_json, run_json, log_json}}
 use Rattle.sect_warnings.specs.{declared.warning.Finding.{Finding}, declared.warning.Spare.{Spare}}
-use Rattle.sect_warnings.specs.Placed.{PlacedView, behind}
+use Rattle.sect_warnings.specs.{Placed.{PlacedView, behind}, Lost.{no_update}}
 use Rattle.sect_warnings.specs.Titles.{name_of, note_of, spare_name, spare_note, told_name, told_title}
 use Rattle.sect_names.specs.declared.lock.Effect.TheVariants as effect
 use Rattle.sect_warnings.specs.declared.warning.Finding.TheVariants as finding
@@ -37,7 +37,7 @@ abbrev pub rules : Data
 rules =
     list (finding_rule finding.NoLock ∷ finding_rule finding.AllForOne
     ∷ finding_rule (finding.ClassLock 0 effect.Read) ∷ finding_rule (finding.NeverFilled 0 0)
-    ∷ finding_rule (finding.NoCommonField 0)
+    ∷ finding_rule (finding.NoCommonField 0) ∷ finding_rule (finding.LostUpdate no_update)
     ∷ spare_rule (spare.Unused thing.Local) ∷ spare_rule spare.Hint ∷ [])
 
 abbrev pub warnings_log : List ℕ → List ℕ → List PlacedView → Data

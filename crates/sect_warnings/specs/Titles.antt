@@ -16,6 +16,7 @@ name_of finding.AllForOne = codes "all-for-one"
 name_of (finding.ClassLock n e) = codes "class-lock"
 name_of (finding.NeverFilled j x) = codes "never-filled"
 name_of (finding.NoCommonField j) = codes "no-common-field"
+name_of (finding.LostUpdate u) = codes "lost-update"
 
 -- what a class is locked for
 abbrev pub doing : Effect → List ℕ
@@ -30,6 +31,8 @@ told_of (finding.ClassLock n e) = codes " locks all of class " ++ decimal n ++ c
 told_of (finding.NeverFilled j x) = codes " goes through a local that is always null"
 told_of (finding.NoCommonField j) =
     codes " excludes section " ++ decimal j ++ codes ", though neither stores to a field that the other uses"
+told_of (finding.LostUpdate u) =
+    codes " stores to a field what section " ++ decimal u.load.section ++ codes " has loaded from it"
 
 abbrev pub title_of : Warning → List ℕ
 title_of w = codes "section " ++ decimal w.section ++ told_of w.finding
@@ -47,6 +50,8 @@ note_of (finding.NeverFilled j x) =
     codes "no statement ever gives the local an object, so a thread that comes here ends by the fault `null`"
 note_of (finding.NoCommonField j) =
     codes "a lock is on all fields of an object; in two records these could be used side by side"
+note_of (finding.LostUpdate u) =
+    codes "what other threads store between the two sections is lost: load and store belong into one section"
 
 -- the same of a declaration
 abbrev pub spare_name : Spare → List ℕ

@@ -15,7 +15,8 @@ use Rattle.sect_emit.specs.{Compiled.{CompiledView}, Explaining.{section_at}}
 use Rattle.sect_conflicts.specs.{declared.conflict.SectionPair.{SectionPair}, Conflicts.{set_at, Selects}}
 use Rattle.sect_conflicts.specs.Comparing.{AreConflicts}
 use Rattle.sect_warnings.specs.{declared.warning.Finding.{Finding}, declared.warning.Warning.{Warning}}
-use Rattle.sect_warnings.specs.Apart.{AreApart, pair_warning, firsts}
+use Rattle.sect_warnings.specs.{Apart.{AreApart, pair_warning, firsts}, Lost.{accesses, IsLost, AreLost}}
+use Rattle.sect_warnings.specs.declared.lost.LostUpdate.{LostUpdate}
 use Rattle.sect_types.specs.declared.expansion.action.Action.TheVariants as action
 use Rattle.sect_types.specs.declared.expansion.action.Base.TheVariants as base
 use Rattle.sect_types.specs.declared.expansion.action.Label.TheVariants as label
@@ -46,6 +47,8 @@ IsDueOf c i finding.AllForOne = (l : Lock) × WouldDo c i l
 IsDueOf c i (finding.ClassLock n e) = Has (set_at c i) (lock.Class n (right_for e))
 IsDueOf c i (finding.NeverFilled j x) = IsNeverFilled c.scheme.classes.sets (section_at c i).thread x
 IsDueOf c i (finding.NoCommonField j) = AreApart c i j
+IsDueOf c i (finding.LostUpdate u) =
+    (u.store.section ≡ i) × Has (accesses effect.Read c) u.load × Has (accesses effect.Write c) u.store × IsLost c u
 
 abbrev pub IsDue : CompiledView → Warning → Type 0
 IsDue c w = IsDueOf c w.section w.finding
@@ -110,10 +113,19 @@ AreOfPairs c ws =
     (pairs : List SectionPair) × (all : List Warning) × AreConflicts c pairs
     × Selects (IsDue c) (map (pair_warning c.scheme.program.source) pairs) all × (ws ≡ firsts all)
 
+-- what is told of a lost update, at the store
+abbrev pub lost_warning : LostUpdate → Warning
+lost_warning u = warning u.store.section u.store.item (finding.LostUpdate u)
+
+-- and of what goes from section to section
+abbrev pub AreOfFlows : CompiledView → List Warning → Type 0
+AreOfFlows c ws = (us : List LostUpdate) × AreLost c us × (ws ≡ map lost_warning us)
+
 -- these are the warnings of the program
 abbrev pub AreWarnings : CompiledView → List Warning → Type 0
 AreWarnings c ws =
-    (one : List Warning) × (two : List Warning) × AreOfSections c one × AreOfPairs c two × (ws ≡ one ++ two)
+    (one : List Warning) × (two : List Warning) × (three : List Warning) × AreOfSections c one × AreOfPairs c two
+    × AreOfFlows c three × (ws ≡ one ++ two ++ three)
 
 -- each stands at an item of the tree
 abbrev pub AreAtItems : TreeView → List Warning → Type 0

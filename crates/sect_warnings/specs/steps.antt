@@ -3,3 +3,4 @@ pub mod Reasons
 pub mod Hinted
 pub mod Trials
 pub mod Usage
+pub mod Losing

@@ -33,7 +33,7 @@ fn used(label: Label) -> Option<Field>
     }
 }
 
-fn is_same(field: Field, other: Field) -> bool
+pub fn is_same(field: Field, other: Field) -> bool
     ensures { result ≡ is_same_field field other }
 {
     field.of == other.of && field.number == other.number

@@ -1,15 +1,16 @@
 //! Which warnings are due.
 
-ghost use Rattle.std.specs.{Prelude.{◌≡◌, ◌<◌, ◌↔◌, [], ◌∷◌, ◌++◌, length, IsTrue, IfOk, OnOk}, List.{flat_map}};
+ghost use Rattle.std.specs.{Prelude.{◌≡◌, ◌<◌, ◌↔◌, [], ◌∷◌, ◌++◌, length, map, IsTrue, IfOk, OnOk}, List.{flat_map}};
 ghost use Rattle.sect_types.specs.Sections.{sections_of};
 ghost use Rattle.sect_graph.specs.Layout.{flow_nodes};
 ghost use Rattle.sect_emit.specs.Explaining.{section_at};
 ghost use Rattle.sect_warnings.specs.Warnings.{warning, through as through_by, unfilled_at, to_node, at_section};
-ghost use Rattle.sect_warnings.specs.Warnings.{class_at, IsDue, AreWarnings, AreAtItems};
+ghost use Rattle.sect_warnings.specs.Warnings.{class_at, IsDue, AreWarnings, AreAtItems, lost_warning};
 ghost use Rattle.sect_warnings.specs.Warnings.{is_print as is_print_by, prints as prints_by};
 ghost use Rattle.sect_conflicts.specs.{Conflicts.{set_at}, Selecting.{Adds}};
 
 use crate::apart::of_pairs;
+use crate::lost::{LostUpdate, lost_updates};
 use crate::marked::takes_all_for_one;
 use crate::warning::{Finding, Warning};
 use sect_emit::{Compiled, section_thread};
@@ -20,10 +21,10 @@ use std::alloc::{AllocError, Global};
 
 /// A node of a section, and the item that it comes from.
 #[derive(Clone, Copy)]
-struct Place {
-    section: u16,
-    node: u16,
-    item: usize,
+pub struct Place {
+    pub section: u16,
+    pub node: u16,
+    pub item: usize,
 }
 
 /// A section, and the item that it is.
@@ -253,7 +254,22 @@ fn add_section(
     Ok(())
 }
 
-/// What is worth a second look in a compiled program: all that is due, section by section, and then of pairs of them.
+/// Adds what is told of lost updates.
+fn put_lost(found: &mut Vec<Warning>, lost: &[LostUpdate]) -> Result<(), AllocError>
+    ensures { OnOk result (found.new.items ≡ found.old.items ++ map lost_warning lost.now) }
+{
+    for update in lost {
+        found.push(Warning {
+            section: update.store.section,
+            finding: Finding::LostUpdate(*update),
+            item: update.store.item,
+        })?;
+    }
+    Ok(())
+}
+
+/// What is worth a second look in a compiled program: all that is due, section by section, then of pairs of them, and
+/// then of what goes from one to another.
 pub fn warnings(alloc: Global, compiled: &Compiled) -> Result<Vec<Warning>, AllocError>
     ensures due { IfOk result (λ found. AreWarnings compiled.now found.items) }
     // Each stands at an item of the program's tree.
@@ -271,5 +287,7 @@ pub fn warnings(alloc: Global, compiled: &Compiled) -> Result<Vec<Warning>, Allo
     }
     let mut apart = of_pairs(alloc, compiled, items.as_slice())?;
     found.append(&mut apart)?;
+    let lost = lost_updates(alloc, compiled, &origins)?;
+    put_lost(&mut found, lost.as_slice())?;
     Ok(found)
 }

@@ -1,6 +1,7 @@
 //! What is worth a second look in a program that is accepted, and where, as it is told to a reader.
 #![tactic(auto)]
 
+mod access;
 mod apart;
 mod apart_mark;
 mod class_mark;
@@ -10,6 +11,8 @@ mod hinting;
 mod json;
 mod judge;
 mod laws;
+mod lost;
+mod lost_mark;
 mod mark;
 mod marked;
 mod outcome;
@@ -23,9 +26,11 @@ mod spare;
 mod trials;
 mod warning;
 
+pub use access::Access;
 pub use format::{placed_warnings, warnings_as};
 pub use judge::warnings;
 pub use laws::never_filled_locals_refer_to_nothing;
+pub use lost::LostUpdate;
 pub use placed::{Placed, put_behind};
 pub use report::title;
 pub use spare::spares;

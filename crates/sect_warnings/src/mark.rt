@@ -1,9 +1,9 @@
 //! What is marked for a warning, what is said of it, and what it means.
 
-ghost use Rattle.std.specs.Prelude.{◌≡◌, ◌<◌, ℕ, Option, None, IfOk, IfSome, length};
+ghost use Rattle.std.specs.Prelude.{◌≡◌, ◌<◌, ℕ, Option, None, IfOk, IfSome, length, map};
 ghost use Rattle.sect_lemmas.specs.Lists.{Has};
 ghost use Rattle.sect_types.specs.Items.{items};
-ghost use Rattle.sect_places.specs.NodeOrigins.{AreOrigins};
+ghost use Rattle.sect_places.specs.{NodeOrigins.{AreOrigins}, Spans.{AreProper}};
 ghost use Rattle.sect_emit.specs.Compiled.{IsCompiledFrom};
 ghost use Rattle.sect_conflicts.specs.Conflicts.{set_at};
 ghost use Rattle.sect_warnings.specs.{ClassLocks.{class_lock}, Warnings.{IsDue}};
@@ -12,6 +12,7 @@ ghost use Rattle.sect_warnings.specs.steps.Trials.{trial_of as trial_by};
 
 use crate::apart_mark::apart_text;
 use crate::class_mark::{ClassLock, Need, need_of};
+use crate::lost_mark::lost_text;
 use crate::marked::would_take;
 use crate::reasons::{Reasons, reasons_of};
 use crate::remedy::{Accepted, ClassWarning, class_note};
@@ -124,10 +125,12 @@ pub fn mark_of(
 ) -> Result<Mark, AllocError>
     requires due { IsDue accepted.compiled.now warning }
     requires item { warning.item < length (items accepted.compiled.now.scheme.program.source) }
+    requires names { AreProper (length accepted.source.now) (map (λ n. n.span) accepted.names.now) }
     requires origins { AreOrigins accepted.compiled.now.scheme.program origins.now }
     requires reasons { IfSome kept.old.reasons (AreReasons accepted.compiled.now) }
     requires deep { IfSome kept.old.deep (IsCompiledFrom accepted.source.now 3) }
-    ensures marks { IfOk result (IsBareMark accepted.entry.source.now accepted.entry.compiled.now warning) }
+    ensures marks { IfOk result (IsBareMark accepted.entry.source.now accepted.entry.names.now
+        accepted.entry.compiled.now warning) }
     ensures within { IfOk result (λ m. m.item < length (items accepted.entry.compiled.now.scheme.program.source)) }
     ensures reasons { IfSome kept.new.reasons (AreReasons accepted.entry.compiled.now) }
     ensures deep { IfSome kept.new.deep (IsCompiledFrom accepted.entry.source.now 3) }
@@ -152,6 +155,7 @@ pub fn mark_of(
         Finding::NoCommonField { other } => {
             apart_text(alloc, accepted.compiled, section, other)?
         }
+        Finding::LostUpdate(update) => lost_text(alloc, accepted, update)?,
         Finding::NoLock | Finding::NeverFilled { .. } => String::new(alloc),
     };
     let note = String::from_str(alloc, finding.note())?;

@@ -36,6 +36,13 @@ fn put_told(text: &mut String, finding: Finding) -> Result<(), AllocError>
             Ok(write!(text, " locks all of class {class} for {doing}")?)
         }
         Finding::NeverFilled { .. } => text.push_str(" goes through a local that is always null"),
+        Finding::LostUpdate(update) => {
+            let section = update.load.section;
+            Ok(write!(
+                text,
+                " stores to a field what section {section} has loaded from it"
+            )?)
+        }
         Finding::NoCommonField { other } => Ok(write!(
             text,
             " excludes section {other}, though neither stores to a field that the other uses"

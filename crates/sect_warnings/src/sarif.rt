@@ -8,6 +8,7 @@ ghost use Rattle.sect_warnings.specs.Reports.{AreWithin};
 ghost use Rattle.sect_warnings.specs.Sarif.{result_json, rule_json, finding_rule, spare_rule, message_of as message_by};
 ghost use Rattle.sect_warnings.specs.Sarif.{rules as rules_by, warnings_log as log_by};
 
+use crate::lost::LostUpdate;
 use crate::placed::{Placed, put_behind};
 use crate::report::title;
 use crate::warning::{Finding, Spare};
@@ -93,6 +94,7 @@ fn rules_value(alloc: Global) -> Result<Value, AllocError>
         finding_value(alloc, Finding::ClassLock { class: 0, effect: Effect::Read })?,
         finding_value(alloc, Finding::NeverFilled { node: 0, local: 0 })?,
         finding_value(alloc, Finding::NoCommonField { other: 0 })?,
+        finding_value(alloc, Finding::LostUpdate(LostUpdate::default()))?,
         spare_value(alloc, Spare::Unused(Thing::Local))?,
         spare_value(alloc, Spare::Hint)?
     ])

@@ -4,6 +4,7 @@ ghost use Rattle.std.specs.Prelude.{◌≡◌};
 ghost use Rattle.sect_warnings.specs.Titles.{name_of, note_of, spare_name, spare_title, spare_note, told_name};
 ghost use Rattle.sect_warnings.specs.Titles.{told_note};
 
+use crate::lost::LostUpdate;
 use sect_names::Effect;
 use sect_places::Thing;
 
@@ -22,6 +23,8 @@ pub enum Finding {
     /// The section and this one, which is of another thread, exclude each other and use fields of one record, though
     /// neither stores to a field that the other uses.
     NoCommonField { other: u16 },
+    /// The section stores to a field what another of its thread has loaded from it, and doesn't load from it itself.
+    LostUpdate(LostUpdate),
 }
 
 impl Finding {
@@ -35,6 +38,7 @@ impl Finding {
             Finding::ClassLock { .. } => "class-lock",
             Finding::NeverFilled { .. } => "never-filled",
             Finding::NoCommonField { .. } => "no-common-field",
+            Finding::LostUpdate(_) => "lost-update",
         }
     }
 
@@ -53,6 +57,9 @@ impl Finding {
             }
             Finding::NoCommonField { .. } => {
                 "a lock is on all fields of an object; in two records these could be used side by side"
+            }
+            Finding::LostUpdate(_) => {
+                "what other threads store between the two sections is lost: load and store belong into one section"
             }
         }
     }

@@ -7,7 +7,7 @@ use Rattle.sect_emit.specs.Compiled.{CompiledView}
 use Rattle.sect_warnings.specs.{declared.remedy.ClassWarning.{ClassWarning}, declared.trials.Trial.{Trial}}
 use Rattle.sect_warnings.specs.{declared.hinting.TriedHint.{TriedHint}, declared.warning.Finding.{Finding}}
 use Rattle.sect_warnings.specs.{declared.warning.Warning.{Warning}, ClassLocks.{class_lock, IsClassMarked}}
-use Rattle.sect_warnings.specs.{Hinting.{hint_words, IsHintSaid}, Labels.{apart_text, IsLabelOf}, Outcomes.{IsOutcome}}
+use Rattle.sect_warnings.specs.{Hinting.{hint_words, IsHintSaid}, Labels.{apart_text, lost_text, IsLabelOf}, Outcomes.{IsOutcome}}
 use Rattle.sect_warnings.specs.{Placed.{PlacedView}, Remedies.{IsDeepSaid}, Titles.{class_note, note_of}}
 use Rattle.sect_warnings.specs.declared.warning.Finding.TheVariants as finding
 use Rattle.sect_warnings.specs.declared.warning.Told.TheVariants as told
@@ -37,20 +37,23 @@ IsBareClass source c of m =
     × (m.trial ≡ trial_of of.section of.lock.class of.lock.effect r)
 
 -- what is marked for a warning, but for what hints come to
-abbrev pub IsBareFor : List ℕ → CompiledView → ℕ → ℕ → Finding → BareView → Type 0
-IsBareFor source c i item finding.NoLock m =
+abbrev pub IsBareFor : List ℕ → List NameSpan → CompiledView → ℕ → ℕ → Finding → BareView → Type 0
+IsBareFor source names c i item finding.NoLock m =
     (m.item ≡ item) × (m.label ≡ []) × (m.note ≡ note_of finding.NoLock) × (m.trial ≡ None)
-IsBareFor source c i item finding.AllForOne m =
+IsBareFor source names c i item finding.AllForOne m =
     (m.item ≡ item) × IsLabelOf c i m.label × (m.note ≡ note_of finding.AllForOne) × (m.trial ≡ None)
-IsBareFor source c i item (finding.ClassLock n e) m =
+IsBareFor source names c i item (finding.ClassLock n e) m =
     IsBareClass source c (record { section = i; lock = record { class = n; effect = e } }) m
-IsBareFor source c i item (finding.NeverFilled j x) m =
+IsBareFor source names c i item (finding.NeverFilled j x) m =
     (m.item ≡ item) × (m.label ≡ []) × (m.note ≡ note_of (finding.NeverFilled j x)) × (m.trial ≡ None)
-IsBareFor source c i item (finding.NoCommonField j) m =
+IsBareFor source names c i item (finding.NoCommonField j) m =
     (m.item ≡ item) × (m.label ≡ apart_text c i j) × (m.note ≡ note_of (finding.NoCommonField j)) × (m.trial ≡ None)
+IsBareFor source names c i item (finding.LostUpdate u) m =
+    (m.item ≡ item) × (m.label ≡ lost_text source names c u) × (m.note ≡ note_of (finding.LostUpdate u))
+    × (m.trial ≡ None)
 
-abbrev pub IsBareMark : List ℕ → CompiledView → Warning → BareView → Type 0
-IsBareMark source c w m = IsBareFor source c w.section w.item w.finding m
+abbrev pub IsBareMark : List ℕ → List NameSpan → CompiledView → Warning → BareView → Type 0
+IsBareMark source names c w m = IsBareFor source names c w.section w.item w.finding m
 
 -- the class lock for which the hint of record r is to be tried, if the trial is one of that
 abbrev pub sought : ℕ → Option Trial → Option ClassWarning

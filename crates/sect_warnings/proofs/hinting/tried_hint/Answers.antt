@@ -1,10 +1,10 @@
-use Rattle.std.proofs.Common.{◌≡◌, [], Some, None, length, get_or, refl, sym, ◌∙◌, ap, subst, inl, inr}
+use Rattle.std.proofs.Common.{◌≡◌, Some, None, length, get_or, sym, ◌∙◌, ap, subst}
 use Rattle.std.proofs.lemmas.Option.{slice_get-get_or}
 use Rattle.std.specs.{Prelude.{slice_get}, String.{string_bytes}}
 use Rattle.sect_front.specs.TreeView.{TreeView}
 use Rattle.sect_names.specs.{Printing.{global_name}, Schemes.{SchemeView}}
 use Rattle.sect_lint.specs.Naming.{found}
-use Rattle.sect_warnings.specs.Hinting.{hinted, record_name, declared_by, guard_for, IsHintOf}
+use Rattle.sect_warnings.specs.Hinting.{hinted, record_name, declared_by, guard_for}
 use Rattle.sect_warnings.specs.steps.Hinted.{IsHinted}
 use Rattle.sect_warnings.proofs.Hints.{name_within, refused_said, tried_said}
 use Rattle.sect_warnings.proofs.hinting.tried_hint.Goals as goal

@@ -1,4 +1,4 @@
-use Rattle.std.proofs.Common.{◌≡◌, Some, length, ap, sym, ◌∙◌, subst, arith, slice_get, false, true, take, add-one}
+use Rattle.std.proofs.Common.{◌≡◌, Some, length, ap, sym, ◌∙◌, subst, arith, slice_get, false, take, add-one}
 use Rattle.std.proofs.lemmas.List.{take_all}
 use Rattle.std.specs.{Prelude.{option_map}, List.{list_any}}
 use Rattle.sect_lemmas.proofs.Places.{told_at}

@@ -1,12 +1,16 @@
-use Rattle.std.proofs.Common.{◌≡◌, ◌<◌, ◌≤◌, ℕ, [], length, refl, sym, ap, ◌∙◌, subst, arith}
+use Rattle.std.proofs.Common.{◌≡◌, ◌<◌, ◌≤◌, ◌++◌, ℕ, [], Some, map, length, refl, sym, ap, ◌∙◌, subst, inl, inr, arith}
 use Rattle.std.proofs.lemmas.Option.{slice_get_read, get_or_from_slice_get}
-use Rattle.std.specs.Prelude.{All, slice_index_or}
+use Rattle.std.specs.Prelude.{All, slice_get, slice_index_or}
 use Rattle.sect_types.specs.{Items.{items}, Sections.{sections_of}}
 use Rattle.sect_places.specs.{NodeOrigins.{AreOrigins}, SectionItems.{section_items_of, IsAtomicItem}}
 use Rattle.sect_conflicts.specs.Conflicts.{Selects}
 use Rattle.sect_conflicts.proofs.shared.Selecting.{selected, adds_all}
 use Rattle.sect_warnings.specs.{Warnings.{IsDue, to_section, AreAtItems}, declared.warning.Warning.{Warning}}
-use Rattle.sect_warnings.proofs.Parting.{each_of_both, pairs_at}
+use Rattle.sect_warnings.specs.Warnings.{AreOfFlows, lost_warning}
+use Rattle.sect_warnings.proofs.{Losing.{accesses_there, flows_at}, Parting.{each_of_both, pairs_at}}
+use Rattle.sect_names.specs.declared.lock.Effect.TheVariants.{Write}
+use Rattle.sect_places.specs.{declared.origin.Origin.{Origin}, Origins.{section_origins_of}}
+use Rattle.sect_lemmas.proofs.Membership.{Has-cases}
 use Rattle.sect_warnings.proofs.Judging.{origins_many, origins_within, item_within, all_within, next_section}
 use Rattle.sect_warnings.proofs.judge.warnings.Goals as goal
 
@@ -65,10 +69,13 @@ returns-clause-due c =
     omega (arith, most, count, c.loop-section-test.false) in (
       found,
       c.in_ok-apart.apart.items,
+      map lost_warning c.in_ok-lost.lost.items,
       subst (λ n. Selects (IsDue v) (to_section v n) found) all
           (adds_all (IsDue v) (to_section v c.loop-section.section) found c.loop-section.invariant),
       c.in_ok-apart.ensures,
-      c.in_ok-append.ensures.items,
+      (c.in_ok-lost.lost.items, c.in_ok-lost.ensures, refl),
+      c.in_ok-put_lost.ensures ∙ ap (λ us. c.append.new.self.items ++ map lost_warning us) c.as_slice-2.ensures.value
+          ∙ ap (λ ws. ws ++ map lost_warning c.in_ok-lost.lost.items) c.in_ok-append.ensures.items,
     )
 
 pub returns-clause-items : goal.returns-clause-items
@@ -92,13 +99,26 @@ returns-clause-items c =
     let most : n ≤ c.section_count-section-end.result = c.loop-section.auto.section-end in
     let there : (i : ℕ) → i < length list → slice_index_or (section_items_of tree) i 0 < length (items tree) =
     item_within tree list those atomic in
-    subst (AreAtItems tree) (sym c.in_ok-append.ensures.items)
-    (each_of_both (λ (w : Warning). w.item < length (items tree)) found apart
-    (λ w h. all_within (length (items tree)) v n (λ i below. there i (omega (arith, below, most, many, count)))
-    (λ i below. origins_within v c.facts.ensures.compiled.scheme i (omega (arith, below, most, count))
-    c.in_ok-origins.origins are) w
-    (selected (IsDue v) (to_section v n) found (adds_all (IsDue v) (to_section v n) found c.loop-section.invariant) w
-    h).0)
+    let flowing : AreOfFlows v (map lost_warning c.in_ok-lost.lost.items) =
+    (c.in_ok-lost.lost.items, c.in_ok-lost.ensures, refl) in
+    let is = c.in_ok-put_lost.ensures ∙ ap (λ us. c.append.new.self.items ++ map lost_warning us) c.as_slice-2.ensures.value
+    ∙ ap (λ ws. ws ++ map lost_warning c.in_ok-lost.lost.items) c.in_ok-append.ensures.items in
+    let within : (i : ℕ) → i < length (sections_of v.scheme.program.texts) → (j : ℕ) (o : Origin)
+    → slice_get (slice_index_or (section_origins_of tree) i []) j ≡ Some o → o.item < length (items tree) =
+    λ i below. origins_within v c.facts.ensures.compiled.scheme i below c.in_ok-origins.origins are in
+    subst (AreAtItems tree) (sym is)
+    (each_of_both (λ (w : Warning). w.item < length (items tree)) (found ++ apart)
+    (map lost_warning c.in_ok-lost.lost.items)
+    (λ w h. elim (Has-cases found apart w h) [
+      | inl first ↦ all_within (length (items tree)) v n (λ i below. there i (omega (arith, below, most, many, count)))
+          (λ i below. within i (omega (arith, below, most, count))) w
+          (selected (IsDue v) (to_section v n) found
+          (adds_all (IsDue v) (to_section v n) found c.loop-section.invariant) w first).0
+      | inr second ↦ (let at = pairs_at v apart c.in_ok-apart.ensures w second in
+          subst (λ k. k < length (items tree)) (sym at.2) (there at.0 (omega (arith, at.1, many))))
+    ])
     (λ w h.
-    (let at = pairs_at v apart c.in_ok-apart.ensures w h in
-    subst (λ k. k < length (items tree)) (sym at.2) (there at.0 (omega (arith, at.1, many))))))
+    (let (a, stored, is) = flows_at v (map lost_warning c.in_ok-lost.lost.items) flowing w h in
+    subst (λ k. k < length (items tree)) (sym is)
+    (accesses_there Write (λ item. item < length (items tree)) v (length (sections_of v.scheme.program.texts)) within a
+    stored).1)))

@@ -10,6 +10,9 @@ use Rattle.sect_warnings.proofs.place.some_places.Goals as goal
 pub mark_of-requires-clause-due : goal.mark_of-requires-clause-due
 mark_of-requires-clause-due c = c.requires.due c.loop-warning.warning-index _ c.loop-warning-test.true
 
+pub mark_of-requires-clause-names : goal.mark_of-requires-clause-names
+mark_of-requires-clause-names c = c.requires.names.proper
+
 pub loop-warning-preserved : goal.loop-warning-preserved
 loop-warning-preserved c =
     let v = c.args.accepted.compiled.now in
@@ -33,10 +36,10 @@ loop-warning-preserved c =
       rw (c.in_ok-push.ensures.items, c.in_ok-push-2.ensures.items)
           (one_put source names v spans found c.loop-warning.warning-index c.loop-warning.placed.items
           c.loop-warning.trials.items c.new.result inside.trial c.loop-warning.invariant.0
-          (subst (λ p. IsBarePut source v spans w p inside.trial) (sym c.new.ensures) (record {
+          (subst (λ p. IsBarePut source names v spans w p inside.trial) (sym c.new.ensures) (record {
             told = refl;
             mark = mark;
-            marks = subst (IsBareMark source v w) (sym c.item.view_is) c.in_ok-item.ensures.marks;
+            marks = subst (IsBareMark source names v w) (sym c.item.view_is) c.in_ok-item.ensures.marks;
             there = omega (arith, there, many);
             span = c.index.ensures ∙ get_or_default spans inside.item _ no_span (omega (arith, there, many));
             label = refl;

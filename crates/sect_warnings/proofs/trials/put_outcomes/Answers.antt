@@ -1,5 +1,5 @@
 use Rattle.std.proofs.lemmas.List.{get_or_read}
-use Rattle.std.proofs.Common.{◌≡◌, ◌+◌, ap, sym, ◌∙◌, subst, arith, length, slice_set}
+use Rattle.std.proofs.Common.{◌+◌, ap, sym, ◌∙◌, subst, arith, slice_set}
 use Rattle.std.specs.String.{string_bytes}
 use Rattle.sect_warnings.specs.{Hinting.{hint_words}, steps.Trials.{sought, IsAdded, no_placed, with_note}}
 use Rattle.sect_warnings.proofs.Trying.{AreNotedBelow, one_more}

@@ -1,6 +1,6 @@
-use Rattle.std.proofs.{Common.{◌≡◌, ◌∙◌, sym, subst, refl, None, Some, is_some, slice_index_or}, lemmas.Bool.{not-true}}
+use Rattle.std.proofs.{Common.{◌∙◌, sym, subst, refl, None, is_some, slice_index_or}}
 use Rattle.sect_warnings.specs.steps.Trials.{sought, IsTried, IsTriedFor}
-use Rattle.sect_warnings.proofs.Trying.{all_unsaid, none_for, none_at, noted_as, tried_for, untried_for}
+use Rattle.sect_warnings.proofs.Trying.{all_unsaid, none_for, none_at, noted_as, tried_for}
 use Rattle.sect_warnings.proofs.trials.try_hint.Goals as goal
 
 pub returns-then-not-is_sought : goal.returns-then-not-is_sought

@@ -1,4 +1,4 @@
-use Rattle.std.proofs.Common.{◌≡◌, ◌+◌, ◌∙◌, sym, ap, subst, arith, length}
+use Rattle.std.proofs.Common.{◌≡◌, ◌+◌, ◌∙◌, ap, subst, arith, length}
 use Rattle.sect_front.specs.TreeView.{TreeView}
 use Rattle.sect_warnings.specs.steps.Trials.{AreNoted, IsTriedBelow, IsTriedFor, IsTrialSaid}
 use Rattle.sect_warnings.proofs.Trying.{in_two, none_below, one_below, all_below, noted_as, all_unsaid}

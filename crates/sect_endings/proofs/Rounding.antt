@@ -2,7 +2,7 @@
 use Rattle.std.proofs.Common.{◌≡◌, ◌≢◌, ◌⊎◌, ◌≤◌, ℕ, zero, suc, List, [], ◌∷◌, ◌++◌, length, Some, None, refl}
 use Rattle.std.proofs.{Common.{sym, ◌∙◌, ap, subst, inl, inr, arith, append_assoc, length-append}}
 use Rattle.std.proofs.lemmas.List.{append-nil}
-use Rattle.sect_endings.specs.{Graphs.{GraphView, go, IsWalk}, declared.verdict.Verdict.{Verdict}, Laws.{kind_of}}
+use Rattle.sect_endings.specs.{Graphs.{GraphView, go, IsWalk}, declared.verdict.Verdict.{Verdict}, Laws.{SayTheSame}}
 use Rattle.sect_endings.specs.Runs.{IsBounded, IsEndless, IsFair, HasFairRun, Meets, IsRound, IsFairRound}
 use Rattle.sect_endings.specs.Runs.{IsVerdict}
 use Rattle.sect_endings.specs.declared.verdict.Verdict.TheVariants as verdict
@@ -162,8 +162,8 @@ fair_from : (g : GraphView) (s : ℕ) (before round : List ℕ) → IsWalk g 0 b
     → HasFairRun g 0
 fair_from g s before round w is = fair_before g before 0 s w (fair_runs g s round is)
 
-pub one_verdict : (g : GraphView) (v w : Verdict) → IsVerdict g v → IsVerdict g w → kind_of v ≡ kind_of w
-one_verdict g verdict.EveryRunEnds verdict.EveryRunEnds a b = refl
+pub one_verdict : (g : GraphView) (v w : Verdict) → IsVerdict g v → IsVerdict g w → SayTheSame v w
+one_verdict g verdict.EveryRunEnds verdict.EveryRunEnds a b = tt
 one_verdict g verdict.EveryRunEnds (verdict.EveryFairRunEnds r) a b =
     absurd (bound_round g b.0 r.before.items r.round.items a b.1 b.2)
 one_verdict g verdict.EveryRunEnds (verdict.SomeFairRunNeverEnds r) a b =
@@ -172,7 +172,7 @@ one_verdict g verdict.EveryRunEnds (verdict.SomeRunCantEnd r) a b =
     absurd (bound_round g b.0 r.before.items r.round.items a b.1 b.2.returns)
 one_verdict g (verdict.EveryFairRunEnds q) verdict.EveryRunEnds a b =
     absurd (bound_round g a.0 q.before.items q.round.items b a.1 a.2)
-one_verdict g (verdict.EveryFairRunEnds q) (verdict.EveryFairRunEnds r) a b = refl
+one_verdict g (verdict.EveryFairRunEnds q) (verdict.EveryFairRunEnds r) a b = tt
 one_verdict g (verdict.EveryFairRunEnds q) (verdict.SomeFairRunNeverEnds r) a b =
     absurd (a.3 (fair_from g b.0 r.before.items r.round.items b.1 b.2))
 one_verdict g (verdict.EveryFairRunEnds q) (verdict.SomeRunCantEnd r) a b =
@@ -181,7 +181,7 @@ one_verdict g (verdict.SomeFairRunNeverEnds q) verdict.EveryRunEnds a b =
     absurd (bound_round g a.0 q.before.items q.round.items b a.1 a.2.returns)
 one_verdict g (verdict.SomeFairRunNeverEnds q) (verdict.EveryFairRunEnds r) a b =
     absurd (b.3 (fair_from g a.0 q.before.items q.round.items a.1 a.2))
-one_verdict g (verdict.SomeFairRunNeverEnds q) (verdict.SomeFairRunNeverEnds r) a b = refl
+one_verdict g (verdict.SomeFairRunNeverEnds q) (verdict.SomeFairRunNeverEnds r) a b = tt
 one_verdict g (verdict.SomeFairRunNeverEnds q) (verdict.SomeRunCantEnd r) a b =
     absurd (b.3 (a.3 r.before.items b.0 b.1))
 one_verdict g (verdict.SomeRunCantEnd q) verdict.EveryRunEnds a b =
@@ -190,4 +190,4 @@ one_verdict g (verdict.SomeRunCantEnd q) (verdict.EveryFairRunEnds r) a b =
     absurd (b.3 (fair_from g a.0 q.before.items q.round.items a.1 a.2))
 one_verdict g (verdict.SomeRunCantEnd q) (verdict.SomeFairRunNeverEnds r) a b =
     absurd (a.3 (b.3 q.before.items a.0 a.1))
-one_verdict g (verdict.SomeRunCantEnd q) (verdict.SomeRunCantEnd r) a b = refl
+one_verdict g (verdict.SomeRunCantEnd q) (verdict.SomeRunCantEnd r) a b = tt

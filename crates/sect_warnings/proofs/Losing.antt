@@ -1,5 +1,6 @@
 -- Loads and stores of sections, and the pairs of them by which updates are lost.
-use Rattle.std.proofs.Common.{◌⊎◌, ◌≡◌, ◌<◌, ℕ, zero, suc, ◌+◌, List, [], ◌∷◌, ◌++◌, take, fold, length, Option, Some, None}
+use Rattle.std.proofs.Common.{◌⊎◌, ◌≡◌, ◌<◌, ℕ, zero, suc, ◌+◌, List, [], ◌∷◌, ◌++◌, take, fold, length}
+use Rattle.std.proofs.Common.{Option, Some, None}
 use Rattle.std.proofs.Common.{Bool, true, false, get_or, refl, sym, ap, ◌∙◌, subst, inl, inr, arith, add-one, slice_get}
 use Rattle.std.proofs.{lemmas.List.{append_assoc, append-nil, map-append}, Math.Seq.{take-suc}}
 use Rattle.std.specs.{Prelude.{⊤, option_map, slice_index_or, if◌then◌else◌}, List.{flat_map}}
@@ -13,7 +14,8 @@ use Rattle.sect_names.specs.declared.lock.{Effect.{Effect}, Effect.TheVariants.{
 use Rattle.sect_emit.specs.{Compiled.{CompiledView}, Explaining.{section_at}}
 use Rattle.sect_conflicts.specs.{Selecting.{Adds}}
 use Rattle.sect_conflicts.proofs.shared.Selecting.{adds_both, selected}
-use Rattle.sect_warnings.specs.declared.{access.Access.{Access}, lost.LostUpdate.{LostUpdate}, warning.Warning.{Warning}}
+use Rattle.sect_warnings.specs.declared.{access.Access.{Access}, lost.LostUpdate.{LostUpdate}}
+use Rattle.sect_warnings.specs.declared.warning.Warning.{Warning}
 use Rattle.sect_warnings.specs.Lost.{accessed, found_at, at_node, to_node, in_section, to_section, accesses, IsLost}
 use Rattle.sect_warnings.specs.Lost.{with_stores, all_pairs, with_update, has_store, once, AreLost}
 use Rattle.sect_warnings.specs.Warnings.{IsDue, AreOfFlows, lost_warning}

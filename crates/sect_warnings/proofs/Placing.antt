@@ -91,8 +91,8 @@ zip_from_places R (x ∷ xs) (y ∷ ys) d e same each =
     (each 0 (omega arith), zip_from_places R xs ys d e (omega (arith, same)) (λ k lt. each (suc k) (omega (arith, lt))))
 
 -- a warning with its place, before what hints come to
-pub record IsBarePut (source : List ℕ) (names : List NameSpan) (c : CompiledView) (spans : List Span) (w : Warning) (p : PlacedView)
-    (t : Option Trial) : Type 0
+pub record IsBarePut (source : List ℕ) (names : List NameSpan) (c : CompiledView) (spans : List Span) (w : Warning)
+    (p : PlacedView) (t : Option Trial) : Type 0
   where
     pub told : p.told ≡ told.Section w
     pub mark : BareView
@@ -149,7 +149,8 @@ module _ (source : List ℕ) (names : List NameSpan) (c : CompiledView) (spans :
       pub placed_many : length placed ≡ m
       pub trials_many : length trials ≡ m
       pub each : (k : ℕ) → k < m
-          → IsBarePut source names c spans (get_or found k no_warning) (get_or placed k no_placed) (get_or trials k None)
+          → IsBarePut source names c spans (get_or found k no_warning) (get_or placed k no_placed)
+          (get_or trials k None)
 
     pub none_put : ArePut 0 [] []
     none_put = record { placed_many = refl; trials_many = refl; each = λ k lt. absurd (omega (arith, lt)) }
@@ -197,5 +198,6 @@ module _ (source : List ℕ) (names : List NameSpan) (c : CompiledView) (spans :
         (sym (noted.still ∙ put.placed_many))
         (λ k lt.
         (let a = noted.each k (omega (arith, lt, put.placed_many)) in
-        with_hint (get_or found k no_warning) (get_or placed k no_placed) (get_or now k no_placed) (get_or trials k None)
+        with_hint (get_or found k no_warning) (get_or placed k no_placed) (get_or now k no_placed)
+        (get_or trials k None)
         a.0 (put.each k lt) a.1 a.2))

@@ -12,6 +12,13 @@ export function documentsOf(text) {
   return text.split("\n").filter(Boolean).map(documentOf);
 }
 
+/** What the document of a refusal says, as the line that is printed as text; of another answer its own text. */
+export function refusalLine(text) {
+  if (!text.startsWith("{")) return text;
+  const { code, name, ...told } = documentOf(text).refused;
+  return ["refused", code, name, ...Object.entries(told).flat()].join(" ");
+}
+
 function subject({ kind, class: number, path, name }) {
   return { all: "all", class: `class ${number}`, path, object: name }[kind];
 }

@@ -1,5 +1,5 @@
 // The page: the program's text on the left, what sectc says of it on the right.
-import { documentOf } from "./answers.js";
+import { documentOf, refusalLine } from "./answers.js";
 import { Compare } from "./compare.js";
 import { Conflicts } from "./conflicts.js";
 import { Editor } from "./editor.js";
@@ -72,7 +72,7 @@ export class Page {
   /** The same, as a document where it isn't refused. */
   async askDocument(words, text) {
     const answer = await this.ask([...words, "--format", "json"], "view", text);
-    return answer.status ? answer : { ...answer, document: documentOf(answer.text) };
+    return answer.status ? { ...answer, text: refusalLine(answer.text) } : { ...answer, document: documentOf(answer.text) };
   }
 
   /** The text has changed: what is shown is made anew, a little after the last key. */

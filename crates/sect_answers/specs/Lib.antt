@@ -14,6 +14,7 @@ pub mod Outcomes
 pub mod Placed
 pub mod Placing
 pub mod Refusals
+pub mod Refused
 pub mod Running
 pub mod Scheduling
 pub mod Serial

@@ -18,7 +18,7 @@ use std::alloc::AllocError;
 use std::fmt::Write;
 
 /// What is written where memory ran out.
-const NO_MEMORY: &str = "out of memory";
+pub const NO_MEMORY: &str = "out of memory";
 
 /// Adds what a refusal says to a text, as `refused 5 UnexpectedEnd line 1`.
 pub fn put_refusal(text: &mut String, why: &Refusal) -> Result<(), AllocError>

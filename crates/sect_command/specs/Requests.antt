@@ -14,10 +14,13 @@ use Rattle.sect_answers.specs.{Outcomes.{AreAllOutcomes, IsOutcomesDue}, Placing
 use Rattle.sect_answers.specs.Placed.{ArePlacedOutcomes, ArePlacedTurns, IsPlacedChart, IsPlacedOutcomesDue}
 use Rattle.sect_answers.specs.Placed.{IsPlacedRun, IsPlacedSerial, IsPlacedSerialDue}
 use Rattle.sect_answers.specs.Refusals.{has_report, refusal_text}
+use Rattle.sect_answers.specs.Refused.{IsRefusalDocument, refused_json}
 use Rattle.sect_answers.specs.{Running.{IsOutcomeOfRun}, Scheduling.{IsScheduled, IsScheduleDue}}
 use Rattle.sect_answers.specs.{Serial.{IsOutcome, IsSerialDue}, Verbose.{IsVerboseAnswer}}
 use Rattle.sect_answers.specs.declared.refusal.Refusal.{Refusal}
+use Rattle.sect_answers.specs.declared.format.Format.TheVariants as format
 use Rattle.sect_lint.specs.declared.format.LintFormat.TheVariants.{Json}
+use Rattle.serde_json.specs.Data.{Data}
 use Rattle.sect_command.specs.{Statuses.{done, refused, wrong_words}, declared.report.Answer.{Answer}}
 use Rattle.sect_command.specs.declared.request.Form.TheVariants.{Listing, Document, Certificate}
 use Rattle.sect_command.specs.declared.request.{Form.{Form}, Placed.{Placed}, PlacedRun.{PlacedRun}}
@@ -223,6 +226,31 @@ IsMarkedLine true name request source why line =
 abbrev pub IsLineFor : List ℕ → Request → List ℕ → Refusal → List ℕ → Type 0
 IsLineFor name request source why = IsMarkedLine (is_marked name why) name request source why
 
+-- the answer to the request is a document, and a refusal too; `lint` has forms of its own for what it says of a text
+abbrev pub asks_document : Request → Bool
+asks_document (Locks k format.Json) = true
+asks_document (Compile k workers Document) = true
+asks_document (Explain k format.Json) = true
+asks_document (Conflicts k format.Json) = true
+asks_document (Inspect k) = true
+asks_document (Serial fuel order format.Json) = true
+asks_document (Outcomes fuel most format.Json) = true
+asks_document (Schedule k fuel schedule format.Json) = true
+asks_document (Run k fuel format.Json) = true
+asks_document (TimedRun k fuel format.Json) = true
+asks_document request = false
+
+-- this is written for a refusal of the text of this name: a document that says this, or the line
+abbrev pub IsWrittenAs : Option Data → List ℕ → Request → List ℕ → Refusal → List ℕ → Type 0
+IsWrittenAs None name request source why written = IsLineFor name request source why written
+IsWrittenAs (Some refused) name request source why written =
+    IsRefusalDocument (file_of name) source (path_length_of request) why refused written
+
+-- where documents are asked for it is the document, if the refusal has one
+abbrev pub IsWrittenFor : List ℕ → Request → List ℕ → Refusal → List ℕ → Type 0
+IsWrittenFor name request source why =
+    IsWrittenAs (if asks_document request then refused_json why else None) name request source why
+
 -- what may be said on standard error of a run with places
 abbrev pub MayRemarkPlaced : PlacedRun → List ℕ → Type 0
 MayRemarkPlaced placed.TimedRun remarks = ⊤
@@ -241,13 +269,13 @@ pub record IsDone (name : List ℕ) (request : Request) (source : List ℕ) (ans
   pub remarks : MayRemark request answer.remarks.items
   pub linted : answer.is_linted ≡ false
 
--- the answer is the line of a refusal that is due, of the source of this name
+-- the answer is what is written for a refusal that is due, of the source of this name
 pub record IsRefused (name : List ℕ) (request : Request) (source : List ℕ) (answer : Answer) : Type 0 where
   pub why : Refusal
   pub told : why ≢ refusal.Memory
   pub due : IsRefusalDue name request source why
   pub status : answer.status ≡ refused
-  pub line : IsLineFor name request source why answer.text.items
+  pub written : IsWrittenFor name request source why answer.text.items
   pub remarks : answer.remarks.items ≡ []
   pub linted : answer.is_linted ≡ has_report why
 

@@ -5,6 +5,7 @@ ghost use Rattle.std.specs.String.{string_bytes};
 ghost use Rattle.sect_answers.specs.Naming.{AreMeant};
 ghost use Rattle.sect_command.specs.declared.failure.Failure.TheVariants.{Memory};
 ghost use Rattle.sect_command.specs.Requests.{AddsPlaceOf, IsDone, IsLineFor, IsRefusalDue, IsRightFor};
+ghost use Rattle.sect_command.specs.Requests.{IsWrittenFor};
 ghost use Rattle.sect_command.specs.Requests.{is_marked as is_marked_for, threads_of};
 ghost use Rattle.sect_command.specs.Requests.{spread_placed as spread_placed_by};
 ghost use Rattle.sect_command.specs.Statuses.{done as done_status};
@@ -21,8 +22,8 @@ use crate::statuses::{DONE, FAILED, REFUSED, WRONG_WORDS};
 use crate::texts::{Around, Texts, first_bytes};
 use crate::turns::repeated;
 use sect_answers::{
-    Refusal, ThreadFault, Timed, placed_timed_run, put_mistake_place, put_refusal, threads_named,
-    timed_outcome,
+    Refusal, ThreadFault, Timed, placed_timed_run, put_mistake_place, put_refusal,
+    refusal_document, threads_named, timed_outcome,
 };
 use std::alloc::{AllocError, Global};
 use std::io;
@@ -245,7 +246,7 @@ fn answered<R: Threads + Wait + Sync + Clock + CpuClock>(
         Err(Refusal::Memory) => Err(Failure::Memory),
         Err(refusal) => Ok(Answer {
             status: REFUSED,
-            text: refusal_line(alloc, request, text, &refusal)?.into_bytes(),
+            text: refusal_written(alloc, request, text, &refusal)?.into_bytes(),
             remarks: Vec::new(alloc),
             is_linted: refusal.has_report(),
         }),
@@ -367,6 +368,25 @@ fn unknown_line(alloc: Global, name: &str, near: &Option<String>) -> Result<Stri
     put_wanted(&mut line, near)?;
     line.push_str("\n")?;
     Ok(line)
+}
+
+/// What is written for a refusal: a document, where documents are asked for and the refusal has one, or its line.
+fn refusal_written(
+    alloc: Global,
+    request: &Request,
+    text: Text<'_>,
+    refusal: &Refusal,
+) -> Result<String, AllocError>
+    ensures { IfOk result (λ written. IsWrittenFor text.entry.name.now request.now text.entry.source.now refusal.now
+        (string_bytes written)) }
+{
+    if !request.asks_document() {
+        return refusal_line(alloc, request, text, refusal);
+    }
+    match refusal_document(alloc, placed_text(text), request.path_length(), refusal)? {
+        Some(document) => Ok(document),
+        None => refusal_line(alloc, request, text, refusal),
+    }
 }
 
 /// The line of a refusal. Before it stands the name of the file whose text is refused, and where its mistake stands.

@@ -2,6 +2,7 @@
 
 ghost use Rattle.std.specs.Prelude.{◌≡◌, true};
 ghost use Rattle.sect_lemmas.specs.Lists.{Has};
+ghost use Rattle.sect_command.specs.Requests.{asks_document as asks_document_of};
 ghost use Rattle.sect_command.specs.Requests.{input_name, most_kept_of, path_length_of, threads_of, threads_placed};
 ghost use Rattle.sect_command.specs.Reporting.{has_headings as has_headings_of, names_of};
 ghost use Rattle.sect_command.specs.Reporting.{is_document as is_document_of};
@@ -170,6 +171,25 @@ impl Request {
                 ..
             } => true,
             Request::Lint { format, .. } => !matches!(format, LintFormat::Text),
+            _ => false,
+        }
+    }
+
+    /// Whether the answer is a document, and a refusal too. `lint` has forms of its own for what it says of a text.
+    pub fn asks_document(&self) -> bool
+        ensures { result ≡ asks_document_of self.now }
+    {
+        match self {
+            Request::Locks { format, .. }
+            | Request::Explain { format, .. }
+            | Request::Conflicts { format, .. }
+            | Request::Serial { format, .. }
+            | Request::Outcomes { format, .. }
+            | Request::Schedule { format, .. }
+            | Request::Run { format, .. }
+            | Request::TimedRun { format, .. } => matches!(format, Format::Json),
+            Request::Compile { form, .. } => matches!(form, Form::Document),
+            Request::Inspect { .. } => true,
             _ => false,
         }
     }

@@ -23,7 +23,7 @@ _sectc() {
         outcomes) words='--fuel --most --format --places --help' files=1 ;;
         schedule) words="--k --format --fuel --chart --places --color --file --help $(_sectc_threads)" ;;
         run) words='--k --format --fuel --time --places --help' files=1 ;;
-        lint) words='--k --format --color --help' files=1 ;;
+        lint) words='--k --format --deny --allow --color --help' files=1 ;;
         lsp) words='--help' ;;
         check) words='--k --help' files=1 ;;
     esac
@@ -42,7 +42,9 @@ _sectc() {
         'graph --k') words='0 1 2 3' files= ;;
         'graph --section') words= files= ;;
         'inspect --k') words='0 1 2 3' files= ;;
+        'lint --allow') words='all no-lock all-for-one class-lock never-filled no-common-field unused hint-without-use' files= ;;
         'lint --color') words='auto always never' files= ;;
+        'lint --deny') words='warnings no-lock all-for-one class-lock never-filled no-common-field unused hint-without-use' files= ;;
         'lint --format') words='text json sarif' files= ;;
         'lint --k') words='0 1 2 3' files= ;;
         'locks --format') words='text json' files= ;;

@@ -70,6 +70,8 @@ complete -c sectc -n '__fish_seen_subcommand_from run' -a '(__fish_complete_suff
 complete -c sectc -n __fish_use_subcommand -a lint -d 'tells what is wrong with the source text, and where'
 complete -c sectc -n '__fish_seen_subcommand_from lint' -l k -x -a '0 1 2 3' -d 'the most fields of a path in a lock, 0 to 3 (default 2)'
 complete -c sectc -n '__fish_seen_subcommand_from lint' -l format -x -a 'text json sarif' -d 'how a mistake is printed, text, json or sarif (default text)'
+complete -c sectc -n '__fish_seen_subcommand_from lint' -l deny -x -a 'warnings no-lock all-for-one class-lock never-filled no-common-field unused hint-without-use' -d 'refuses a text that has this warning, by its name; warnings stands for all'
+complete -c sectc -n '__fish_seen_subcommand_from lint' -l allow -x -a 'all no-lock all-for-one class-lock never-filled no-common-field unused hint-without-use' -d 'tells nothing of this warning, by its name; all stands for all; the last that names it counts'
 complete -c sectc -n '__fish_seen_subcommand_from lint' -l color -x -a 'auto always never' -d 'whether the answer is in colours, auto, always or never (default auto)'
 complete -c sectc -n '__fish_seen_subcommand_from lint' -a '(__fish_complete_suffix .sect)'
 complete -c sectc -n __fish_use_subcommand -a lsp -d 'serves an editor by the Language Server Protocol, on standard input and output'

@@ -40,7 +40,7 @@ pub use format::Format;
 pub use graph::program_graph;
 pub use lint::{findings, inspection};
 pub use lock_sets::locks;
-pub use naming::{ThreadFault, ThreadWord, threads_named};
+pub use naming::{ThreadFault, ThreadWord, is_near, threads_named};
 pub use outcomes::all_outcomes;
 pub use placed::PlacedText;
 pub use placed_list::placed_outcomes;

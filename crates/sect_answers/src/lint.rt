@@ -9,26 +9,27 @@ use crate::refusal::Refusal;
 use sect_emit::{Compiled, compile_scheme};
 use sect_json::inspection_document;
 use sect_lint::{Judgment, LintFormat, lint, report_as};
-use sect_warnings::warnings_as;
+use sect_warnings::{Telling, Warned, warnings_as};
 use std::alloc::Global;
 
-/// The warnings of the source text of this file, where it is accepted, in this form. A text that is refused is reported
-/// on, by a refusal. How many fields a path may have is judged before the source. A text on standard input has no file.
+/// The warnings of the source text of this file, where it is accepted, told so. A text that is refused is reported on,
+/// by a refusal. How many fields a path may have is judged before the source. A text on standard input has no file.
 pub fn findings(
     alloc: Global,
     file: Option<&str>,
     source: &[u8],
     k: u16,
-    format: LintFormat,
-) -> Result<String, Refusal>
+    telling: Telling<'_>,
+) -> Result<Warned, Refusal>
     // The text is accepted, and the warnings are those that are due.
-    ensures answers { IfOk result (λ text. IsUnblamed (option_map (λ name. name.now) file.entry) source.now k format
-        (string_bytes text)) }
+    ensures answers { IfOk result (λ warned. IsUnblamed (option_map (λ name. name.now) file.entry) source.now k
+        telling.entry.format telling.entry.rulings.now (string_bytes warned.text) warned.is_refused) }
     // The report is of the mistake for which the text is refused.
-    ensures refuses { IfErr result (IsLintDue (option_map (λ name. name.now) file.entry) source.now k format) }
+    ensures refuses { IfErr result (IsLintDue (option_map (λ name. name.now) file.entry) source.now k
+        telling.entry.format) }
 {
-    let compiled = compiled_or_report(alloc, file, source, k, format)?;
-    Ok(warnings_as(alloc, file, source, &compiled, format)?)
+    let compiled = compiled_or_report(alloc, file, source, k, telling.format)?;
+    Ok(warnings_as(alloc, file, source, &compiled, telling)?)
 }
 
 /// What is known of a source text that is accepted, as a document. A text that is refused is reported on as by

@@ -100,7 +100,7 @@ fn is_exchanged(one: &[u8], other: &[u8]) -> bool {
 
 /// Whether a word is the beginning of a name or goes on behind it, or has a sign more or less than the name, or one
 /// that differs, or two that are exchanged. Of two signs alone that differ none is near the other.
-fn is_near(word: &[u8], name: &[u8]) -> bool {
+pub fn is_near(word: &[u8], name: &[u8]) -> bool {
     let count = alike(word, name);
     let (left, right) = (behind(word, count), behind(name, count));
     match (left, right) {

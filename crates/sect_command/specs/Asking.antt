@@ -7,6 +7,7 @@ use Rattle.sect_answers.specs.declared.verbose.Verbose.{Verbose as VerboseOf}
 use Rattle.sect_answers.specs.declared.verbose.Verbose.TheVariants as verbose
 use Rattle.sect_command.specs.Saying.{AreThreads, AreTurns, MaySayNumber, SaysFlag, SaysForm, SaysFormat, SaysK}
 use Rattle.sect_command.specs.Saying.{SaysLintFormat, SaysNumber, flag_in, values_in}
+use Rattle.sect_command.specs.Ruling.{SaysRulings}
 use Rattle.sect_command.specs.declared.request.{PlacedRun.{PlacedRun}, Request.{Request}, Turns.{Turns}}
 use Rattle.sect_command.specs.declared.request.PlacedRun.TheVariants as placed
 use Rattle.sect_command.specs.declared.request.Request.TheVariants.{Locks, Compile, C, Explain, Conflicts, Graph}
@@ -38,7 +39,7 @@ subcommand_of (Explain k format) = subcommand.Explain
 subcommand_of (Conflicts k format) = subcommand.Conflicts
 subcommand_of (Verbose k of) = verbose_subcommand of
 subcommand_of (Graph k section) = subcommand.Graph
-subcommand_of (Lint k format) = subcommand.Lint
+subcommand_of (Lint k format rulings) = subcommand.Lint
 subcommand_of (Inspect k) = subcommand.Inspect
 subcommand_of (Serial fuel order format) = subcommand.Serial
 subcommand_of (Outcomes fuel most format) = subcommand.Outcomes
@@ -117,7 +118,8 @@ IsSaid found behind (Conflicts k f) = SaysK found k × IsFormat found f × IsVer
 IsSaid found behind (Verbose k of) = SaysK found k × IsFormat found format.Text × IsVerbose found true
 IsSaid found behind (Graph k section) =
     SaysK found k × MaySayNumber 0 65535 (first_value found (codes "section")) section
-IsSaid found behind (Lint k f) = SaysK found k × SaysLintFormat (first_value found (codes "format")) f
+IsSaid found behind (Lint k f rulings) =
+    SaysK found k × SaysLintFormat (first_value found (codes "format")) f × SaysRulings found rulings.items
 IsSaid found behind (Inspect k) = SaysK found k
 IsSaid found behind (Serial fuel order f) =
     IsFuel found fuel × AreOperands found behind order.items × IsFormat found f × IsPlaced found false

@@ -30,7 +30,7 @@ placed_kind of = None
 
 -- what the answer to a request is to the painter; those that aren't read by people aren't painted
 abbrev pub kind_of : Request → Option Kind
-kind_of (Lint k lint_format.Text) = Some kind.Report
+kind_of (Lint k lint_format.Text rulings) = Some kind.Report
 kind_of (Explain k format.Text) = Some kind.Explanation
 kind_of (Conflicts k format.Text) = Some kind.Conflicts
 kind_of (Verbose k verbose.Conflicts) = Some kind.Conflicts

@@ -17,6 +17,10 @@ flag name = record (new_rule name) { long = Some name; action = Some SetTrue }
 abbrev pub option : Text → Rule
 option name = record (new_rule name) { long = Some name; value_names = 1; action = Some Set }
 
+-- the same, as often as is wanted
+abbrev pub option_again : Text → Rule
+option_again name = record (new_rule name) { long = Some name; value_names = 1; action = Some Append }
+
 -- a word without a name before it
 abbrev pub operand : Text → Rule
 operand name = record (new_rule name) { value_names = 1; action = Some Set }
@@ -89,7 +93,7 @@ taken_by Serial = fuel ∷ format ∷ places ∷ named_file ∷ threads ∷ []
 taken_by Outcomes = fuel ∷ option (codes "most") ∷ format ∷ places ∷ file ∷ []
 taken_by Schedule = k ∷ format ∷ fuel ∷ flag (codes "chart") ∷ places ∷ color ∷ named_file ∷ threads ∷ []
 taken_by Run = k ∷ format ∷ fuel ∷ flag (codes "time") ∷ places ∷ file ∷ []
-taken_by Lint = k ∷ format ∷ color ∷ files ∷ []
+taken_by Lint = k ∷ format ∷ option_again (codes "deny") ∷ option_again (codes "allow") ∷ color ∷ files ∷ []
 taken_by Lsp = []
 taken_by Check = k ∷ file ∷ []
 

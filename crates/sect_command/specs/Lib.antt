@@ -3,6 +3,7 @@ pub mod Colouring
 pub mod Commands
 pub mod Reporting
 pub mod Requests
+pub mod Ruling
 pub mod Saying
 pub mod Statuses
 pub mod Telling

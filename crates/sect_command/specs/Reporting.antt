@@ -24,8 +24,8 @@ names_of asked = or_input (map string_bytes asked.files.items)
 abbrev pub is_document : Request → Bool
 is_document (Locks k format.Json) = true
 is_document (Conflicts k format.Json) = true
-is_document (Lint k lint_format.Json) = true
-is_document (Lint k lint_format.Sarif) = true
+is_document (Lint k lint_format.Json rulings) = true
+is_document (Lint k lint_format.Sarif rulings) = true
 is_document request = false
 
 -- each answer stands below the name of its text, where there are several texts, and the answers are no documents

@@ -74,9 +74,15 @@ is_ordered (Schedule k fuel schedule format) = true
 is_ordered (Chart k fuel schedule) = true
 is_ordered request = false
 
--- the answer to the request goes by the text alone, and tells no places of faults
+-- the answer to the request is a list of warnings
+abbrev pub is_linting : Request → Bool
+is_linting (Lint k format rulings) = true
+is_linting request = false
+
+-- the answer to the request goes by the text alone, is no list of warnings, and tells no places of faults
 abbrev pub is_plain : Request → Bool
 is_plain (asks.Placed p) = false
+is_plain (Lint k format rulings) = false
 is_plain request = not (is_ordered request)
 
 -- the words of the request mean these threads, each as often as it has turns
@@ -111,7 +117,7 @@ AnswersPlaced name source p threads (placed.Chart schedule) bytes =
 AnswersPlaced name source p threads placed.Run bytes = IsPlacedRun (file_of name) source p.k p.fuel bytes
 AnswersPlaced name source p threads placed.TimedRun bytes = IsPlacedRun (file_of name) source p.k p.fuel bytes
 
--- the bytes are what is requested of the source of this name
+-- the bytes are what is requested of the source of this name, where that is no list of warnings
 abbrev pub Answers : List ℕ → Request → List ℕ → List ℕ → Type 0
 Answers name (Locks k format) source bytes = IsAnswer source k format bytes
 Answers name (Compile k workers form) source bytes = AreOffered workers × IsCompiledIn form source k bytes
@@ -133,7 +139,7 @@ Answers name (TimedRun k fuel format) source bytes = IsOutcomeOfRun source k fue
 Answers name (asks.Placed p) source bytes =
     (threads : List ℕ) × AreMeantBy source (asks.Placed p) threads × AnswersPlaced name source p threads p.of bytes
 Answers name (Graph k section) source bytes = IsProgramGraph source k section bytes
-Answers name (Lint k format) source bytes = IsUnblamed (file_of name) source k format bytes
+Answers name (Lint k format rulings) source bytes = ⊥
 Answers name (Inspect k) source bytes = IsInspection source k bytes
 Answers name (Check k) source bytes = IsValidInput source k × (bytes ≡ codes "valid\n")
 
@@ -167,7 +173,7 @@ IsRefusalDue name (TimedRun k fuel format) source why = IsDue source k why
 IsRefusalDue name (asks.Placed p) source why =
     (threads : List ℕ) × AreMeantBy source (asks.Placed p) threads × IsPlacedDue source p threads p.of why
 IsRefusalDue name (Graph k section) source why = IsGraphDue source k section why
-IsRefusalDue name (Lint k format) source why = IsLintDue (file_of name) source k format why
+IsRefusalDue name (Lint k format rulings) source why = IsLintDue (file_of name) source k format why
 IsRefusalDue name (Inspect k) source why = IsLintDue None source k Json why
 IsRefusalDue name (Check k) source why = IsCheckDue source k why
 
@@ -197,7 +203,7 @@ path_length_of (Run k fuel format) = k
 path_length_of (TimedRun k fuel format) = k
 path_length_of (asks.Placed p) = p.k
 path_length_of (Graph k section) = k
-path_length_of (Lint k format) = k
+path_length_of (Lint k format rulings) = k
 path_length_of (Inspect k) = k
 path_length_of (Check k) = k
 
@@ -262,10 +268,22 @@ MayRemark (TimedRun k fuel format) remarks = ⊤
 MayRemark (asks.Placed p) remarks = MayRemarkPlaced p.of remarks
 MayRemark request remarks = remarks ≡ []
 
+-- the status behind warnings, where the text is refused for one of them or for none
+abbrev pub warned_status : Bool → ℕ
+warned_status false = done
+warned_status true = refused
+
+-- the answer is the warnings that are told of the source of this name
+abbrev pub IsLinted : List ℕ → Request → List ℕ → Answer → Type 0
+IsLinted name (Lint k format rulings) source answer =
+    (denied : Bool) × IsUnblamed (file_of name) source k format rulings.items answer.text.items denied
+    × (answer.status ≡ warned_status denied)
+IsLinted name request source answer = ⊥
+
 -- the answer is what is requested of the source of this name
 pub record IsDone (name : List ℕ) (request : Request) (source : List ℕ) (answer : Answer) : Type 0 where
-  pub status : answer.status ≡ done
-  pub text : Answers name request source answer.text.items
+  pub answered : ((answer.status ≡ done) × Answers name request source answer.text.items)
+      ⊎ IsLinted name request source answer
   pub remarks : MayRemark request answer.remarks.items
   pub linted : answer.is_linted ≡ false
 

@@ -5,7 +5,7 @@ ghost use Rattle.std.specs.String.{string_bytes};
 ghost use Rattle.sect_answers.specs.Naming.{AreMeant};
 ghost use Rattle.sect_command.specs.declared.failure.Failure.TheVariants.{Memory};
 ghost use Rattle.sect_command.specs.Requests.{AddsPlaceOf, IsDone, IsLineFor, IsRefusalDue, IsRightFor};
-ghost use Rattle.sect_command.specs.Requests.{IsWrittenFor};
+ghost use Rattle.sect_command.specs.Requests.{IsWrittenFor, warned_status};
 ghost use Rattle.sect_command.specs.Requests.{is_marked as is_marked_for, threads_of};
 ghost use Rattle.sect_command.specs.Requests.{spread_placed as spread_placed_by};
 ghost use Rattle.sect_command.specs.Statuses.{done as done_status};
@@ -15,16 +15,17 @@ ghost use Rattle.sect_command.specs.Reporting.{has_headings, heading, hint_text}
 
 use crate::colours::{Screen, is_painted, shown};
 use crate::failure::Failure;
-use crate::printing::{INPUT, Text, placed_text, printed};
+use crate::printing::{INPUT, Text, file_of, placed_text, printed};
 use crate::report::{Answer, Report};
 use crate::request::{Asked, PlacedRun, Request};
 use crate::statuses::{DONE, FAILED, REFUSED, WRONG_WORDS};
 use crate::texts::{Around, Texts, first_bytes};
 use crate::turns::repeated;
 use sect_answers::{
-    Refusal, ThreadFault, Timed, placed_timed_run, put_mistake_place, put_refusal,
+    Refusal, ThreadFault, Timed, findings, placed_timed_run, put_mistake_place, put_refusal,
     refusal_document, threads_named, timed_outcome,
 };
+use sect_warnings::{Telling, Warned};
 use std::alloc::{AllocError, Global};
 use std::io;
 use std::io::{ErrorKind, Read};
@@ -313,12 +314,35 @@ fn done<R: Threads + Wait + Sync + Clock + CpuClock>(
             return Ok(timed_answer(timed));
         }
     }
+    if let Request::Lint { k, format, rulings } = request {
+        let telling = Telling {
+            format: *format,
+            rulings: rulings.as_slice(),
+        };
+        let warned = findings(alloc, file_of(text.name), text.source, *k, telling)?;
+        return Ok(warned_answer(alloc, warned));
+    }
     Ok(Answer {
         status: DONE,
         text: printed(rt, alloc, request, threads, text)?,
         remarks: Vec::new(alloc),
         is_linted: false,
     })
+}
+
+/// The answer that tells of warnings.
+fn warned_answer(alloc: Global, warned: Warned) -> Answer
+    ensures status { result.status ≡ warned_status warned.is_refused }
+    ensures text { result.text.items ≡ string_bytes warned.text }
+    ensures remarks { result.remarks.items ≡ [] }
+    ensures linted { result.is_linted ≡ false }
+{
+    Answer {
+        status: if warned.is_refused { REFUSED } else { DONE },
+        text: warned.text.into_bytes(),
+        remarks: Vec::new(alloc),
+        is_linted: false,
+    }
 }
 
 /// The answer that tells of a run, and what it took.

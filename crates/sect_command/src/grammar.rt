@@ -21,6 +21,8 @@ enum Given {
     Alone,
     /// By `--name` and a word.
     Before(&'static str),
+    /// The same, as often as is wanted.
+    Again(&'static str),
     /// By a word without a name before it.
     Once(&'static str),
     /// By words without a name before them, as many as there are.
@@ -60,6 +62,18 @@ const LINT_FORMAT: Argument = Argument {
     name: "format",
     given: Given::Before("FORM"),
     help: "how a mistake is printed: text, json or sarif (default text)",
+};
+
+const DENY: Argument = Argument {
+    name: "deny",
+    given: Given::Again("CODE"),
+    help: "refuses a text that has this warning, by its name; warnings stands for all",
+};
+
+const ALLOW: Argument = Argument {
+    name: "allow",
+    given: Given::Again("CODE"),
+    help: "tells nothing of this warning, by its name; all stands for all; the last that names it counts",
 };
 
 const WORKERS: Argument = Argument {
@@ -258,7 +272,7 @@ const COMMANDS: &[Row] = &[
         name: "lint",
         about: "tells what is wrong with the source text, and where",
         example: "Example: sectc lint < linked_list.sect",
-        takes: &[K, LINT_FORMAT, COLOR, FILES],
+        takes: &[K, LINT_FORMAT, DENY, ALLOW, COLOR, FILES],
     },
     Row {
         subcommand: Subcommand::Lsp,
@@ -295,6 +309,10 @@ fn told_argument<'a>(alloc: Global, argument: &Argument) -> Arg<'a>
             .long(argument.name)
             .value_name(word)
             .action(ArgAction::Set),
+        Given::Again(word) => told
+            .long(argument.name)
+            .value_name(word)
+            .action(ArgAction::Append),
         Given::Once(word) => told.value_name(word).action(ArgAction::Set),
         Given::Unnamed(word) => told
             .value_name(word)

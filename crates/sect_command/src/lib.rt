@@ -12,6 +12,7 @@ mod options;
 mod printing;
 mod report;
 mod request;
+mod ruling;
 mod running;
 mod serving;
 mod statuses;

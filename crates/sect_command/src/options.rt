@@ -13,6 +13,7 @@ use crate::formats::{format_of, lint_format_of};
 use crate::grammar::{examples, grammar, subcommand_named};
 use crate::numbers::{DEFAULT_K, DEFAULT_WORKERS, FUEL, STATES, number_of, number_or};
 use crate::request::{Asked, Form, Placed, PlacedRun, Request, Turns, Wanted};
+use crate::ruling::rulings_of;
 use crate::running::{threads_of, told_count};
 use crate::subcommand::Subcommand;
 use crate::turns::turns_of;
@@ -195,7 +196,8 @@ fn lint_request(alloc: Global, options: &ArgMatches<'_>) -> Result<Request, Usag
 {
     let k = k_of(alloc, options)?;
     let format = lint_format_of(alloc, options)?;
-    Ok(Request::Lint { k, format })
+    let rulings = rulings_of(alloc, options)?;
+    Ok(Request::Lint { k, format, rulings })
 }
 
 /// What `check` asks for by its options.

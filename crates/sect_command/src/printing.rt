@@ -1,15 +1,15 @@
 //! What is printed for a request that is not refused.
 
-ghost use Rattle.std.specs.Prelude.{◌≡◌, true, IfOk, IfErr, option_map};
+ghost use Rattle.std.specs.Prelude.{◌≡◌, false, true, IfOk, IfErr, option_map};
 ghost use Rattle.sect_infer.specs.Workers.{AreOffered};
 ghost use Rattle.sect_answers.specs.Compiling.{IsCompileDue};
 ghost use Rattle.sect_command.specs.Requests.{Answers, AnswersPlaced, AreMeantBy, IsCompiledIn};
 ghost use Rattle.sect_command.specs.Requests.{IsPlacedDue, IsRefusalDue};
-ghost use Rattle.sect_command.specs.Requests.{file_of as file_by, is_ordered, is_plain};
+ghost use Rattle.sect_command.specs.Requests.{file_of as file_by, is_linting, is_ordered, is_plain};
 
 use crate::request::{Form, Placed, PlacedRun, Request};
 use sect_answers::{
-    PlacedText, Refusal, all_outcomes, findings, inspection, locks, placed_chart, placed_outcomes,
+    PlacedText, Refusal, all_outcomes, inspection, locks, placed_chart, placed_outcomes,
     placed_run, placed_serial, placed_turns, program_certificate, program_conflicts,
     program_document, program_explanation, program_graph, program_in_c, program_listing,
     run_outcome, schedule_chart, schedule_outcome, serial_outcome, verbose_answer, verdict,
@@ -31,7 +31,7 @@ pub struct Text<'a> {
 }
 
 /// The file of the text of a name: that on standard input has none.
-fn file_of(name: &str) -> Option<&str>
+pub fn file_of(name: &str) -> Option<&str>
     ensures { option_map (λ file. file.now) result ≡ file_by name.now }
 {
     if name == INPUT { None } else { Some(name) }
@@ -48,7 +48,7 @@ pub fn placed_text(text: Text<'_>) -> PlacedText<'_>
     }
 }
 
-/// What is printed for a request, whose words mean these threads, that is not refused.
+/// What is printed for a request, whose words mean these threads, that is not refused and asks for no warnings.
 pub fn printed<R: Threads + Wait + Sync + Clock + CpuClock>(
     rt: &R,
     alloc: Global,
@@ -56,7 +56,8 @@ pub fn printed<R: Threads + Wait + Sync + Clock + CpuClock>(
     threads: Vec<u16>,
     text: Text<'_>,
 ) -> Result<Vec<u8>, Refusal>
-    requires { AreMeantBy text.source.now request.now threads.items }
+    requires meant { AreMeantBy text.source.now request.now threads.items }
+    requires unlinted { is_linting request.now ≡ false }
     ensures answers { IfOk result (λ answer. Answers text.entry.name.now request.now text.entry.source.now
         answer.items) }
     ensures refuses { IfErr result (IsRefusalDue text.entry.name.now request.now text.entry.source.now) }
@@ -128,7 +129,7 @@ fn with_places<R: Threads + Wait + Sync + Clock + CpuClock>(
     }
 }
 
-/// The same for a request that goes by the text alone, and tells no places of faults.
+/// The same for a request that goes by the text alone, asks for no warnings, and tells no places of faults.
 fn plain<R: Threads + Wait + Sync + Clock + CpuClock>(
     rt: &R,
     alloc: Global,
@@ -160,9 +161,6 @@ fn plain<R: Threads + Wait + Sync + Clock + CpuClock>(
             Ok(verbose_answer(alloc, file_of(text.name), source, *k, *of)?.into_bytes())
         }
         Request::Graph { k, section } => program_graph(alloc, source, *k, *section),
-        Request::Lint { k, format } => {
-            Ok(findings(alloc, file_of(text.name), source, *k, *format)?.into_bytes())
-        }
         Request::Inspect { k } => inspection(alloc, source, *k),
         Request::Outcomes { fuel, most, format } => {
             Ok(all_outcomes(alloc, source, *fuel, *most, *format)?.into_bytes())

@@ -12,6 +12,7 @@ use crate::numbers::DEFAULT_K;
 use crate::printing::INPUT;
 use sect_answers::{Format, ThreadWord, Verbose};
 use sect_lint::LintFormat;
+use sect_warnings::Ruling;
 
 /// One byte more than a text may have.
 const MOST_KEPT: u64 = 1048577;
@@ -61,10 +62,11 @@ pub enum Request {
         k: u16,
         section: Option<u16>,
     },
-    /// What is wrong with the text, in this form, where paths have at most k fields.
+    /// What is wrong with the text, in this form, where paths have at most k fields, and what becomes of warnings.
     Lint {
         k: u16,
         format: LintFormat,
+        rulings: Vec<Ruling>,
     },
     /// What is known of the program, as a document, where paths have at most k fields.
     Inspect {

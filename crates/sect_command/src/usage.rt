@@ -42,6 +42,20 @@ pub enum UsageFault {
     /// A value of `--color` that says nothing of colours.
     #[error("error: invalid value '{0}' for '--color': auto, always or never is wanted\n")]
     Colour(String),
+    /// A word that names no warning, where one is wanted, and the word for all of them.
+    #[error("error: invalid value '{value}' for '--{option}': {all} or the name of a warning is wanted\n")]
+    Warning {
+        value: String,
+        option: &'static str,
+        all: &'static str,
+    },
+    /// The same of a word that is near a name.
+    #[error("error: invalid value '{value}' for '--{option}': did you mean `{near}`?\n")]
+    NearWarning {
+        value: String,
+        option: &'static str,
+        near: &'static str,
+    },
     /// JSON where the named option makes a text.
     #[error("error: invalid value 'json' for '--format': with '--{0}' text is wanted\n")]
     TextOnly(&'static str),

@@ -3,7 +3,7 @@ use Rattle.std.specs.Prelude.{◌≡◌, ℕ, List, [], ◌∷◌, ◌++◌, map
 use Rattle.serde_json.specs.Data.{Data, string, object, no_members, member}
 use Rattle.sect_emit.specs.Compiled.{CompiledView}
 use Rattle.sect_editor.specs.Ranges.{count, list, range_json}
-use Rattle.sect_warnings.specs.{Titles.{told_name, told_title}, Formats.{AreAllPlaced}, declared.warning.Told.{Told}}
+use Rattle.sect_warnings.specs.{Titles.{told_name, told_title}, Formats.{AreTold}, declared.warning.Told.{Told}}
 use Rattle.sect_warnings.specs.Placed.{PlacedView, behind}
 use Rattle.sect_warnings.specs.declared.warning.Spare.TheVariants as spare
 use Rattle.sect_warnings.specs.declared.warning.Told.TheVariants as told
@@ -25,7 +25,7 @@ warning_json source p =
     (member (codes "range") (range_json source p.span) (member (codes "severity") (count 2)
     (member (codes "source") (string (codes "sectc")) (member (codes "tags") (list (tags p.told)) no_members))))))
 
--- the warnings of the compiled program of a text, of its sections and then of its declarations
+-- the warnings of the compiled program of a text that no comment allows, of its sections and then of its declarations
 abbrev pub AreWarningsOf : List ℕ → CompiledView → Data → Type 0
 AreWarningsOf source c value =
-    (ps : List PlacedView) × AreAllPlaced source c ps × (value ≡ list (map (warning_json source) ps))
+    (ps : List PlacedView) × AreTold source c ps × (value ≡ list (map (warning_json source) ps))

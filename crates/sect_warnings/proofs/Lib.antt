@@ -12,3 +12,4 @@ mod Hints
 mod Using
 mod Parting
 mod Losing
+mod Filtered

@@ -1,12 +1,13 @@
 -- What is printed of warnings, in each form.
-use Rattle.std.specs.{Prelude.{◌≡◌, ℕ, List, Option, [], ◌∷◌, ◌++◌, codes}, List.{flat_map}}
+use Rattle.std.specs.{Prelude.{◌≡◌, ℕ, Bool, List, Option, [], ◌∷◌, ◌++◌, codes}, List.{flat_map}}
 use Rattle.serde_json.specs.Written.{compact_text}
 use Rattle.sect_lint.specs.declared.format.LintFormat.{LintFormat, TheVariants.{Text, Json, Sarif}}
 use Rattle.sect_lint.specs.{Files.{place_mark, uri_of}, Formats.{clean}}
 use Rattle.sect_emit.specs.Compiled.{CompiledView}
 use Rattle.sect_warnings.specs.{declared.warning.Warning.{Warning}, Placed.{PlacedView}, Warnings.{AreWarnings}}
 use Rattle.sect_warnings.specs.{Spares.{AreSpares}, Reports.{ArePlaced, reports}, Json.{warning_json}}
-use Rattle.sect_warnings.specs.Sarif.{warnings_log}
+use Rattle.sect_warnings.specs.{Sarif.{warnings_log}, Comments.{unnoted}, Rulings.{told_by, is_refused}}
+use Rattle.sect_warnings.specs.declared.ruling.Ruling.{Ruling}
 use Rattle.sect_places.specs.{declared.name_use.NameSpan.{NameSpan}, NameSpans.{AreNameSpans}}
 
 -- a warning as an object of JSON in a line
@@ -32,7 +33,15 @@ AreAllPlaced source c all =
     × AreWarnings c ws × ArePlaced source names c ws ps × AreNameSpans source c.scheme.program.source names
     × AreSpares c.scheme names spares × (all ≡ ps ++ spares)
 
--- the bytes are what is printed of that, where the text is this file's
-abbrev pub AreWarningsPrinted : Option (List ℕ) → List ℕ → CompiledView → LintFormat → List ℕ → Type 0
-AreWarningsPrinted file source c format bytes =
-    (all : List PlacedView) × AreAllPlaced source c all × (bytes ≡ printed format file source all)
+-- of that what no comment allows
+abbrev pub AreTold : List ℕ → CompiledView → List PlacedView → Type 0
+AreTold source c told = (all : List PlacedView) × AreAllPlaced source c all × (told ≡ unnoted source all)
+
+-- the bytes are what is printed of that, but for what these rulings allow, where the text is this file's; and this is
+-- whether the text is refused for a warning that is told
+abbrev pub AreWarningsPrinted : Option (List ℕ) → List ℕ → CompiledView → LintFormat → List Ruling → List ℕ → Bool
+    → Type 0
+AreWarningsPrinted file source c format rulings bytes refused =
+    (told : List PlacedView) × AreTold source c told
+    × (bytes ≡ printed format file source (told_by rulings told))
+    × (refused ≡ is_refused rulings (told_by rulings told))

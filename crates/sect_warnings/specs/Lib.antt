@@ -14,6 +14,8 @@ pub mod Spares
 pub mod Reports
 pub mod Json
 pub mod Sarif
+pub mod Comments
+pub mod Rulings
 pub mod Formats
 pub mod Laws
 pub mod steps

@@ -5,14 +5,16 @@ ghost use Rattle.std.specs.{List.{flat_map}, String.{string_bytes}};
 ghost use Rattle.sect_front.specs.{Front.{IsSpelled}, FaultPlaces.{IsWithin}};
 ghost use Rattle.sect_warnings.specs.Reports.{AreWithin};
 ghost use Rattle.sect_warnings.specs.Formats.{json_line, told as told_by, printed as printed_by, AreAllPlaced};
-ghost use Rattle.sect_warnings.specs.Formats.{AreWarningsPrinted};
+ghost use Rattle.sect_warnings.specs.Formats.{AreTold, AreWarningsPrinted};
 
+use crate::comment::unnoted;
 use crate::json::warning_value;
 use crate::judge::warnings;
 use crate::place::places_of;
 use crate::placed::Placed;
 use crate::remedy::Accepted;
 use crate::report::reports_text;
+use crate::ruling::{Ruling, is_refused, told_of};
 use crate::sarif::warnings_log;
 use crate::spare::spares;
 use sect_emit::Compiled;
@@ -125,7 +127,7 @@ fn printed(
 
 /// What is worth a second look in the compiled program of a source text, with the bytes that are marked and what is
 /// said of them: of its sections, and then of its declarations.
-pub fn placed_warnings(
+fn all_warnings(
     alloc: Global,
     source: &[u8],
     compiled: &Compiled,
@@ -147,18 +149,50 @@ pub fn placed_warnings(
     Ok(placed)
 }
 
-/// The same, as it is printed of the text of this file. A text on standard input has none.
+/// The same but for those that comments allow.
+pub fn placed_warnings(
+    alloc: Global,
+    source: &[u8],
+    compiled: &Compiled,
+) -> Result<Vec<Placed>, AllocError>
+    requires { IsSpelled source.now compiled.now.scheme.program.source }
+    ensures told { IfOk result (λ told. AreTold source.now compiled.now told.items) }
+    ensures within { IfOk result (λ told. AreWithin (length source.now) told.items) }
+{
+    let all = all_warnings(alloc, source, compiled)?;
+    unnoted(alloc, source, all)
+}
+
+/// How warnings are told: in this form, but for those that these rulings allow.
+#[derive(Clone, Copy)]
+pub struct Telling<'a> {
+    pub format: LintFormat,
+    pub rulings: &'a [Ruling],
+}
+
+/// What is printed of warnings, and whether the text is refused for one of them.
+#[derive(Drop)]
+pub struct Warned {
+    pub text: String,
+    pub is_refused: bool,
+}
+
+/// What is worth a second look in the compiled program of a source text, as it is printed of the text of this file. A
+/// text on standard input has none.
 pub fn warnings_as(
     alloc: Global,
     file: Option<&str>,
     source: &[u8],
     compiled: &Compiled,
-    format: LintFormat,
-) -> Result<String, AllocError>
+    telling: Telling<'_>,
+) -> Result<Warned, AllocError>
     requires { IsSpelled source.now compiled.now.scheme.program.source }
-    ensures { IfOk result (λ text. AreWarningsPrinted (option_map (λ name. name.now) file.entry) source.now
-        compiled.now format (string_bytes text)) }
+    ensures { IfOk result (λ warned. AreWarningsPrinted (option_map (λ name. name.now) file.entry) source.now
+        compiled.now telling.entry.format telling.entry.rulings.now (string_bytes warned.text) warned.is_refused) }
 {
     let placed = placed_warnings(alloc, source, compiled)?;
-    printed(alloc, file, source, placed.as_slice(), format)
+    let told = told_of(alloc, telling.rulings, placed)?;
+    let text = printed(alloc, file, source, told.as_slice(), telling.format)?;
+    let is_refused = is_refused(telling.rulings, told.as_slice());
+    Ok(Warned { text, is_refused })
 }

@@ -2,14 +2,15 @@
 use Rattle.std.specs.Prelude.{map, fold, true, List, [], codes}
 use Rattle.clap.specs.Walk.{Rule}
 use Rattle.clap.specs.Simple.{App, Shape, new_shape, with_subcommand}
-use Rattle.sect_command.specs.Commands.{flag, operand, operands, option}
+use Rattle.sect_command.specs.Commands.{flag, operand, operands, option, option_again}
 use Rattle.sect_command.specs.declared.subcommand.Subcommand.{Subcommand}
 use Rattle.sect_command.specs.declared.grammar.{Argument.{Argument}, Given.{Given}, Row.{Row}}
-use Rattle.sect_command.specs.declared.grammar.Given.TheVariants.{Alone, Before, Once, Unnamed}
+use Rattle.sect_command.specs.declared.grammar.Given.TheVariants.{Again, Alone, Before, Once, Unnamed}
 
 abbrev pub rule_given : Argument → Given → Rule
 rule_given a Alone = flag a.name.now
 rule_given a (Before word) = option a.name.now
+rule_given a (Again word) = option_again a.name.now
 rule_given a (Once word) = operand a.name.now
 rule_given a (Unnamed word) = operands a.name.now
 

@@ -1,5 +1,5 @@
 -- What is answered to a timed run with places.
-use Rattle.std.proofs.Common.{◌≡◌, ℕ, List, Result, Ok, Err, IsErrAnd, sym, subst}
+use Rattle.std.proofs.Common.{◌≡◌, ℕ, List, Result, Ok, Err, IsErrAnd, inl, sym, subst}
 use Rattle.std.specs.{Prelude.{IfOk, option_map}, String.{string_bytes}}
 use Rattle.sect_lemmas.proofs.Results.{given}
 use Rattle.sect_answers.specs.{Answers.{IsDue}, Placed.{IsPlacedRun}, declared.refusal.Refusal.{Refusal}}
@@ -67,14 +67,16 @@ returns-in-TimedRun-of g c =
     let bytes = string_bytes c.in_ok-timed-2.timed.outcome in
     record {
       answers = record {
-        status = answer.ensures.status;
-        text = timed name source c.args.request.now p c.args.threads.items answer.result.text.items c.in-Placed.is
-            c.in-TimedRun-of.is c.requires
-            (subst (λ b. IsPlacedRun (file_of name) source p.k p.fuel b) (sym answer.ensures.text)
-            (subst (λ f. IsPlacedRun f source p.k p.fuel bytes) c.placed_text.ensures.file
-            (subst (λ s. IsPlacedRun (option_map (λ f. f.now) c.placed_text.result.file) s p.k p.fuel bytes)
-            c.placed_text.ensures.source
-            c.in_ok-timed-2.ensures.answers)));
+        answered = inl (
+          answer.ensures.status,
+          timed name source c.args.request.now p c.args.threads.items answer.result.text.items c.in-Placed.is
+              c.in-TimedRun-of.is c.requires
+              (subst (λ b. IsPlacedRun (file_of name) source p.k p.fuel b) (sym answer.ensures.text)
+              (subst (λ f. IsPlacedRun f source p.k p.fuel bytes) c.placed_text.ensures.file
+              (subst (λ s. IsPlacedRun (option_map (λ f. f.now) c.placed_text.result.file) s p.k p.fuel bytes)
+              c.placed_text.ensures.source
+              c.in_ok-timed-2.ensures.answers))),
+        );
         remarks = remarked c.args.request.now p answer.result.remarks.items c.in-Placed.is c.in-TimedRun-of.is;
         linted = answer.ensures.linted;
       };

@@ -10,7 +10,8 @@ returns-in-Placed-clause-answers g c =
     (λ answer is. subst (λ (r : Request). Answers c.args.text.name.now r c.args.text.source.now answer.items)
     (sym c.in-Placed.is) (
       c.args.threads.items,
-      subst (λ (r : Request). AreMeantBy c.args.text.source.now r c.args.threads.items) c.in-Placed.is c.requires,
+      subst (λ (r : Request). AreMeantBy c.args.text.source.now r c.args.threads.items) c.in-Placed.is
+          c.requires.meant,
       is,
     )) c.with_places.ensures.answers
 
@@ -20,6 +21,7 @@ returns-in-Placed-clause-refuses g c =
     (λ why is. subst (λ (r : Request). IsRefusalDue c.args.text.name.now r c.args.text.source.now why)
     (sym c.in-Placed.is) (
       c.args.threads.items,
-      subst (λ (r : Request). AreMeantBy c.args.text.source.now r c.args.threads.items) c.in-Placed.is c.requires,
+      subst (λ (r : Request). AreMeantBy c.args.text.source.now r c.args.threads.items) c.in-Placed.is
+          c.requires.meant,
       is,
     )) c.with_places.ensures.refuses

@@ -42,9 +42,9 @@ _sectc() {
         'graph --k') words='0 1 2 3' files= ;;
         'graph --section') words= files= ;;
         'inspect --k') words='0 1 2 3' files= ;;
-        'lint --allow') words='all no-lock all-for-one class-lock never-filled no-common-field unused hint-without-use' files= ;;
+        'lint --allow') words='all no-lock all-for-one class-lock never-filled no-common-field lost-update unused hint-without-use' files= ;;
         'lint --color') words='auto always never' files= ;;
-        'lint --deny') words='warnings no-lock all-for-one class-lock never-filled no-common-field unused hint-without-use' files= ;;
+        'lint --deny') words='warnings no-lock all-for-one class-lock never-filled no-common-field lost-update unused hint-without-use' files= ;;
         'lint --format') words='text json sarif' files= ;;
         'lint --k') words='0 1 2 3' files= ;;
         'locks --format') words='text json' files= ;;

@@ -1,0 +1,4 @@
+mod Listing
+mod Marks
+mod Passing
+mod Places

@@ -47,6 +47,8 @@ mod printing;
 #[cfg(test)]
 mod programs;
 #[cfg(test)]
+mod questions;
+#[cfg(test)]
 mod random;
 #[cfg(test)]
 mod requests;

@@ -138,7 +138,12 @@ fn operators_are_counted(rt: HostRuntime) -> Result<(), Fail> {
         assert!(rt; read_question(rt.alloc(), &program, most.as_bytes()).is_ok());
         let more = signs(rt.alloc(), sign, 256)?;
         let place = 8 + 256 * sign.len();
-        refuses(&rt, &program, more.as_str(), QuestionFault::BadCondition(place))?;
+        refuses(
+            &rt,
+            &program,
+            more.as_str(),
+            QuestionFault::BadCondition(place),
+        )?;
     }
     Ok(())
 }

@@ -1,6 +1,6 @@
 -- The outcome of a run that threads have made.
-use Rattle.std.proofs.Common.{◌≡◌, ◌∙◌, ℕ, List, sym, ap}
-use Rattle.sect_types.specs.Whole.{SerialEndView}
+use Rattle.std.proofs.Common.{◌≡◌, ◌∙◌, ℕ, List, sym, ap, subst}
+use Rattle.sect_types.specs.Whole.{SerialEndView, RunsWhole}
 use Rattle.sect_store.specs.Outcomes.{OutcomeView}
 use Rattle.sect_serial.specs.Judging.{outcome_of}
 use Rattle.sect_emit.specs.{Compiled.{CompiledView, IsCompiledFrom, program_of}, State.{State}}
@@ -45,3 +45,12 @@ outcome_of_run source k fuel format text compiled from run whole printed = recor
   printed = printed;
   serial = serial_of_run source k fuel format text compiled from run whole printed;
 }
+
+-- whole sections come to an end in the order of a run
+pub runs_so : (compiled : CompiledView) (fuel : ℕ) (run : Run) → IsWholeRun compiled fuel run
+    → (end : SerialEndView) × RunsWhole (program_of compiled) fuel run.outcome.order end
+runs_so compiled fuel run whole = (
+  whole.end,
+  subst (λ (order : List ℕ). RunsWhole (program_of compiled) fuel order whole.end)
+      (sym (ap (λ (o : OutcomeView). o.order) whole.outcome)) whole.serial,
+)

@@ -1,6 +1,7 @@
 -- What the commands that run a program answer where they tell the places of faults. `placed_run`, `placed_serial`,
 -- `placed_outcomes`, `placed_turns` and `placed_chart` cite it.
-use Rattle.std.specs.Prelude.{◌≡◌, ◌⊎◌, ◌+◌, ◌++◌, ℕ, List, [], ◌∷◌, Option, Some, option_map}
+use Rattle.std.specs.Prelude.{◌≡◌, ◌+◌, ◌++◌, ℕ, List, [], ◌∷◌, Option, Some, option_map}
+use Rattle.sect_lemmas.specs.Lists.{Has}
 use Rattle.sect_types.specs.Whole.{SerialEndView, RunsWhole}
 use Rattle.sect_places.specs.NodeSpans.{AreNodeSpans}
 use Rattle.sect_store.specs.{Outcomes.{OutcomeView}, Printing.{outcome_text}}
@@ -24,10 +25,10 @@ pub record ArePlaces (file : Option (List ℕ)) (source : List ℕ) (c : Compile
   pub named : v.file ≡ file
   pub nodes : AreNodeSpans source (program_of c) v.spans
 
--- where each thread that has run something stood before it ran the last, in a run in which these threads leave a
--- section each, in this order; nowhere where none of them is told
-abbrev pub AreTold : CompiledView → ℕ → List ℕ → List (Option Standing) → Type 0
-AreTold c fuel order ran = AreRanInOrder c fuel order ran ⊎ (ran ≡ [])
+-- whole sections in the order of each come to its end
+abbrev pub AreWhole : CompiledView → ℕ → Found → Type 0
+AreWhole c fuel found =
+    (x : SerialEndView × List ℕ) → Has found x → RunsWhole (program_of c) fuel x.1 x.0
 
 -- an outcome of the compiled program is added, with where its faults stand; there these threads stood
 abbrev pub AddsOutcome : Option (List ℕ) → List ℕ → CompiledView → List (Option Standing) → OutcomeView → List ℕ
@@ -41,7 +42,7 @@ pub record IsOutcomePlaced (file : Option (List ℕ)) (source : List ℕ) (c : C
   pub places : PlacesView
   pub placed : ArePlaces file source c places
   pub ran : List (Option Standing)
-  pub told : AreTold c fuel o.order ran
+  pub told : AreRanInOrder c fuel o.order ran
   pub printed : bytes ≡ ran_outcome (program_of c) (Some places) ran o
 
 -- the text is accepted, and this is the outcome of a complete run of its compiled program; it is what `serial` answers
@@ -66,7 +67,7 @@ pub record IsPlacedSerial (file : Option (List ℕ)) (source : List ℕ) (k fuel
 -- an outcome of this number, with where its faults stand
 abbrev pub IsListed : CompiledView → ℕ → PlacesView → ℕ → SerialEndView × List ℕ → List ℕ → Type 0
 IsListed c fuel v n x bytes =
-    (ran : List (Option Standing)) × AreTold c fuel x.1 ran
+    (ran : List (Option Standing)) × AreRanInOrder c fuel x.1 ran
     × (bytes ≡ ran_numbered (program_of c) v ran n (outcome_of x.1 x.0))
 
 -- outcomes one after another, the first of this number

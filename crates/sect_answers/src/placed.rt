@@ -1,11 +1,12 @@
 //! Outcomes of a source text's compiled program, with where their faults stand.
 
-ghost use Rattle.std.specs.Prelude.{◌≡◌, IfOk, IfErr, OnOk, option_map};
+ghost use Rattle.std.specs.Prelude.{◌≡◌, IfOk, OnOk, option_map};
 ghost use Rattle.std.specs.String.{string_bytes};
 ghost use Rattle.sect_front.specs.Front.{IsSpelled};
+ghost use Rattle.sect_types.specs.Whole.{SerialEndView, RunsWhole};
 ghost use Rattle.sect_emit.specs.Compiled.{program_of};
-ghost use Rattle.sect_draw.specs.Placing.{AreThere};
-ghost use Rattle.sect_answers.specs.Placed.{AddsOutcome, AreTold, IsOutcomePlaced};
+ghost use Rattle.sect_draw.specs.{Chart.{AreRanInOrder}, Placing.{AreThere}};
+ghost use Rattle.sect_answers.specs.Placed.{AddsOutcome, IsOutcomePlaced};
 
 use sect_draw::{Faults, Places, put_ran_outcome, ran_in_order};
 use sect_emit::Compiled;
@@ -31,20 +32,22 @@ pub struct Ran<'a> {
 }
 
 /// Where each thread that has run something stood before it ran the last, in a run in which these threads leave a
-/// section each, in this order. None is told where no such run is found.
+/// section each, in this order; none where there is no such run.
 pub fn ran_by(
     alloc: Global,
     compiled: &Compiled,
     fuel: u32,
     order: &[u16],
 ) -> Result<Vec<Option<Standing>>, AllocError>
-    ensures told { IfOk result (λ ran. AreTold compiled.now fuel order.now ran.items) }
+    ensures told { (end : SerialEndView) → RunsWhole (program_of compiled.now) fuel order.now end
+        → IfOk result (λ ran. AreRanInOrder compiled.now fuel order.now ran.items) }
     ensures there { IfOk result (λ ran. AreThere compiled.now ran.items) }
 {
     match ran_in_order(alloc, compiled, fuel, order) {
         Ok(Some(ran)) => Ok(ran),
+        Ok(None) => Ok(Vec::new(alloc)),
+        Err(WorldFault::NoSuchThread(_)) => Ok(Vec::new(alloc)),
         Err(WorldFault::Memory) => Err(AllocError),
-        Ok(None) | Err(WorldFault::NoSuchThread(_)) => Ok(Vec::new(alloc)),
     }
 }
 
@@ -75,7 +78,7 @@ pub fn put_placed(
     put_ran_outcome(alloc, printed, &faults, outcome)
 }
 
-/// An outcome of a compiled program, with where its faults stand.
+/// An outcome of a compiled program, to which whole sections come in its order, with where its faults stand.
 pub fn outcome_placed(
     alloc: Global,
     text: PlacedText<'_>,
@@ -83,7 +86,8 @@ pub fn outcome_placed(
     fuel: u32,
     outcome: &Outcome,
 ) -> Result<String, AllocError>
-    requires { IsSpelled text.source.now (program_of compiled.now).source }
+    requires spelled { IsSpelled text.source.now (program_of compiled.now).source }
+    requires runs { (end : SerialEndView) × RunsWhole (program_of compiled.now) fuel outcome.now.order end }
     ensures { IfOk result (λ printed. IsOutcomePlaced (option_map (λ name. name.now) text.entry.file)
         text.entry.source.now compiled.now fuel outcome.now (string_bytes printed)) }
 {

@@ -9,7 +9,7 @@ ghost use Rattle.sect_names.specs.{Schemes.{SchemeView}, Sources.{IsAccepted}};
 ghost use Rattle.sect_serial.specs.Exploring.{HasStates};
 ghost use Rattle.sect_emit.specs.Compiled.{program_of};
 ghost use Rattle.sect_answers.specs.{declared.refusal.Refusal.TheVariants.{Memory}, Outcomes.{counts_line}};
-ghost use Rattle.sect_answers.specs.Placed.{AreListed, AreListedPlaced, ArePlacedOutcomes, IsListed};
+ghost use Rattle.sect_answers.specs.Placed.{AreListed, AreListedPlaced, ArePlacedOutcomes, AreWhole, IsListed};
 ghost use Rattle.sect_answers.specs.Placed.{IsPlacedOutcomesDue, IsReplayed, shown_of};
 
 use crate::outcomes::put_counts;
@@ -68,7 +68,8 @@ fn list_printed(
     fuel: u32,
     outcomes: &Outcomes,
 ) -> Result<String, AllocError>
-    requires { IsSpelled text.source.now (program_of compiled.now).source }
+    requires spelled { IsSpelled text.source.now (program_of compiled.now).source }
+    requires whole { AreWhole compiled.now fuel outcomes.now.found }
     ensures { IfOk result (λ printed. AreListedPlaced (option_map (λ name. name.now) text.entry.file)
         text.entry.source.now compiled.now fuel outcomes.now (string_bytes printed)) }
 {
@@ -94,7 +95,8 @@ fn put_list(
     replayed: Replayed<'_>,
     outcomes: &Outcomes,
 ) -> Result<(), AllocError>
-    requires { IsReplayed replayed }
+    requires placed { IsReplayed replayed }
+    requires whole { AreWhole replayed.compiled.now replayed.fuel outcomes.now.found }
     ensures { OnOk result ((lines : List ℕ) × AreListed replayed.entry.compiled.now replayed.entry.fuel
         (shown_of replayed.entry) 0 outcomes.now.found lines
         × (string_bytes text.new ≡ string_bytes text.old ++ lines)) }
@@ -114,6 +116,7 @@ fn put_one(
     number: usize,
 ) -> Result<(), AllocError>
     requires placed { IsReplayed replayed }
+    requires whole { AreWhole replayed.compiled.now replayed.fuel outcomes.now.found }
     requires there { number < length outcomes.now.found }
     ensures { OnOk result ((x : SerialEndView × List ℕ) × (line : List ℕ)
         × (slice_get outcomes.now.found number ≡ Some x)

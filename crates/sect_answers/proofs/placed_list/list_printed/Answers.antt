@@ -9,11 +9,13 @@ use Rattle.sect_answers.specs.Outcomes.{counts_line}
 use Rattle.sect_answers.proofs.placed_list.list_printed.Goals as goal
 
 pub put_list-requires : goal.put_list-requires
-put_list-requires c =
-    subst (λ (s : List ℕ). AreNodeSpans s (program_of c.args.compiled.now) c.in_ok-spans.spans)
-    (sym c.in_ok-lines.ensures)
-    (subst (λ (p : ProgramView). AreNodeSpans c.args.text.source.now p c.in_ok-spans.spans)
-    (c.program.ensures ∙ ap (λ (s : SchemeView). s.program) c.scheme.ensures) c.in_ok-spans.ensures)
+put_list-requires c = record {
+  placed = subst (λ (s : List ℕ). AreNodeSpans s (program_of c.args.compiled.now) c.in_ok-spans.spans)
+      (sym c.in_ok-lines.ensures)
+      (subst (λ (p : ProgramView). AreNodeSpans c.args.text.source.now p c.in_ok-spans.spans)
+      (c.program.ensures ∙ ap (λ (s : SchemeView). s.program) c.scheme.ensures) c.in_ok-spans.ensures);
+  whole = c.requires.whole;
+}
 
 pub returns : goal.returns
 returns c =

@@ -13,3 +13,4 @@ mod Using
 mod Parting
 mod Losing
 mod Filtered
+mod Listing

@@ -1,7 +1,7 @@
-//! What a warning means for runs. The functions have empty bodies; the clauses say the laws.
+//! What a warning means for runs, and a comment for warnings. The clauses say the laws.
 
 ghost use Rattle.sect_emit.specs.Compiled.{CompiledView, IsCompiled};
-ghost use Rattle.sect_warnings.specs.Laws.{NeverFilledLocalsReferToNothing};
+ghost use Rattle.sect_warnings.specs.Laws.{CommentsAllowWhatTheyList, NeverFilledLocalsReferToNothing};
 
 use sect_world::states_are_well_kept;
 
@@ -11,3 +11,8 @@ pub fn never_filled_locals_refer_to_nothing()
 {
     states_are_well_kept();
 }
+
+/// A comment behind code that has no slash allows exactly the warnings that it lists.
+pub fn comments_allow_what_they_list()
+    ensures { CommentsAllowWhatTheyList }
+{}

@@ -31,7 +31,7 @@ mod warning;
 pub use access::Access;
 pub use format::{Telling, Warned, placed_warnings, warnings_as};
 pub use judge::warnings;
-pub use laws::never_filled_locals_refer_to_nothing;
+pub use laws::{comments_allow_what_they_list, never_filled_locals_refer_to_nothing};
 pub use lost::LostUpdate;
 pub use placed::{Placed, put_behind};
 pub use report::title;

@@ -1,5 +1,5 @@
 -- Marks of lists that grow at their end.
-use Rattle.std.proofs.Common.{◌≡◌, ℕ, true, List, [], ◌∷◌, ◌++◌, refl, sym, ap, subst, length, arith, ◌≢◌, ◌∙◌}
+use Rattle.std.proofs.Common.{◌≡◌, ℕ, true, List, [], ◌∷◌, ◌++◌, refl, sym, ap, subst, arith, ◌≢◌, ◌∙◌}
 use Rattle.sect_asking.specs.Phrases.{Spot, AreStanding, sign_spot, word_spot, numeral_spots, thread_spots}
 use Rattle.sect_asking.specs.Phrases.{fields_spots, more_numbers, numbers_spots, threads_spots, has_some}
 use Rattle.sect_asking.specs.{declared.phrase.Word.{Word}, declared.phrase.Numeral.{Numeral}}

@@ -1,14 +1,13 @@
 -- What a rule passes, put together from what its parts pass.
-use Rattle.std.proofs.Common.{◌≡◌, ℕ, ◌+◌, ◌-◌, ◌<◌, ◌≤◌, Bool, true, ◌&&◌, List, [], ◌∷◌, Some, refl, sym, ◌∙◌, ap, arith}
-use Rattle.std.proofs.Common.{subst, length, drop, length-drop, None}
+use Rattle.std.proofs.Common.{◌≡◌, ℕ, ◌-◌, Bool, true, ◌&&◌, List, refl, sym, arith}
+use Rattle.std.proofs.Common.{subst, length, drop, length-drop}
 use Rattle.sect_front.specs.Gaps.{after_gap}
 use Rattle.sect_front.proofs.shared.Lexings.{gap_fits}
-use Rattle.sect_asking.specs.{Marks.{IsFirst}, Phrases.{Spot, AreStanding, mark_spot, spot_at, sign_spot, placed_spot}}
+use Rattle.sect_asking.specs.{Marks.{IsFirst}, Phrases.{Spot, mark_spot, spot_at, sign_spot, placed_spot}}
 use Rattle.sect_asking.specs.Phrases.{is_value, is_term, is_sum, is_part}
 use Rattle.sect_asking.specs.{declared.mark.Mark.{Mark}, declared.mark.Sign.{Sign}, steps.Reading.{Reads, Goes}}
 use Rattle.sect_asking.specs.declared.phrase.ValuePhrase.{ValuePhrase}
 use Rattle.sect_asking.specs.declared.phrase.ConditionPhrase.{ConditionPhrase}
-use Rattle.sect_asking.specs.declared.mark.Mark.TheVariants as mark
 use Rattle.sect_asking.specs.declared.printing.Part.TheVariants as part
 use Rattle.sect_asking.specs.declared.phrase.ValuePhrase.TheVariants as value
 use Rattle.sect_asking.specs.declared.phrase.ConditionPhrase.TheVariants as condition

@@ -1,5 +1,5 @@
 -- Few fields stand in a record.
-use Rattle.std.proofs.Common.{◌≡◌, ◌<◌, ◌≤◌, ℕ, suc, zero, List, [], ◌∷◌, map, length, arith, All, slice_get, Some, None, Option, IfSome}
+use Rattle.std.proofs.Common.{◌<◌, ◌≤◌, ℕ, suc, zero, List, [], ◌∷◌, map, length, arith, All, slice_get, Some, None, Option, IfSome}
 use Rattle.std.proofs.lemmas.List.{length-map}
 use Rattle.sect_front.specs.{declared.tree.Record.{Record}, declared.tree.Declaration.{Declaration}}
 use Rattle.sect_types.specs.declared.declarations.types.ValueType.{ValueType}

@@ -1,5 +1,5 @@
 -- What a question as it is written asks of a program, or the first place at which it asks nothing.
-use Rattle.std.specs.Prelude.{◌≡◌, ℕ, ℤ, pos, neg_ℤ, Bool, true, false, not, ◌&&◌, ◌==◌, if◌then◌else◌, nat_lt, length}
+use Rattle.std.specs.Prelude.{◌≡◌, ℕ, ℤ, pos, neg_ℤ, Bool, true, false, ◌&&◌, ◌==◌, if◌then◌else◌, nat_lt, length}
 use Rattle.std.specs.Prelude.{List, [], ◌∷◌, map, Option, Some, None, Result, Ok, Err, slice_get, position, ⊤}
 use Rattle.sect_front.specs.{declared.tree.Record.{Record}, declared.tree.GlobalObject.{GlobalObject}}
 use Rattle.sect_front.specs.{declared.tree.Thread.{Thread}, declared.tree.Declaration.{Declaration}}

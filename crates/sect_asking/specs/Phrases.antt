@@ -1,5 +1,5 @@
 -- The marks of a question as it is written, rule by rule as the grammar has them, before those of what follows it.
-use Rattle.std.specs.Prelude.{◌≡◌, ◌≤◌, ℕ, ◌+◌, Bool, true, false, not, ◌&&◌, if◌then◌else◌, List, [], ◌∷◌, length, drop}
+use Rattle.std.specs.Prelude.{◌≡◌, ℕ, Bool, true, false, not, ◌&&◌, if◌then◌else◌, List, [], ◌∷◌, length, drop}
 use Rattle.std.specs.Prelude.{Option, Some, None, ⊤, codes}
 use Rattle.sect_front.specs.{Gaps.{after_gap}, declared.tree.Operator.{Operator}}
 use Rattle.sect_types.specs.declared.meaning.store.End.{End}

@@ -12,7 +12,7 @@ mod conditions;
 mod values;
 
 use crate::mark::{Mark, Sign, first_mark};
-use crate::phrase::{ConditionPhrase, Numeral, QuestionPhrase, ThreadWord, Word};
+use crate::phrase::{Numeral, QuestionPhrase, ThreadWord, Word};
 use sect_front::{Literal, Name, after_gap, is_same_word};
 use std::alloc::{AllocError, AllocFailed, Global};
 use std::marker::Model;

@@ -1,6 +1,6 @@
 //! A question as it is printed.
 
-ghost use Rattle.std.specs.{Prelude.{◌≡◌, ◌++◌, IfOk, OnOk, codes}, String.{string_bytes}, Fmt.{decimal, signed_decimal}};
+ghost use Rattle.std.specs.{Prelude.{◌≡◌, ◌++◌, IfOk, OnOk, codes}, String.{string_bytes}, Fmt.{signed_decimal}};
 ghost use Rattle.sect_asking.specs.Printing.{field_name as field_name_by, field_type as field_type_by, global_type};
 ghost use Rattle.sect_asking.specs.Printing.{global_name, thread_name, fields_text, operator_text, value_text};
 ghost use Rattle.sect_asking.specs.Printing.{more_text, numbers_text, opening, closing, needs_at_both, needs_at_either, condition_text};

@@ -132,12 +132,16 @@ fn signs(alloc: Global, sign: &str, count: usize) -> Result<String, Fail> {
 #[test]
 fn operators_are_counted(rt: HostRuntime) -> Result<(), Fail> {
     let program = program_of(rt.alloc(), ASKED)?;
-    for sign in ["!", "1 == 1 || ", "1 == 1 && ", "1 + "] {
-        // the `.` is one of 256
+    // the `.` is one of 256
+    for (sign, place) in [
+        ("!", 264),
+        ("1 == 1 || ", 2568),
+        ("1 == 1 && ", 2568),
+        ("1 + ", 1032),
+    ] {
         let most = signs(rt.alloc(), sign, 255)?;
         assert!(rt; read_question(rt.alloc(), &program, most.as_bytes()).is_ok());
         let more = signs(rt.alloc(), sign, 256)?;
-        let place = 8 + 256 * sign.len();
         refuses(
             &rt,
             &program,

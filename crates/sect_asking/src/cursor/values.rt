@@ -1,6 +1,6 @@
 //! What is compared in a question, by one function for each rule of the grammar.
 
-ghost use Rattle.std.specs.Prelude.{◌≡◌, ℕ, List, true, length, IfOk};
+ghost use Rattle.std.specs.Prelude.{◌≡◌, ℕ, List, true, IfOk};
 ghost use Rattle.sect_asking.specs.Phrases.{sign_spot, fields_spots, value_spots, is_value, is_term, is_sum};
 ghost use Rattle.sect_asking.specs.declared.mark.{Sign.{Sign as ASign}, Mark.{Mark as AMark}};
 ghost use Rattle.sect_asking.specs.{Marks.{IsFirst}, steps.Reading.{Reads, Goes, ReadsOperator, IsAdding}};

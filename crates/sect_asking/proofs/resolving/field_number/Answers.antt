@@ -1,9 +1,9 @@
 use Rattle.std.proofs.Common.{◌≡◌, ◌≤◌, ◌^◌, List, Ok, ap, ◌∙◌, subst, arith, length, All}
-use Rattle.std.specs.Prelude.{MatchResult, position, slice_get}
+use Rattle.std.specs.Prelude.{MatchResult, position}
 use Rattle.sect_front.specs.declared.tree.Declaration.{Declaration}
 use Rattle.sect_types.specs.{Sight.{same_name, names_of_records}, Environments.{type_of}, Limits.{most_fields}}
 use Rattle.sect_types.specs.declared.declarations.types.ValueType.{ValueType}
-use Rattle.sect_asking.specs.Meaning.{named, fields_in, IsAnswer}
+use Rattle.sect_asking.specs.Meaning.{named, IsAnswer}
 use Rattle.sect_asking.proofs.Places.{few_in, place_below}
 use Rattle.sect_asking.proofs.resolving.field_number.Goals as goal
 

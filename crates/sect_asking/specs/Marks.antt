@@ -1,5 +1,6 @@
 -- The marks that questions are made of, and how they are spelled.
-use Rattle.std.specs.{Prelude.{◌≡◌, ℕ, ◌<◌, ◌≤◌, Bool, true, not, nat_lt, List, length, take, drop, codes}, Fmt.{decimal}}
+use Rattle.std.specs.Prelude.{◌≡◌, ℕ, ◌<◌, ◌≤◌, Bool, true, not, nat_lt, List, length, take, drop, codes}
+use Rattle.std.specs.Fmt.{decimal}
 use Rattle.sect_front.specs.{Words.{is_name, is_name_byte, begins}, Gaps.{equals_sign, begins_with}}
 use Rattle.sect_asking.specs.{declared.mark.Mark.{Mark}, declared.mark.Sign.{Sign}}
 use Rattle.sect_asking.specs.declared.mark.Mark.TheVariants as mark
@@ -41,8 +42,8 @@ is_proper (mark.Name n) = is_name n
 is_proper (mark.Number n) = nat_lt n 9223372036854775808
 is_proper (mark.Sign s) = true
 
--- whether a sign may stand directly before these bytes: `<`, `>` and `!` not before `=`, and a keyword not before a byte
--- of names
+-- whether a sign may stand directly before these bytes: `<`, `>` and `!` not before `=`, and a keyword not before a
+-- byte of names
 abbrev pub sign_stands : Sign → List ℕ → Bool
 sign_stands sign.Null rest = not (begins is_name_byte rest)
 sign_stands sign.Print rest = not (begins is_name_byte rest)

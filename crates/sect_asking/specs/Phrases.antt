@@ -129,7 +129,8 @@ end_spot (Some (ending.Failed fault.Null)) w = sign_spot sign.Null w
 end_spot (Some (ending.Failed fault.Fuel)) w = plain_spot (codes "fuel") w
 
 abbrev pub condition_spots : ConditionPhrase → List Spot → List Spot
-condition_spots (condition.Compares by left a b) w = value_spots a (placed_spot (relation_sign by) left (value_spots b w))
+condition_spots (condition.Compares by left a b) w =
+    value_spots a (placed_spot (relation_sign by) left (value_spots b w))
 condition_spots (condition.Ends t denied end) w =
     sign_spot sign.Thread (thread_spots t (sign_spot (equal_sign denied) (end_spot end w)))
 condition_spots (condition.Prints denied numbers) w =

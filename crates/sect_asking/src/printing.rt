@@ -3,7 +3,8 @@
 ghost use Rattle.std.specs.{Prelude.{◌≡◌, ◌++◌, IfOk, OnOk, codes}, String.{string_bytes}, Fmt.{signed_decimal}};
 ghost use Rattle.sect_asking.specs.Printing.{field_name as field_name_by, field_type as field_type_by, global_type};
 ghost use Rattle.sect_asking.specs.Printing.{global_name, thread_name, fields_text, operator_text, value_text};
-ghost use Rattle.sect_asking.specs.Printing.{more_text, numbers_text, opening, closing, needs_at_both, needs_at_either, condition_text};
+ghost use Rattle.sect_asking.specs.Printing.{more_text, numbers_text, opening, closing, condition_text};
+ghost use Rattle.sect_asking.specs.Printing.{needs_at_both, needs_at_either};
 ghost use Rattle.sect_asking.specs.Printing.{threads_text, question_text};
 ghost use Rattle.sect_store.specs.Printing.{state_text};
 
@@ -160,7 +161,8 @@ fn put_end(
     end: Option<End>,
 ) -> Result<(), AllocError>
     ensures { OnOk result (string_bytes text.new
-        ≡ string_bytes text.old ++ codes "thread " ++ thread_name program.now thread ++ codes " == " ++ state_text end) }
+        ≡ string_bytes text.old ++ codes "thread " ++ thread_name program.now thread ++ codes " == "
+        ++ state_text end) }
 {
     text.push_str("thread ")?;
     put_thread_name(text, program, thread)?;

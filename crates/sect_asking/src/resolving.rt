@@ -1,6 +1,7 @@
 //! What a question as it is written asks of a program: names become numbers, and kinds have to fit.
 
-ghost use Rattle.std.specs.Prelude.{ℕ, List, ◌≡◌, ◌++◌, ◌<◌, ◌^◌, IfOk, IfSome, MatchResult, Ok, map, length, position, slice_get};
+ghost use Rattle.std.specs.Prelude.{ℕ, List, ◌≡◌, ◌++◌, ◌<◌, ◌^◌, IfOk, IfSome, MatchResult, Ok};
+ghost use Rattle.std.specs.Prelude.{map, length, position, slice_get};
 ghost use Rattle.sect_types.specs.Sight.{same_name};
 ghost use Rattle.sect_front.specs.declared.tree.{GlobalObject.{GlobalObject as AGlobalObject}};
 ghost use Rattle.sect_front.specs.declared.tree.{Declaration.{Declaration as ADeclaration}, Thread.{Thread as AThread}};
@@ -242,8 +243,8 @@ fn global_type(program: &Program, global: u16) -> ValueType
     }
 }
 
-/// Adds the numbers of the fields of a path that goes on from what is of this type, and gives the type of what stands at
-/// its end.
+/// Adds the numbers of the fields of a path that goes on from what is of this type, and gives the type of what stands
+/// at its end.
 fn put_fields(
     program: &Program,
     of: ValueType,

@@ -96,7 +96,8 @@ impl<'a> Cursor<'a> {
 
     /// Passes the sign of a comparison.
     fn relation(&mut self) -> Result<Relation, Stop>
-        ensures { IfOk result (λ r. Reads (placed_spot (relation_sign r) (length self.old.here)) self.old.here self.new.here) }
+        ensures { IfOk result (λ r.
+            Reads (placed_spot (relation_sign r) (length self.old.here)) self.old.here self.new.here) }
     {
         let Some((sign, count)) = self.sign() else {
             return Err(Stop::Here);
